@@ -1,0 +1,64 @@
+//! What a dump of a device shows.
+use crate::{BlockList, Bytes, Listed};
+use std::marker::Model;
+
+/// The kind of a ring item.
+#[derive(Clone, Copy, Debug, Drop, PartialEq, Eq)]
+pub enum ItemKind {
+    Pad,
+    Cmd,
+    Tmr,
+}
+
+/// A ring item: its offset in the ring, and its bytes with each command id as zero.
+#[derive(Debug, Drop)]
+pub struct Item {
+    pub at: u32,
+    pub kind: ItemKind,
+    pub bytes: Bytes,
+}
+
+impl Model for Item {
+    ghost use Rattle.tcmu_types.specs.Dumps.{ItemData};
+
+    ghost Value = { ItemData };
+
+    ghost view = { λ a. record { at = a.at; kind = a.kind; bytes = a.bytes.items } };
+}
+
+/// An unfinished command: its data blocks, and its payload as it stands in them.
+#[derive(Debug, Drop)]
+pub struct Held {
+    pub serial: u64,
+    pub blocks: BlockList,
+    pub payload: Bytes,
+}
+
+impl Model for Held {
+    ghost use Rattle.tcmu_types.specs.Dumps.{HeldData};
+
+    ghost Value = { HeldData };
+
+    ghost view = { λ a. record { serial = a.serial; blocks = a.blocks.items; payload = a.payload.items } };
+}
+
+pub type Items = Listed<Item>;
+
+pub type HeldList = Listed<Held>;
+
+/// The mailbox's 128 bytes, the uncleared ring items in ring order, and the unfinished commands that are not Delayed, in rising
+/// serial.
+#[derive(Debug, Drop)]
+pub struct Dump {
+    pub mailbox: Bytes,
+    pub items: Items,
+    pub held: HeldList,
+}
+
+impl Model for Dump {
+    ghost use Rattle.tcmu_types.specs.Dumps.{DumpData};
+
+    ghost Value = { DumpData };
+
+    ghost view = { λ a. record { mailbox = a.mailbox.items; items = a.items.items; held = a.held.items } };
+}

@@ -1,0 +1,41 @@
+//! The events of a device, and the entries of its journal.
+use crate::answer::Answer;
+use crate::{Command, Serials};
+use std::marker::Model;
+
+/// An event of a device. Serials number the accepted commands of a device from 1; ticks are moments that are handed in.
+#[derive(Debug, Drop)]
+pub enum Event {
+    Submit(Command),
+    Dispatch,
+    Handle(u64),
+    Respond(u64),
+    Publish,
+    Clean,
+    Tick(u32),
+    Block,
+    Unblock,
+    Reset(u8),
+    Restart,
+    Tmr { kind: u8, serials: Serials },
+    Stat,
+    Enter,
+}
+
+/// One entry of a journal: the device's number, an event with its answer, and the number of completions that it logged.
+#[derive(Debug, Drop)]
+pub struct Entry {
+    pub device: u32,
+    pub event: Event,
+    pub answer: Answer,
+    pub logged: u64,
+}
+
+impl Model for Entry {
+    ghost use Rattle.tcmu_types.specs.Events.{EntryData};
+    ghost use Rattle.tcmu_types.specs.Views.{event_data, answer_data};
+
+    ghost Value = { EntryData };
+
+    ghost view = { λ a. record { device = a.device; event = event_data a.event; answer = answer_data a.answer; logged = a.logged } };
+}

@@ -1,0 +1,29 @@
+//! Plain data of the SCSI target and of its user side: lists with reserved room, names, command descriptor blocks,
+//! commands, replies, completions, settings, and a device's events with their answers.
+#![tactic(auto)]
+
+mod answer;
+mod cdb;
+mod command;
+mod dump;
+mod event;
+mod iovec;
+mod laws;
+mod list;
+mod name;
+mod reply;
+mod settings;
+mod stat;
+
+pub use answer::{Answer, Dispatch, Enter, Handle, Publish, Reset, Respond, Submit, Tmr};
+pub use cdb::{Cdb, CdbLength, takes_payload};
+pub use command::Command;
+pub use dump::{Dump, Held, HeldList, Item, ItemKind, Items};
+pub use event::{Entry, Event};
+pub use iovec::{Iov, Iovs};
+pub use laws::sense_law;
+pub use list::{BlockList, Bytes, Ids, Listed, NoMemory, Serials, Words};
+pub use name::Name;
+pub use reply::{Done, Reply, ScsiStatus, Sense, sense_bytes, sense_of};
+pub use settings::{Flags, Settings};
+pub use stat::{Stat, Todo};

@@ -1,0 +1,177 @@
+//! Lists over vectors, which contracts see as their items and the room that is reserved for more.
+ghost use Rattle.std.specs.Prelude.{◌≡◌, ◌+◌, ◌≤◌, ◌==◌, [], ◌∷◌, ◌++◌, length, replicate, IfOk, OnOk};
+ghost use Rattle.tcmu_types.specs.Data.{texts_of};
+
+use std::alloc::{AllocError, AllocFailed, Global};
+use std::marker::Model;
+use thiserror::Error;
+
+/// Memory was wanting. It is the one answer that no clause ties to a cause.
+#[derive(Clone, Copy, Debug, PartialEq, Eq, Error)]
+#[error("no memory")]
+pub struct NoMemory;
+
+impl From<AllocError> for NoMemory {
+    fn from(_: AllocError) -> NoMemory {
+        NoMemory
+    }
+}
+
+impl<T: Drop> From<AllocFailed<T>> for NoMemory {
+    fn from(_: AllocFailed<T>) -> NoMemory {
+        NoMemory
+    }
+}
+
+/// A list whose room for more items is part of its contract: `reserve` takes memory, and what appends in that room takes none.
+#[derive(Debug, Drop)]
+pub struct Listed<T> {
+    items: Vec<T>,
+}
+
+impl<T> Model for Listed<T> {
+    ghost use Rattle.std.specs.Prelude.{◌-◌};
+    ghost use Rattle.std.specs.Vec.{vec_len, vec_capacity};
+    ghost use Rattle.tcmu_types.specs.Data.{Spared};
+
+    ghost Value = { Spared T };
+
+    ghost view = { λ a. record { items = a.items.items; spare = vec_capacity a.items - vec_len a.items } };
+}
+
+/// Bytes: a payload, a text, a piece of the region.
+pub type Bytes = Listed<u8>;
+
+/// Serials of commands.
+pub type Serials = Listed<u64>;
+
+/// Command ids, as they stand in the ring.
+pub type Ids = Listed<u16>;
+
+/// Numbers of data blocks.
+pub type BlockList = Listed<u32>;
+
+/// The words of a command line.
+pub type Words = Listed<Bytes>;
+
+impl<T> Listed<T> {
+    /// No items, and no room.
+    pub fn new(alloc: Global) -> Self
+        ensures { result.items ≡ [] }
+    {
+        Listed {
+            items: Vec::new(alloc),
+        }
+    }
+
+    /// Takes a vector over, with its room.
+    pub fn from_vec(items: Vec<T>) -> Self
+        ensures { result.items ≡ items.items }
+    {
+        Listed { items }
+    }
+
+    /// Gives the vector back, with its room.
+    pub fn into_vec(self) -> Vec<T>
+        ensures { result.items ≡ self.items }
+    {
+        let Listed { items } = self;
+        items
+    }
+
+    pub fn as_slice(&self) -> &[T]
+        ensures { result.now ≡ self.now.items }
+    {
+        &self.items
+    }
+
+    pub fn len(&self) -> usize
+        ensures { result ≡ length self.now.items }
+    {
+        self.items.len()
+    }
+
+    pub fn is_empty(&self) -> bool
+        ensures { result ≡ (length self.now.items == 0) }
+    {
+        self.items.len() == 0
+    }
+
+    /// Makes room for `more` items.
+    pub fn reserve(&mut self, more: u64) -> Result<(), NoMemory>
+        ensures items { self.new.items ≡ self.old.items }
+        ensures room { OnOk result (more ≤ self.new.spare) }
+        ensures kept { self.old.spare ≤ self.new.spare }
+    {
+        self.items.reserve(more as usize)?;
+        Ok(())
+    }
+
+    /// Forgets the items, and keeps their room.
+    pub fn clear(&mut self)
+    where
+        T: Drop,
+        ensures items { self.new.items ≡ [] }
+        ensures room { self.old.spare + length self.old.items ≤ self.new.spare }
+    {
+        self.items.clear();
+    }
+
+    /// Appends an item in the room that is there.
+    pub fn push(&mut self, item: T)
+    where
+        T: Drop,
+        requires { 1 ≤ self.old.spare }
+        ensures items { self.new.items ≡ self.old.items ++ item ∷ [] }
+        ensures room { self.old.spare ≤ self.new.spare + 1 }
+    {
+        self.items.push(item).unwrap();
+    }
+}
+
+impl<T: Copy> Listed<T> {
+    /// A list of these items.
+    pub fn from_slice(alloc: Global, items: &[T]) -> Result<Self, NoMemory>
+        ensures { IfOk result (λ list. list.items ≡ items.now) }
+    {
+        Ok(Listed {
+            items: Vec::from_slice(alloc, items)?,
+        })
+    }
+
+    /// Appends items in the room that is there.
+    pub fn extend(&mut self, items: &[T])
+        requires { length items.now ≤ self.old.spare }
+        ensures items { self.new.items ≡ self.old.items ++ items.now }
+        ensures room { self.old.spare ≤ self.new.spare + length items.now }
+    {
+        self.items.extend_from_slice(items).unwrap();
+    }
+
+    /// Appends `count` copies of an item in the room that is there.
+    pub fn fill(&mut self, item: T, count: usize)
+    where
+        T: Drop,
+        requires { count ≤ self.old.spare }
+        ensures items { self.new.items ≡ self.old.items ++ replicate count item }
+        ensures room { self.old.spare ≤ self.new.spare + count }
+    {
+        let length = self.items.len() + count;
+        let _ = self.items.resize(length, item);
+    }
+}
+
+impl Listed<Bytes> {
+    /// Copies of these words.
+    pub fn from_words(alloc: Global, words: &[Bytes]) -> Result<Self, NoMemory>
+        ensures { IfOk result (λ list. texts_of list.items ≡ texts_of words.now) }
+    {
+        let mut list = Listed::new(alloc);
+        list.reserve(words.len() as u64)?;
+        for word in words {
+            let copy = Bytes::from_slice(alloc, word.as_slice())?;
+            list.push(copy);
+        }
+        Ok(list)
+    }
+}

@@ -1,0 +1,89 @@
+//! Replies of handlers, completions, statuses and sense data.
+ghost use Rattle.std.specs.Prelude.{◌≡◌};
+ghost use Rattle.tcmu_types.specs.SenseBytes.{fixed_sense, sense_in};
+
+use crate::{Bytes, Name};
+use std::marker::Model;
+
+/// A status byte (SAM-5, 5.3).
+#[derive(Clone, Copy, Debug, PartialEq, Eq)]
+pub struct ScsiStatus(pub u8);
+
+/// Sense data (SPC-4, 4.5): the key, of 0h to Fh, and the additional sense code with its qualifier.
+#[derive(Clone, Copy, Debug, PartialEq, Eq)]
+pub struct Sense {
+    pub key: u8,
+    pub asc: u8,
+    pub ascq: u8,
+}
+
+impl Model for Sense {
+    ghost use Rattle.std.specs.Prelude.{◌<◌};
+    ghost use Rattle.tcmu_types.specs.Data.{SenseData};
+
+    ghost Value = { SenseData };
+
+    ghost view = { λ a. record { key = a.key; asc = a.asc; ascq = a.ascq } };
+
+    ghost invariant = { λ a. a.key < 16 };
+
+    ghost inverse = { λ s. record { key = s.key; asc = s.asc; ascq = s.ascq } };
+}
+
+/// What a handler answers: a status, sense data exactly with CHECK CONDITION, and bytes only with GOOD.
+#[derive(Debug, Drop)]
+pub struct Reply {
+    pub status: ScsiStatus,
+    pub sense: Option<Sense>,
+    pub payload: Bytes,
+}
+
+impl Model for Reply {
+    ghost use Rattle.tcmu_types.specs.Data.{ReplyData};
+    ghost use Rattle.tcmu_types.specs.Rules.{IsReply};
+
+    ghost Value = { ReplyData };
+
+    ghost view = { λ a. record { status = a.status.0; sense = a.sense; payload = a.payload.items } };
+
+    ghost invariant = { λ a. IsReply (record { status = a.status.0; sense = a.sense; payload = a.payload.items }) };
+}
+
+/// One completion: the serial, initiator and task tag of its command, and what the initiator gets.
+#[derive(Debug, Drop)]
+pub struct Done {
+    pub serial: u64,
+    pub init: Name,
+    pub tag: u32,
+    pub status: ScsiStatus,
+    pub sense: Option<Sense>,
+    pub payload: Bytes,
+}
+
+impl Model for Done {
+    ghost use Rattle.tcmu_types.specs.Data.{DoneData};
+
+    ghost Value = { DoneData };
+
+    ghost view = { λ a. record { serial = a.serial; init = a.init; tag = a.tag; status = a.status.0; sense = a.sense; payload = a.payload.items } };
+}
+
+/// Fixed format sense data, 18 bytes (SPC-4, 4.5.3), without INFORMATION.
+pub fn sense_bytes(sense: Sense) -> [u8; 18]
+    ensures { result ≡ fixed_sense sense }
+{
+    [
+        0x70, 0, sense.key, 0, 0, 0, 0, 0x0a, 0, 0, 0, 0, sense.asc, sense.ascq, 0, 0, 0, 0,
+    ]
+}
+
+/// The sense data in a sense buffer: the low half of byte 2, and bytes 12 and 13.
+pub fn sense_of(buffer: &[u8; 96]) -> Sense
+    ensures { result ≡ sense_in buffer.now }
+{
+    Sense {
+        key: buffer[2] % 16,
+        asc: buffer[12],
+        ascq: buffer[13],
+    }
+}

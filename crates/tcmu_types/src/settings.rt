@@ -1,0 +1,36 @@
+//! The settings of a device.
+use std::marker::Model;
+
+/// What a device's mailbox shows: completions in any order, a length with each read's completion, and task management notes (the
+/// kernel's tcmu-design, mailbox flags).
+#[derive(Clone, Copy, Debug, PartialEq, Eq)]
+pub struct Flags {
+    pub ooo: bool,
+    pub read_len: bool,
+    pub tmr: bool,
+}
+
+/// The settings of a device: the ring's size in bytes, the most data blocks, the flags, the command timeout and the time that a
+/// command waits for room (in ticks, 0 for never), and the pages of 4096 bytes of a data block.
+#[derive(Clone, Copy, Debug, PartialEq, Eq)]
+pub struct Settings {
+    pub ring: u32,
+    pub blocks: u32,
+    pub flags: Flags,
+    pub timeout: u32,
+    pub qfull: u32,
+    pub pages: u32,
+}
+
+impl Model for Settings {
+    ghost use Rattle.tcmu_types.specs.Data.{SettingsData};
+    ghost use Rattle.tcmu_types.specs.Rules.{IsSettings};
+
+    ghost Value = { SettingsData };
+
+    ghost view = { λ a. record { ring = a.ring; blocks = a.blocks; flags = a.flags; timeout = a.timeout; qfull = a.qfull; pages = a.pages } };
+
+    ghost invariant = { λ a. IsSettings (record { ring = a.ring; blocks = a.blocks; flags = a.flags; timeout = a.timeout; qfull = a.qfull; pages = a.pages }) };
+
+    ghost inverse = { λ s. record { ring = s.ring; blocks = s.blocks; flags = s.flags; timeout = s.timeout; qfull = s.qfull; pages = s.pages } };
+}
