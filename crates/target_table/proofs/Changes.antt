@@ -1,5 +1,5 @@
 -- What adding, taking out and expiring a command does to the fields and to the rows.
-use Rattle.std.proofs.Common.{◌≡◌, ◌≢◌, ℕ, ◌+◌, ◌-◌, ◌≤◌, ◌<◌, ◌⊎◌, inl, inr, ⊎_elim, Bool, true, false, not, cond, ◌||◌, ◌==◌, eqb, List, [], ◌∷◌, ◌++◌, length, length-append, add-one, append_assoc, map, take, drop, nat_le, slice_set, slice_index_or, Option, Some, None, refl, sym, ap, subst, ◌∙◌, arith, suc, zero}
+use Rattle.std.proofs.Common.{◌≡◌, ◌≢◌, ℕ, ◌+◌, ◌-◌, ◌≤◌, ◌<◌, ◌⊎◌, inl, inr, ⊎_elim, Bool, true, false, cond, ◌||◌, ◌==◌, List, [], ◌∷◌, ◌++◌, length, length-append, add-one, take, drop, nat_le, slice_set, slice_index_or, Option, Some, None, refl, sym, ap, subst, ◌∙◌, arith, suc, zero}
 use Rattle.std.specs.List.{list_any}
 use Rattle.std.specs.Option.{option_map}
 use Rattle.std.specs.List.Sorted.{IsPartitionPoint}
@@ -13,7 +13,7 @@ use Rattle.target_table.specs.declared.table.Ranked.{Ranked}
 use Rattle.target_table.specs.Rows.{Row, TableData, has_id, is_waiting, id_of, pending_of, with_expired, AllPrecede, IdsDiffer, IsTable, ExpiredFirst, without, without_found}
 use Rattle.target_table.specs.Kept.{place_of, at_id, or_none, row_at, rows_of, Stands, AllStand, is_ranked, IsFree, IsDistinct, IsKept}
 use Rattle.target_table.proofs.Ordered.{order-added, ids-added, differ-added, expired-added, order-without, ids-without, differ-without, length-without, some-expired, expired-without, waiting-without, order-expired, ids-expired, differ-expired, length-expired, expired-more, expired-most, first-any}
-use Rattle.target_table.proofs.Places.{row_of, row-found, any-row, IsThere, there, length-rows, false-true, eqb-not, eqb-self, or-true, at-one, rank-of}
+use Rattle.target_table.proofs.Places.{row_of, row-found, any-row, there, length-rows, false-true, eqb-not, eqb-self, or-true, at-one, rank-of}
 
 pub none-some : {p : PendingData} → ◌≡◌ {A = Option PendingData} None (Some p) → ⊥
 none-some h = cc
@@ -45,14 +45,15 @@ pub stand-same : (places places' : List (Option PendingData)) (order : List Rank
 stand-same places places' [] l h s = tt
 stand-same places places' (o ∷ os) l h s =
     let e = same-here places places' o os h in
-    let a = s.0.high in
-    (record {
-      low = s.0.low;
-      high = omega arith;
-      here = e ∙ s.0.here ∙ ap (λ p. Some (or_none p)) (sym e);
-      serial = ap (λ p. (or_none p).serial) e ∙ s.0.serial;
-    },
-    stand-same places places' os l (same-rest places places' o os h) s.1)
+    let a = s.0.high in (
+      record {
+        low = s.0.low;
+        high = omega arith;
+        here = e ∙ s.0.here ∙ ap (λ p. Some (or_none p)) (sym e);
+        serial = ap (λ p. (or_none p).serial) e ∙ s.0.serial;
+      },
+      stand-same places places' os l (same-rest places places' o os h) s.1,
+    )
 
 pub place-set : (places : List (Option PendingData)) (id : ℕ) (p : Option PendingData) → 1 ≤ id → id ≤ length places → place_of (slice_set places (id - 1) p) id ≡ p
 place-set places id p a b = get_or-set_same places (id - 1) p None (omega arith)
@@ -172,7 +173,7 @@ added-kept places free rest order expired id p a =
           ∙ ⊎_elim
           (λ (e : other ≡ id). ap (λ b. is_ranked order other || (b || false)) (ap (λ z. id == z) e ∙ eqb-self id) ∙ or-true (is_ranked order other))
           (λ (e : other ≢ id).
-              ap (λ b. b || is_ranked (o ∷ []) other) (k.ranked other q low (sym (place-other places id other (Some p) f.low low e) ∙ g)))
+          ap (λ b. b || is_ranked (o ∷ []) other) (k.ranked other q low (sym (place-other places id other (Some p) f.low low e) ∙ g)))
           (cases_eq other id);
       are_free = λ other g.
           let w = k.are_free other (ap (λ xs. is_among xs other) a.last ∙ among-append rest (id ∷ []) other ∙ ap (λ b. b || is_among (id ∷ []) other) g) in
@@ -204,10 +205,10 @@ last-free places free rest order expired id k e =
 pub added-view : (places : List (Option PendingData)) (free rest : List ℕ) (order order' : List Ranked) (expired id : ℕ) (p : PendingData) → Adding places free rest order expired id p →
     order' ≡ order ++ record { serial = p.serial; id = id } ∷ [] →
     ◌≡◌ {A = TableData} (record { rows = rows_of (slice_set places (id - 1) (Some p)) order'; expired = expired; spare = length rest })
-        (record { rows = rows_of places order ++ record { id = id; pending = p } ∷ []; expired = expired; spare = length free - 1 })
+    (record { rows = rows_of places order ++ record { id = id; pending = p } ∷ []; expired = expired; spare = length free - 1 })
 added-view places free rest order order' expired id p a e =
     let r : rows_of (slice_set places (id - 1) (Some p)) order' ≡ rows_of places order ++ record { id = id; pending = p } ∷ [] =
-        ap (rows_of (slice_set places (id - 1) (Some p))) e ∙ added-rows places free rest order expired id p a in
+    ap (rows_of (slice_set places (id - 1) (Some p))) e ∙ added-rows places free rest order expired id p a in
     let few : length free ≡ length rest + 1 = ap length a.last ∙ length-append rest (id ∷ []) in
     let s : length rest ≡ length free - 1 = omega arith in
     cc
@@ -222,8 +223,8 @@ ranked-without [] id other d = refl
 ranked-without (o ∷ os) id other d =
     ⊎_elim
     (λ (t : (o.id == id) ≡ true).
-        let n : (o.id == other) ≡ false = eqb-not o.id other (λ (e : o.id ≡ other). d (sym e ∙ eqb-true o.id id t)) in
-        rw t (sym (ap (λ b. b || is_ranked os other) n)))
+    let n : (o.id == other) ≡ false = eqb-not o.id other (λ (e : o.id ≡ other). d (sym e ∙ eqb-true o.id id t)) in
+    rw t (sym (ap (λ b. b || is_ranked os other) n)))
     (λ (f : (o.id == id) ≡ false). rw f (ap (λ b. (o.id == other) || b) (ranked-without os id other d)))
     (cases_Bool (o.id == id))
 
@@ -242,10 +243,10 @@ ranked-still (o ∷ os) id other h =
     ⊎_elim
     (λ (t : (o.id == id) ≡ true). ap (λ b. (o.id == other) || b) (rw t at h) ∙ or-true (o.id == other))
     (λ (f : (o.id == id) ≡ false).
-        ⊎_elim
-        (λ (x : (o.id == other) ≡ true). ap (λ b. b || is_ranked os other) x)
-        (λ (y : is_ranked (without_first (λ o. o.id == id) os) other ≡ true). ap (λ b. (o.id == other) || b) (ranked-still os id other y) ∙ or-true (o.id == other))
-        (or-case (o.id == other) (is_ranked (without_first (λ o. o.id == id) os) other) (rw f at h)))
+    ⊎_elim
+    (λ (x : (o.id == other) ≡ true). ap (λ b. b || is_ranked os other) x)
+    (λ (y : is_ranked (without_first (λ o. o.id == id) os) other ≡ true). ap (λ b. (o.id == other) || b) (ranked-still os id other y) ∙ or-true (o.id == other))
+    (or-case (o.id == other) (is_ranked (without_first (λ o. o.id == id) os) other) (rw f at h)))
     (cases_Bool (o.id == id))
 
 stand-without : (places : List (Option PendingData)) (order : List Ranked) (id : ℕ) → AllStand places order → AllStand places (without_first (λ o. o.id == id) order)
@@ -296,7 +297,7 @@ taken-same places free order expired id p t other h =
     let g = gone places order id t.kept.sound.differ in
     let o = there places order other t.kept.stand (ranked-still order id other h) in
     place-other places id other None (taken-low places free order expired id p t) o.low
-        (λ (e : other ≡ id). false-true (sym g ∙ ap (is_ranked (without_first (λ o. o.id == id) order)) (sym e) ∙ h))
+    (λ (e : other ≡ id). false-true (sym g ∙ ap (is_ranked (without_first (λ o. o.id == id) order)) (sym e) ∙ h))
 
 pub taken-rows : (places : List (Option PendingData)) (free : List ℕ) (order : List Ranked) (expired id : ℕ) (p : PendingData) → Taking places free order expired id p →
     rows_of (slice_set places (id - 1) None) (without_first (λ o. o.id == id) order) ≡ without_first (has_id id) (rows_of places order)
@@ -336,10 +337,10 @@ taken-kept places free order expired id p t =
     let c = k.counted in
     let m = k.most in
     let not_free : is_among free id ≡ false =
-        ⊎_elim
-        (λ (x : is_among free id ≡ true). absurd (none-some (sym (k.are_free id x).free ∙ taken-here places free order expired id p t)))
-        (λ (x : is_among free id ≡ false). x)
-        (cases_Bool (is_among free id)) in
+    ⊎_elim
+    (λ (x : is_among free id ≡ true). absurd (none-some (sym (k.are_free id x).free ∙ taken-here places free order expired id p t)))
+    (λ (x : is_among free id ≡ false). x)
+    (cases_Bool (is_among free id)) in
     let P : List Row → Type 0 = λ xs. IsTable (record { rows = xs; expired = less p.expired expired; spare = length (free ++ id ∷ []) }) in
     record {
       stand = stand-same places places' order' (omega arith) same (stand-without places order id k.stand);
@@ -349,13 +350,13 @@ taken-kept places free order expired id p t =
       are_free = λ other g.
           ⊎_elim
           (λ (x : is_among free other ≡ true).
-              let w = k.are_free other x in
-              let h = w.high in
-              let d : other ≢ id = λ (e : other ≡ id). false-true (sym not_free ∙ sym (ap (is_among free) e) ∙ x) in
-              record { low = w.low; high = omega arith; free = place-other places id other None low w.low d ∙ w.free })
+          let w = k.are_free other x in
+          let h = w.high in
+          let d : other ≢ id = λ (e : other ≡ id). false-true (sym not_free ∙ sym (ap (is_among free) e) ∙ x) in
+          record { low = w.low; high = omega arith; free = place-other places id other None low w.low d ∙ w.free })
           (λ (x : is_among (id ∷ []) other ≡ true).
-              let e : id ≡ other = ⊎_elim (λ (y : (id == other) ≡ true). eqb-true id other y) (λ (y : false ≡ true). absurd (false-true y)) (or-case (id == other) false x) in
-              record { low = omega arith; high = omega arith; free = ap (place_of places') (sym e) ∙ empty })
+          let e : id ≡ other = ⊎_elim (λ (y : (id == other) ≡ true). eqb-true id other y) (λ (y : false ≡ true). absurd (false-true y)) (or-case (id == other) false x) in
+          record { low = omega arith; high = omega arith; free = ap (place_of places') (sym e) ∙ empty })
           (or-case (is_among free other) (is_among (id ∷ []) other) (sym (among-append free (id ∷ []) other) ∙ g));
       once = distinct-more free id k.once not_free;
       counted = omega arith;
@@ -377,8 +378,8 @@ same-table a b n m k p q = cc
 -- the rows after, and how many places are free
 pub taken-view : (places : List (Option PendingData)) (free : List ℕ) (order : List Ranked) (expired id : ℕ) (p : PendingData) → Taking places free order expired id p →
     ◌≡◌ {A = TableData}
-        (record { rows = rows_of (slice_set places (id - 1) None) (without_first (λ o. o.id == id) order); expired = less p.expired expired; spare = length (free ++ id ∷ []) })
-        (without (record { rows = rows_of places order; expired = expired; spare = length free }) id)
+    (record { rows = rows_of (slice_set places (id - 1) None) (without_first (λ o. o.id == id) order); expired = less p.expired expired; spare = length (free ++ id ∷ []) })
+    (without (record { rows = rows_of places order; expired = expired; spare = length free }) id)
 taken-view places free order expired id p t =
     let r = taken-rows places free order expired id p t in
     let n : length (free ++ id ∷ []) ≡ length free + 1 = length-append free (id ∷ []) in
@@ -429,16 +430,16 @@ row-expired places places' [] id p s d was here others = refl
 row-expired places places' (o ∷ os) id p s d was here others =
     ⊎_elim
     (λ (t : (o.id == id) ≡ true).
-        let e : o.id ≡ id = eqb-true o.id id t in
-        let unranked : is_ranked os id ≡ false = sym (any-row places os id) ∙ ap (λ n. list_any (has_id n) (rows_of places os)) (sym e) ∙ d.0 in
-        let rest : rows_of places' os ≡ rows_of places os = rows-same places places' os (same-others places places' os id s.1 unranked others) in
-        let head : row_at places' o ≡ with_expired (row_at places o) =
-            ap (λ n. row_of places' n) e ∙ ap (λ q. record { id = id; pending = or_none q }) here
-            ∙ sym (ap (λ n. with_expired (row_of places n)) e ∙ ap (λ q. with_expired (record { id = id; pending = or_none q })) was) in
-        rw t (rw (head, rest) refl))
+    let e : o.id ≡ id = eqb-true o.id id t in
+    let unranked : is_ranked os id ≡ false = sym (any-row places os id) ∙ ap (λ n. list_any (has_id n) (rows_of places os)) (sym e) ∙ d.0 in
+    let rest : rows_of places' os ≡ rows_of places os = rows-same places places' os (same-others places places' os id s.1 unranked others) in
+    let head : row_at places' o ≡ with_expired (row_at places o) =
+    ap (λ n. row_of places' n) e ∙ ap (λ q. record { id = id; pending = or_none q }) here
+    ∙ sym (ap (λ n. with_expired (row_of places n)) e ∙ ap (λ q. with_expired (record { id = id; pending = or_none q })) was) in
+    rw t (rw (head, rest) refl))
     (λ (f : (o.id == id) ≡ false).
-        let head : row_at places' o ≡ row_at places o = ap (λ q. record { id = o.id; pending = or_none q }) (others o.id s.0.low (eqb-false o.id id f)) in
-        rw f (rw (head, row-expired places places' os id p s.1 d.1 was here others) refl))
+    let head : row_at places' o ≡ row_at places o = ap (λ q. record { id = o.id; pending = or_none q }) (others o.id s.0.low (eqb-false o.id id f)) in
+    rw f (rw (head, row-expired places places' os id p s.1 d.1 was here others) refl))
     (cases_Bool (o.id == id))
 
 expiring-row : (places places' : List (Option PendingData)) (free : List ℕ) (order : List Ranked) (expired id : ℕ) (p : PendingData) → Expiring places places' free order expired id p → Taking places free order expired id p
@@ -467,24 +468,26 @@ stand-expired places places' (o ∷ os) id p s was here others n =
     let rest = stand-expired places places' os id p s.1 was here others n in
     ⊎_elim
     (λ (e : o.id ≡ id).
-        let now : place_of places' o.id ≡ Some (record p { expired = true }) = ap (place_of places') e ∙ here in
-        let before : place_of places o.id ≡ Some p = ap (place_of places) e ∙ was in
-        (record {
-          low = s.0.low;
-          high = omega arith;
-          here = now ∙ ap (λ q. Some (or_none q)) (sym now);
-          serial = ap (λ q. (or_none q).serial) now ∙ ap (λ q. (or_none q).serial) (sym before) ∙ s.0.serial;
-        },
-        rest))
+    let now : place_of places' o.id ≡ Some (record p { expired = true }) = ap (place_of places') e ∙ here in
+    let before : place_of places o.id ≡ Some p = ap (place_of places) e ∙ was in (
+      record {
+        low = s.0.low;
+        high = omega arith;
+        here = now ∙ ap (λ q. Some (or_none q)) (sym now);
+        serial = ap (λ q. (or_none q).serial) now ∙ ap (λ q. (or_none q).serial) (sym before) ∙ s.0.serial;
+      },
+      rest,
+    ))
     (λ (d : o.id ≢ id).
-        let same = others o.id s.0.low d in
-        (record {
-          low = s.0.low;
-          high = omega arith;
-          here = same ∙ s.0.here ∙ ap (λ q. Some (or_none q)) (sym same);
-          serial = ap (λ q. (or_none q).serial) same ∙ s.0.serial;
-        },
-        rest))
+    let same = others o.id s.0.low d in (
+      record {
+        low = s.0.low;
+        high = omega arith;
+        here = same ∙ s.0.here ∙ ap (λ q. Some (or_none q)) (sym same);
+        serial = ap (λ q. (or_none q).serial) same ∙ s.0.serial;
+      },
+      rest,
+    ))
     (cases_eq o.id id)
 
 pub expired-kept : (places places' : List (Option PendingData)) (free : List ℕ) (order : List Ranked) (expired id : ℕ) (p : PendingData) → Expiring places places' free order expired id p →

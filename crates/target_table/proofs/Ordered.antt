@@ -1,10 +1,10 @@
 -- Rows in the order of their serials: what is found first, and what adding, taking out and expiring keep.
-use Rattle.std.proofs.Common.{◌≡◌, ◌≢◌, ℕ, ◌+◌, ◌-◌, ◌≤◌, ◌<◌, ◌⊎◌, inl, inr, ⊎_elim, Bool, true, false, not, cond, ◌&&◌, ◌||◌, ◌==◌, eqb, leb, ltb, List, [], ◌∷◌, ◌++◌, length, slice_get, Option, Some, None, refl, sym, ap, subst, ◌∙◌, arith, suc, zero}
+use Rattle.std.proofs.Common.{◌≡◌, ◌≢◌, ℕ, ◌+◌, ◌-◌, ◌≤◌, ⊎_elim, Bool, true, false, not, ◌&&◌, ◌||◌, ◌==◌, List, [], ◌∷◌, ◌++◌, length, slice_get, Option, Some, None, refl, sym, ap, subst, ◌∙◌, arith, suc, zero}
 use Rattle.std.specs.List.{list_any}
-use Rattle.std.proofs.lemmas.Bool.{cases_eq, cases_lt, cases_Bool, eqb-true, eqb-false, leb-true, leb-false}
+use Rattle.std.proofs.lemmas.Bool.{cases_Bool, eqb-false}
 use Rattle.tcmu_model.specs.Lists.{first_of, without_first, with_first}
 use Rattle.tcmu_model.specs.Pending.{PendingData}
-use Rattle.target_table.specs.Rows.{Row, has_id, is_waiting, is_due, has_passed, is_behind, with_expired, NotAfter, Precedes, AllPrecede, PrecedesAll, AreInOrder, IdsDiffer, AreIds, ExpiredFirst}
+use Rattle.target_table.specs.Rows.{Row, has_id, is_waiting, is_due, has_passed, with_expired, NotAfter, Precedes, AllPrecede, PrecedesAll, AreInOrder, IdsDiffer, AreIds, ExpiredFirst}
 
 no-row : {r : Row} → ◌≡◌ {A = Option Row} None (Some r) → ⊥
 no-row h = cc
@@ -159,12 +159,12 @@ expired-without p (suc n) (y ∷ ys) r e h x =
     (⊎_elim
     (λ (t : p y ≡ true). rw t e.1)
     (λ (f : p y ≡ false).
-        let g = rw f at h in
-        let b = some-expired p n ys r e.1 g x in
-        let i = expired-without p n ys r e.1 g x in
-        let up : suc (n - 1) ≡ n = omega arith in
-        let Q : ℕ → Type 0 = λ k. ExpiredFirst k (y ∷ without_first p ys) in
-        rw f (subst Q up (e.0, i)))
+    let g = rw f at h in
+    let b = some-expired p n ys r e.1 g x in
+    let i = expired-without p n ys r e.1 g x in
+    let up : suc (n - 1) ≡ n = omega arith in
+    let Q : ℕ → Type 0 = λ k. ExpiredFirst k (y ∷ without_first p ys) in
+    rw f (subst Q up (e.0, i)))
     (cases_Bool (p y)))
 
 pub waiting-without : (p : Row → Bool) (n : ℕ) (rows : List Row) (r : Row) → ExpiredFirst n rows → first_of p rows ≡ Some r → r.pending.expired ≡ false → ExpiredFirst n (without_first p rows)

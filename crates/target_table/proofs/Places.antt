@@ -1,17 +1,16 @@
 -- Places of commands, and the rows that they make.
-use Rattle.std.proofs.Common.{◌≡◌, ◌≢◌, ℕ, ◌+◌, ◌-◌, ◌≤◌, ◌<◌, ◌⊎◌, inl, inr, ⊎_elim, Bool, true, false, not, cond, ◌||◌, ◌==◌, eqb, leb, ltb, List, [], ◌∷◌, ◌++◌, length, map, take, drop, slice_get, slice_set, slice_index_or, nat_le, nat_lt,  Option, Some, None, refl, sym, ap, subst, ◌∙◌, arith, suc, zero}
+use Rattle.std.proofs.Common.{◌≡◌, ◌≢◌, ℕ, ◌-◌, ◌≤◌, ◌<◌, ⊎_elim, Bool, true, false, ◌||◌, ◌==◌, List, [], ◌∷◌, ◌++◌, length, take, drop, slice_get, slice_set, slice_index_or, nat_le, nat_lt, Option, Some, None, refl, sym, ap, subst, ◌∙◌, arith, suc, zero}
 use Rattle.std.specs.List.{list_any}
 use Rattle.std.specs.Option.{option_map, IfNone}
 use Rattle.std.proofs.lemmas.List.{get_or_past, set-get_or}
-use Rattle.std.proofs.lemmas.Bool.{cases_eq, cases_lt, cases_Bool, eqb-true, eqb-false, leb-true}
-use Rattle.tcmu_model.specs.Lists.{first_of, without_first, with_first}
-use Rattle.tcmu_model.specs.Events.{is_among}
+use Rattle.std.proofs.lemmas.Bool.{cases_eq, cases_Bool, eqb-true, leb-true}
+use Rattle.tcmu_model.specs.Lists.{first_of, without_first}
 use Rattle.tcmu_model.specs.Pending.{PendingData}
 use Rattle.target_table.specs.declared.table.Ranked.{Ranked}
 use Rattle.std.specs.List.Sorted.{IsNonDecreasingBy, IsPartitionPoint}
-use Rattle.target_table.specs.Rows.{Row, has_id, has_passed, is_due, is_behind, id_of, pending_of, Precedes, PrecedesAll, AreInOrder, ExpiredFirst}
+use Rattle.target_table.specs.Rows.{Row, has_id, has_passed, is_due, is_behind, id_of, pending_of, PrecedesAll, AreInOrder, ExpiredFirst}
 use Rattle.target_table.proofs.Ordered.{due-none, due-some, due-later}
-use Rattle.target_table.specs.Kept.{place_of, at_id, or_none, row_at, rows_of, Stands, AllStand, is_ranked, IsKept}
+use Rattle.target_table.specs.Kept.{place_of, at_id, or_none, row_at, rows_of, Stands, AllStand, is_ranked}
 
 pub false-true : false ≡ true → ⊥
 false-true h = cc
@@ -69,8 +68,8 @@ there places [] id s h = absurd (false-true h)
 there places (o ∷ os) id s h =
     ⊎_elim
     (λ (t : (o.id == id) ≡ true).
-        let P : ℕ → Type 0 = λ n. IsThere places n in
-        subst P (eqb-true o.id id t) (record { low = s.0.low; high = s.0.high; here = s.0.here }))
+    let P : ℕ → Type 0 = λ n. IsThere places n in
+    subst P (eqb-true o.id id t) (record { low = s.0.low; high = s.0.high; here = s.0.here }))
     (λ (f : (o.id == id) ≡ false). there places os id s.1 (rw f at h))
     (cases_Bool (o.id == id))
 
@@ -89,10 +88,10 @@ pub place-tells : (places : List (Option PendingData)) (order : List Ranked) (id
 place-tells places order id s r =
     ⊎_elim
     (λ (t : is_ranked order id ≡ true).
-        ap (option_map (λ r. r.pending)) (row-found places order id t) ∙ sym ((there places order id s t).here))
+    ap (option_map (λ r. r.pending)) (row-found places order id t) ∙ sym ((there places order id s t).here))
     (λ (f : is_ranked order id ≡ false).
-        ap (option_map (λ r. r.pending)) (row-missing places order id f)
-        ∙ sym (none-or (place_of places id) (λ p h. false-true (sym f ∙ r p h))))
+    ap (option_map (λ r. r.pending)) (row-missing places order id f)
+    ∙ sym (none-or (place_of places id) (λ p h. false-true (sym f ∙ r p h))))
     (cases_Bool (is_ranked order id))
 
 pub at-past : (places : List (Option PendingData)) (id : ℕ) → length places < id → at_id places id ≡ None
@@ -109,8 +108,8 @@ pub at-tells : (places : List (Option PendingData)) (order : List Ranked) (id : 
 at-tells places order id s r =
     ⊎_elim
     (λ (z : id ≡ 0).
-        let P : ℕ → Type 0 = λ n. pending_of (rows_of places order) n ≡ at_id places n in
-        subst P (sym z) (zero-missing places order s))
+    let P : ℕ → Type 0 = λ n. pending_of (rows_of places order) n ≡ at_id places n in
+    subst P (sym z) (zero-missing places order s))
     (λ (d : id ≢ 0). place-tells places order id s (λ p h. r id p (omega arith) h) ∙ sym (at-one places id d))
     (cases_eq id 0)
 
@@ -230,8 +229,8 @@ behind-first places (o ∷ os) serial zero s p =
 behind-first places (o ∷ os) serial (suc rank) s p =
     let t = p.0 0 o (omega arith) (omega arith) in
     rw (is-behind-no o.serial serial (or_none (place_of places o.id)).serial t s.0.serial)
-        (behind-first places os serial rank s.1
-            (λ k d a b. p.0 (suc k) d (omega arith) (omega arith), λ k d a b. p.1 (suc k) d (omega arith) (omega arith)))
+    (behind-first places os serial rank s.1
+    (λ k d a b. p.0 (suc k) d (omega arith) (omega arith), λ k d a b. p.1 (suc k) d (omega arith) (omega arith)))
 
 -- the command of an id stands behind what comes before all
 precedes-id : (places : List (Option PendingData)) (r : Row) (os : List Ranked) (id : ℕ) → PrecedesAll r (rows_of places os) → is_ranked os id ≡ true → r.pending.serial < (or_none (place_of places id)).serial
@@ -271,23 +270,23 @@ rank-of places (o ∷ os) id zero s p h l q =
     let f = q.1 0 o (omega arith) (omega arith) in
     ⊎_elim
     (λ (t : (o.id == id) ≡ true).
-        let e = ap (λ n. (or_none (place_of places n)).serial) (eqb-true o.id id t) in
-        absurd (not-le o.serial serial f (let a = s.0.serial in omega arith)))
+    let e = ap (λ n. (or_none (place_of places n)).serial) (eqb-true o.id id t) in
+    absurd (not-le o.serial serial f (let a = s.0.serial in omega arith)))
     (λ (n : (o.id == id) ≡ false).
-        let b = precedes-id places (row_at places o) os id p.0 (rw n at h) in
-        absurd (not-le o.serial serial f (let a = s.0.serial in omega arith)))
+    let b = precedes-id places (row_at places o) os id p.0 (rw n at h) in
+    absurd (not-le o.serial serial f (let a = s.0.serial in omega arith)))
     (cases_Bool (o.id == id))
 rank-of places (o ∷ os) id (suc rank) s p h l q =
     let serial = (or_none (place_of places id)).serial in
     ⊎_elim
     (λ (t : (o.id == id) ≡ true).
-        let e = ap (λ n. (or_none (place_of places n)).serial) (eqb-true o.id id t) in
-        let z : rank ≡ 0 = last-one places o os serial rank s p.0 (let a = s.0.serial in omega arith) (omega arith) (λ k d b. q.0 (suc k) d (omega arith) (omega arith)) in
-        (0, record { before = ap suc z; within = omega arith; without = rw t refl }))
+    let e = ap (λ n. (or_none (place_of places n)).serial) (eqb-true o.id id t) in
+    let z : rank ≡ 0 = last-one places o os serial rank s p.0 (let a = s.0.serial in omega arith) (omega arith) (λ k d b. q.0 (suc k) d (omega arith) (omega arith)) in
+    (0, record { before = ap suc z; within = omega arith; without = rw t refl }))
     (λ (n : (o.id == id) ≡ false).
-        let i = rank-of places os id rank s.1 p.1 (rw n at h) (omega arith) (λ k d a b. q.0 (suc k) d (omega arith) (omega arith), λ k d a b. q.1 (suc k) d (omega arith) (omega arith)) in
-        let w = i.1.within in
-        (suc i.0, record { before = ap suc i.1.before; within = omega arith; without = rw n (ap (λ xs. o ∷ xs) i.1.without) }))
+    let i = rank-of places os id rank s.1 p.1 (rw n at h) (omega arith) (λ k d a b. q.0 (suc k) d (omega arith) (omega arith), λ k d a b. q.1 (suc k) d (omega arith) (omega arith)) in
+    let w = i.1.within in
+    (suc i.0, record { before = ap suc i.1.before; within = omega arith; without = rw n (ap (λ xs. o ∷ xs) i.1.without) }))
     (cases_Bool (o.id == id))
 
 -- the first of all

@@ -4,7 +4,7 @@ use Rattle.std.specs.List.{list_any}
 use Rattle.tcmu_model.specs.Pending.{PendingData}
 use Rattle.tcmu_model.specs.Events.{is_among}
 use Rattle.target_table.specs.declared.table.Ranked.{Ranked}
-use Rattle.target_table.specs.Rows.{Row, TableData, IsTable}
+use Rattle.target_table.specs.Rows.{Row, IsTable}
 
 -- stands for a command that is not there
 abbrev pub no_command : PendingData

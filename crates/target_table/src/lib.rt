@@ -3,6 +3,8 @@
 
 mod pending;
 mod table;
+#[cfg(test)]
+mod tests;
 
 pub use pending::Pending;
 pub use table::Table;

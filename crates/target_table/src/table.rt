@@ -87,9 +87,9 @@ impl Table {
         requires reserved { 1 ≤ self.old.spare }
         requires last { AllPrecede self.old.rows pending }
         ensures new { self.new ≡ record {
-            rows = self.old.rows ++ record { id = result; pending = record pending { expired = false } } ∷ [];
-            expired = self.old.expired;
-            spare = self.old.spare - 1;
+          rows = self.old.rows ++ record { id = result; pending = record pending { expired = false } } ∷ [];
+          expired = self.old.expired;
+          spare = self.old.spare - 1;
         } }
         ensures low { 1 ≤ result }
         ensures high { result ≤ 65535 }
@@ -143,16 +143,20 @@ impl Table {
             Some(pending) => pending,
             None => unreachable!(),
         };
-        if has_passed(now, pending.deadline) { Some(id) } else { None }
+        if has_passed(now, pending.deadline) {
+            Some(id)
+        } else {
+            None
+        }
     }
 
     /// Marks the first command that is not expired as expired.
     pub fn expire(&mut self, id: u16)
         requires { id_of (first_of is_waiting self.old.rows) ≡ Some id }
         ensures { self.new ≡ record {
-            rows = with_first (has_id id) with_expired self.old.rows;
-            expired = self.old.expired + 1;
-            spare = self.old.spare;
+          rows = with_first (has_id id) with_expired self.old.rows;
+          expired = self.old.expired + 1;
+          spare = self.old.spare;
         } }
     {
         let pending = match vacate(&mut self.places, id) {
@@ -269,7 +273,11 @@ fn rank_behind(order: &[Ranked], serial: u64) -> usize
 fn id_at(order: &[Ranked], rank: usize) -> Option<u16>
     ensures { result ≡ option_map (λ o. o.id) (slice_get order.now rank) }
 {
-    if rank < order.len() { Some(order[rank].id) } else { None }
+    if rank < order.len() {
+        Some(order[rank].id)
+    } else {
+        None
+    }
 }
 
 /// Whether a deadline, if there is one, is at most now.

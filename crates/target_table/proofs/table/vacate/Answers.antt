@@ -1,7 +1,5 @@
-use Rattle.std.proofs.Common.{◌≡◌, ◌-◌, List, Option, Some, None, slice_set, sym, ap, ◌∙◌, arith}
-use Rattle.std.proofs.lemmas.List.{get_or_default, set-get_or}
-use Rattle.std.specs.Option.{IfNone}
-use Rattle.tcmu_model.specs.Pending.{PendingData}
+use Rattle.std.proofs.Common.{◌≡◌, ◌-◌, None, sym, ◌∙◌, arith}
+use Rattle.std.proofs.lemmas.List.{get_or_default}
 use Rattle.target_table.proofs.Places.{at-past, at-one, emptied-same}
 use Rattle.target_table.proofs.table.vacate.Goals as goal
 

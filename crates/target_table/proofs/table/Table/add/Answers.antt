@@ -1,8 +1,8 @@
 use Rattle.std.proofs.Common.{◌≡◌, ◌-◌, ◌+◌, ◌≤◌, ◌<◌, ◌++◌, ◌∷◌, [], Some, slice_set, refl, sym, ap, subst, ◌∙◌, arith}
 use Rattle.tcmu_model.specs.Pending.{PendingData}
-use Rattle.target_table.specs.Kept.{IsKept, rows_of}
+use Rattle.target_table.specs.Kept.{rows_of}
 use Rattle.target_table.proofs.Ordered.{all-precede-same}
-use Rattle.target_table.proofs.Changes.{Adding, last-free, added-fresh, added-rows, added-kept, added-view, length-added}
+use Rattle.target_table.proofs.Changes.{Adding, last-free, added-fresh, added-kept, added-view, length-added}
 use Rattle.target_table.proofs.table.Table.add.Goals as goal
 
 pub overflow_sub-id : goal.overflow_sub-id
@@ -27,8 +27,8 @@ adding c = record {
   last = c.take_last-id.ensures.items;
   behind =
       all-precede-same (rows_of c.self.inside.places.items c.self.inside.order.items) c.args.pending (stored c)
-          (ap (λ p. p.serial) (sym c.pending.view_is)) (ap (λ p. p.deadline) (sym c.pending.view_is))
-          (rw (← c.self.view_is) at c.requires.last);
+      (ap (λ p. p.serial) (sym c.pending.view_is)) (ap (λ p. p.deadline) (sym c.pending.view_is))
+      (rw (← c.self.view_is) at c.requires.last);
   waiting = refl;
 }
 

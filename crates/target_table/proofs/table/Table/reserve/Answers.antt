@@ -1,7 +1,5 @@
-use Rattle.std.proofs.Common.{◌≡◌, ◌≤◌, ◌-◌, ◌+◌, ◌<◌, ◌∷◌, ◌++◌, [], Some, None, length, length-append, vec_len, List, Option, refl, sym, ap, ◌∙◌, arith}
+use Rattle.std.proofs.Common.{◌≡◌, ◌+◌, ◌∷◌, ◌++◌, [], None, length, length-append, vec_len, sym, ap, ◌∙◌, arith}
 use Rattle.std.proofs.lemmas.Bool.{eqb-true}
-use Rattle.tcmu_model.specs.Pending.{PendingData}
-use Rattle.target_table.specs.Kept.{rows_of, IsKept}
 use Rattle.target_table.proofs.Changes.{Placing, placed-kept, placed-rows}
 use Rattle.target_table.proofs.table.Table.reserve.Goals as goal
 
