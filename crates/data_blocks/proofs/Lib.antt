@@ -3,3 +3,4 @@ pub mod Search
 pub mod Chosen
 pub mod Sets
 pub mod Several
+pub mod Least

@@ -1,6 +1,9 @@
-//! The search for the least free number, equal to its plain definition.
-ghost use Rattle.std.specs.Prelude.{◌≡◌, ◌≢◌, ℕ, ◌*◌, ◌<◌, ◌≤◌, ◌==◌, length, slice_index, take};
+//! The search for the least free number, equal to its plain definition, and what the least free numbers are.
+ghost use Rattle.std.specs.Prelude.{◌≡◌, ◌≢◌, ℕ, ◌*◌, ◌<◌, ◌≤◌, ◌==◌, true, false, List, length, slice_index, take};
 ghost use Rattle.std.specs.List.{list_all};
+ghost use Rattle.tcmu_model.specs.Lists.{IsRising};
+ghost use Rattle.tcmu_model.specs.Events.{is_among};
+ghost use Rattle.tcmu_model.specs.BlockLists.{least_free};
 ghost use Rattle.data_blocks.specs.Bitmap.{first_clear};
 
 use std::simd::prelude::*;
@@ -54,3 +57,12 @@ pub fn first_free(words: &[u64], limit: u32) -> Option<u32>
     let number = 64 * word as u32 + words[word].trailing_ones();
     if number < limit { Some(number) } else { None }
 }
+
+/// What `take` gives, in plain words: the least free numbers rise, each is free and below the limit, and no free number below one
+/// of them is left out.
+pub fn least_free_law()
+    ensures rising { (limit : ℕ) (held : List ℕ) (n : ℕ) → IsRising (least_free limit held n) }
+    ensures free { (limit : ℕ) (held : List ℕ) (n m : ℕ) → is_among (least_free limit held n) m ≡ true → (m < limit) × (is_among held m ≡ false) }
+    ensures least { (limit : ℕ) (held : List ℕ) (n m k : ℕ) → is_among (least_free limit held n) m ≡ true → k < m → is_among held k ≡ false →
+        is_among (least_free limit held n) k ≡ true }
+{}
