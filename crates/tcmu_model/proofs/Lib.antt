@@ -5,3 +5,6 @@ pub mod Places
 pub mod Falls
 pub mod Draining
 pub mod GoesOn
+pub mod Everies
+pub mod Rises
+pub mod Turning
