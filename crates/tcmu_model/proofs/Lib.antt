@@ -8,3 +8,7 @@ pub mod GoesOn
 pub mod Everies
 pub mod Rises
 pub mod Turning
+pub mod Laying
+pub mod Basics
+pub mod SoundLaying
+pub mod SoundSubmit
