@@ -12,3 +12,5 @@ pub mod Laying
 pub mod Basics
 pub mod SoundLaying
 pub mod SoundSubmit
+pub mod Rows
+pub mod SoundTurning
