@@ -14,3 +14,6 @@ pub mod SoundLaying
 pub mod SoundSubmit
 pub mod Rows
 pub mod SoundTurning
+pub mod SoundRespond
+pub mod SoundClean
+pub mod SoundEvents
