@@ -17,3 +17,4 @@ pub mod SoundTurning
 pub mod SoundRespond
 pub mod SoundClean
 pub mod SoundEvents
+pub mod Runs
