@@ -18,3 +18,4 @@ pub mod SoundRespond
 pub mod SoundClean
 pub mod SoundEvents
 pub mod Runs
+pub mod Facts
