@@ -19,3 +19,4 @@ pub mod SoundClean
 pub mod SoundEvents
 pub mod Runs
 pub mod Facts
+pub mod Accounts
