@@ -20,3 +20,4 @@ pub mod SoundEvents
 pub mod Runs
 pub mod Facts
 pub mod Accounts
+pub mod Drained
