@@ -21,3 +21,4 @@ pub mod Runs
 pub mod Facts
 pub mod Accounts
 pub mod Drained
+pub mod DrainEnds
