@@ -22,3 +22,4 @@ pub mod Facts
 pub mod Accounts
 pub mod Drained
 pub mod DrainEnds
+pub mod Worked
