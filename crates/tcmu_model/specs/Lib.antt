@@ -8,3 +8,5 @@ pub mod Events
 pub mod Steps
 pub mod Drain
 pub mod BlockLists
+pub mod Sound
+pub mod Work
