@@ -2,12 +2,12 @@
 use Rattle.std.specs.Prelude.{◌≡◌, ◌⊎◌, ℕ, zero, suc, ◌+◌, ◌-◌, ◌^◌, ◌<◌, ◌≤◌, min, Bool, true, false, List, nat_eq, Option, IfSome, Result, IsErr}
 use Rattle.std.specs.List.{list_any}
 
--- the numbers of the calls that fail, where they are told, and how many calls were made
+-- the numbers of the calls that fail, where told, and how many calls were made
 pub record Numbered : Type 0 where
   pub fails : Option (List ℕ)
   pub calls : ℕ
 
--- one more call, up to the end of the count
+-- one more call; the count stops at 2^64 - 1
 abbrev pub next_call : ℕ → ℕ
 next_call calls = min (calls + 1) (2 ^ 64 - 1)
 
@@ -28,7 +28,7 @@ Tries zero c failed after = (failed ≡ false) × (after ≡ c)
 Tries (suc n) c failed after =
     (ComesOut c true × (failed ≡ true) × (after ≡ one_more c)) ⊎ (ComesOut c false × Tries n (one_more c) failed after)
 
--- a count has risen; one that stands at its end counts as risen
+-- a count of faults has risen; one that stands at its end counts as risen
 abbrev pub Rose : ℕ → ℕ → Type 0
 Rose old new = (old < new) ⊎ (2 ^ 64 ≤ old + 1)
 

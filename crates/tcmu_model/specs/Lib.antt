@@ -1,0 +1,10 @@
+pub mod States
+pub mod Lists
+pub mod Lengths
+pub mod RingState
+pub mod MediumState
+pub mod Device
+pub mod Events
+pub mod Steps
+pub mod Drain
+pub mod BlockLists
