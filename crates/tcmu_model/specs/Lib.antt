@@ -8,3 +8,4 @@ pub mod Events
 pub mod Steps
 pub mod Drain
 pub mod BlockLists
+pub mod Text
