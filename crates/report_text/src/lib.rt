@@ -6,4 +6,4 @@ mod events;
 mod pieces;
 mod report;
 
-pub use report::{dump_text, end_text, entry_text, runs_text};
+pub use report::{completion_line, dump_text, end_text, entry_text, event_line, runs_text};

@@ -2,13 +2,13 @@
 ghost use Rattle.std.specs.Prelude.{◌≡◌, ℕ, [], ◌∷◌, ◌++◌, length, OnOk, OnErr, codes};
 ghost use Rattle.std.specs.List.{flat_map};
 ghost use Rattle.tcmu_types.specs.Views.{event_data, answer_data};
-ghost use Rattle.tcmu_model.specs.Text.{spaced, line, payload_text, completion_text, event_text, answer_text, entry_text as entry_spelling, end_text as end_spelling, dump_text as dump_spelling};
+ghost use Rattle.tcmu_model.specs.Text.{spaced, line, payload_text, completion_text, event_line as event_spelling, entry_text as entry_spelling, end_text as end_spelling, dump_text as dump_spelling};
 
 use crate::dumps::push_dump;
 use crate::events::{push_answer, push_event};
 use crate::pieces::{push_all, push_field, push_number_field, push_payload, push_result};
 use std::alloc::Global;
-use tcmu_types::{Bytes, Done, Dump, Entry, Name, NoMemory};
+use tcmu_types::{Answer, Bytes, Done, Dump, Entry, Event, Name, NoMemory};
 
 /// Appends bytes, or changes nothing.
 fn append(into: &mut Bytes, text: &[u8]) -> Result<(), NoMemory>
@@ -33,6 +33,23 @@ fn push_completion(alloc: Global, out: &mut Vec<u8>, name: &[u8], d: &Done) -> R
     push_all(out, b"\n")
 }
 
+#[tactic(auto, unfolding(tcmu_model::specs::Text::event_line))]
+fn push_line(
+    alloc: Global,
+    out: &mut Vec<u8>,
+    name: &[u8],
+    qfull: u32,
+    event: &Event,
+    answer: &Answer,
+) -> Result<(), NoMemory>
+    ensures { OnOk result (out.new.items ≡ out.old.items ++ event_spelling name.now qfull (event_data event.now) (answer_data answer.now)) }
+{
+    push_event(alloc, out, name, event)?;
+    push_all(out, b" # ")?;
+    push_answer(alloc, out, qfull, event, answer)?;
+    push_all(out, b"\n")
+}
+
 fn push_completions(
     alloc: Global,
     out: &mut Vec<u8>,
@@ -41,8 +58,8 @@ fn push_completions(
 ) -> Result<(), NoMemory>
     ensures { OnOk result (out.new.items ≡ out.old.items ++ flat_map (completion_text name.now) logged.now) }
 {
-    for d in logged {
-        push_completion(alloc, out, name, d)?;
+    for done in logged {
+        push_completion(alloc, out, name, done)?;
     }
     Ok(())
 }
@@ -58,10 +75,7 @@ fn push_entry(
 ) -> Result<(), NoMemory>
     ensures { OnOk result (out.new.items ≡ out.old.items ++ entry_spelling name.now qfull entry.now logged.now) }
 {
-    push_event(alloc, out, name, &entry.event)?;
-    push_all(out, b" # ")?;
-    push_answer(alloc, out, qfull, &entry.event, &entry.answer)?;
-    push_all(out, b"\n")?;
+    push_line(alloc, out, name, qfull, &entry.event, &entry.answer)?;
     push_completions(alloc, out, name, logged)
 }
 
@@ -82,6 +96,38 @@ pub fn runs_text(alloc: Global, bytes: &[u8], into: &mut Bytes) -> Result<(), No
 {
     let mut text = Vec::new(alloc);
     push_payload(alloc, &mut text, bytes)?;
+    append(into, &text)
+}
+
+/// Appends the line of an event and its answer. NoMemory changes nothing.
+pub fn event_line(
+    alloc: Global,
+    name: &Name,
+    qfull: u32,
+    event: &Event,
+    answer: &Answer,
+    into: &mut Bytes,
+) -> Result<(), NoMemory>
+    ensures ok { OnOk result (into.new.items ≡ into.old.items ++ event_spelling name.now qfull (event_data event.now) (answer_data answer.now)) }
+    ensures err { OnErr result (into.new.items ≡ into.old.items) }
+{
+    let mut text = Vec::new(alloc);
+    push_line(alloc, &mut text, name.as_bytes(), qfull, event, answer)?;
+    append(into, &text)
+}
+
+/// Appends the line of a completion. NoMemory changes nothing.
+pub fn completion_line(
+    alloc: Global,
+    name: &Name,
+    done: &Done,
+    into: &mut Bytes,
+) -> Result<(), NoMemory>
+    ensures ok { OnOk result (into.new.items ≡ into.old.items ++ completion_text name.now done.now) }
+    ensures err { OnErr result (into.new.items ≡ into.old.items) }
+{
+    let mut text = Vec::new(alloc);
+    push_completion(alloc, &mut text, name.as_bytes(), done)?;
     append(into, &text)
 }
 

@@ -9,3 +9,4 @@ pub mod Steps
 pub mod Drain
 pub mod BlockLists
 pub mod Text
+pub mod Replay

@@ -1,5 +1,5 @@
 -- The text of a journal: a line for each device, event, completion and end.
-use Rattle.std.specs.Prelude.{ℕ, suc, ◌+◌, ◌/◌, ◌%◌, Bool, List, [], ◌∷◌, ◌++◌, length, map, Option, Some, None, nat_lt, ◌==◌, if◌then◌else◌, codes}
+use Rattle.std.specs.Prelude.{ℕ, suc, ◌+◌, ◌/◌, ◌%◌, Bool, List, [], ◌∷◌, ◌++◌, length, take, drop, map, Option, Some, None, nat_lt, ◌==◌, if◌then◌else◌, codes}
 use Rattle.std.specs.List.{flat_map, join_with_byte}
 use Rattle.std.specs.Fmt.{decimal}
 use Rattle.tcmu_types.specs.Rules.{takes_payload}
@@ -211,9 +211,18 @@ answer_text qfull e (ev.Told t) = stat_text qfull t
 unfoldable pub completion_text : List ℕ → DoneData → List ℕ
 completion_text name c = line (spaced (codes "# done") (name ∷ decimal c.serial ∷ c.init ∷ decimal c.tag ∷ hex_byte c.status ∷ sense_text c.sense ∷ payload_text c.payload ∷ []))
 
--- the line of an event with its answer, and a line for each completion that it logged
+-- the line of an event with its answer
+unfoldable pub event_line : List ℕ → ℕ → EventData → AnswerData → List ℕ
+event_line name qfull e a = line (event_text name e ++ codes " # " ++ answer_text qfull e a)
+
+-- and a line for each completion that it logged
 unfoldable pub entry_text : List ℕ → ℕ → EntryData → List DoneData → List ℕ
-entry_text name qfull e logged = line (event_text name e.event ++ codes " # " ++ answer_text qfull e.event e.answer) ++ flat_map (completion_text name) logged
+entry_text name qfull e logged = event_line name qfull e.event e.answer ++ flat_map (completion_text name) logged
+
+-- the lines of these entries; each entry's completions are the next, as many as it logged
+abbrev pub entries_text : List ℕ → ℕ → List EntryData → List DoneData → List ℕ
+entries_text name qfull [] done = []
+entries_text name qfull (e ∷ es) done = entry_text name qfull e (take e.logged done) ++ entries_text name qfull es (drop e.logged done)
 
 unfoldable pub end_text : List ℕ → ℕ → List ℕ
 end_text name n = line (spaced (codes "# open") (name ∷ decimal n ∷ []))
