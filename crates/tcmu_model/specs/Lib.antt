@@ -10,3 +10,5 @@ pub mod Drain
 pub mod BlockLists
 pub mod Text
 pub mod Replay
+pub mod Sound
+pub mod Work
