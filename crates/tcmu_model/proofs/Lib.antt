@@ -5,3 +5,4 @@ pub mod Places
 pub mod Falls
 pub mod Draining
 pub mod GoesOn
+pub mod Logs
