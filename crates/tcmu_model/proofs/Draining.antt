@@ -53,7 +53,7 @@ serial_of : (o : Option Unfinished) (s : ℕ) → option_map (λ u. u.serial) o 
 serial_of None s h = absurd (cc)
 serial_of (Some u) s h = (u, refl, cc)
 
-abbrev all_todo : DeviceState → Todo
+abbrev pub all_todo : DeviceState → Todo
 all_todo d =
     record {
       handle = least_serial (has_state Out) d;
