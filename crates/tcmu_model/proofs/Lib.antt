@@ -5,6 +5,7 @@ pub mod Places
 pub mod Falls
 pub mod Draining
 pub mod GoesOn
+pub mod Logs
 pub mod Everies
 pub mod Rises
 pub mod Turning

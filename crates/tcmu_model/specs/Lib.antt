@@ -8,5 +8,7 @@ pub mod Events
 pub mod Steps
 pub mod Drain
 pub mod BlockLists
+pub mod Text
+pub mod Replay
 pub mod Sound
 pub mod Work
