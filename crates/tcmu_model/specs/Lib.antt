@@ -3,6 +3,7 @@ pub mod Lists
 pub mod Lengths
 pub mod RingState
 pub mod MediumState
+pub mod Medium
 pub mod Device
 pub mod Events
 pub mod Steps
