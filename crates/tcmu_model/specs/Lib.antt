@@ -9,3 +9,6 @@ pub mod Events
 pub mod Steps
 pub mod Drain
 pub mod BlockLists
+pub mod Decoding
+pub mod Pages
+pub mod Scsi
