@@ -1,5 +1,5 @@
 -- The abstract SCSI device: settings, a moment, two bits, a ring, its commands and a log of completions.
-use Rattle.std.specs.Prelude.{ℕ, Bool, true, false, List, [], Option, None, length, ◌==◌, ◌&&◌}
+use Rattle.std.specs.Prelude.{ℕ, Bool, true, false, List, [], Option, ◌==◌, ◌&&◌}
 use Rattle.tcmu_types.specs.Data.{CommandData, ReplyData, DoneData, SettingsData}
 use Rattle.tcmu_model.specs.declared.state.CommandState.{CommandState}
 use Rattle.tcmu_model.specs.States.{same_state}

@@ -1,6 +1,6 @@
 -- The command ring: all items that were laid in it since the last reset, and three places in their list, up to which they are
 -- cleared, published and dispatched. No offset is kept: each is a sum of lengths (the kernel's tcmu-design, "Command ring").
-use Rattle.std.specs.Prelude.{ℕ, ◌+◌, ◌-◌, ◌%◌, ◌==◌, nat_lt, nat_le, Bool, true, false, List, [], ◌∷◌, ◌++◌, length, take, drop, if◌then◌else◌}
+use Rattle.std.specs.Prelude.{ℕ, ◌+◌, ◌-◌, ◌%◌, ◌==◌, nat_lt, nat_le, Bool, true, false, List, [], ◌∷◌, ◌++◌, take, drop, if◌then◌else◌}
 use Rattle.std.specs.List.{sum_by, count_by, prefix_len, flat_map}
 use Rattle.tcmu_types.specs.Data.{CommandData}
 

@@ -14,6 +14,8 @@ mod name;
 mod reply;
 mod settings;
 mod stat;
+#[cfg(test)]
+mod tests;
 
 pub use answer::{Answer, Dispatch, Enter, Handle, Publish, Reset, Respond, Submit, Tmr};
 pub use cdb::{Cdb, CdbLength, takes_payload};
