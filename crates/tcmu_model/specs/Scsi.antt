@@ -15,6 +15,7 @@ use Rattle.tcmu_model.specs.Pages.{inquiry_data, mode_sense, capacity10, capacit
 use Rattle.tcmu_model.specs.declared.op.Op.{Op}
 use Rattle.tcmu_model.specs.declared.op.Op.TheVariants as op
 use Rattle.tcmu_model.specs.declared.op.CdbFault.{CdbFault}
+use Rattle.tcmu_model.specs.declared.op.Extent.{Extent}
 use Rattle.tcmu_model.specs.declared.op.CdbFault.TheVariants as fault
 
 -- ==== sense data (SPC-4, sense key and additional sense code assignments), none with a qualifier
@@ -148,26 +149,24 @@ ComparesBytes m at n sent reply after =
     (out : List ℕ) × (length out ≡ n) × (failed : Bool) × (middle : MediumState) × Reads at out m failed middle
     × Either failed (Answers middle (refused unrecovered_read_error)) (Compared middle at n sent out) reply after
 
+-- no call where the range has no blocks
+abbrev pub ComparesBlocks : MediumState → ℕ → ℕ → List ℕ → Outcome
+ComparesBlocks m at count sent = Either (count == 0) (Answers m (good [])) (ComparesBytes m at (512 * count) sent)
+
 abbrev pub ServesCompareWrite : MediumState → ℕ → ℕ → List ℕ → Outcome
 ServesCompareWrite m lba count sent =
-    Checked m (write_checks m sent (2 * (512 * count)) lba count)
-    (Either (count == 0) (Answers m (good [])) (ComparesBytes m (512 * lba) (512 * count) sent))
+    Checked m (write_checks m sent (2 * (512 * count)) lba count) (ComparesBlocks m (512 * lba) count sent)
 
 -- ==== UNMAP
 
--- a range of logical blocks
-pub record Extent : Type 0 where
-  pub lba : ℕ
-  pub count : ℕ
-
--- the first n block descriptors of 16 bytes: 8 for the address, 4 for the count, 4 reserved
-abbrev pub extents_in : ℕ → List ℕ → List Extent
-extents_in zero bytes = []
-extents_in (suc n) bytes = record { lba = big_from 0 8 bytes; count = big_from 8 4 bytes } ∷ extents_in n (drop 16 bytes)
+-- n block descriptors of 16 bytes from a place on: 8 for the address, 4 for the count, 4 reserved
+abbrev pub extents_from : ℕ → ℕ → List ℕ → List Extent
+extents_from at zero bytes = []
+extents_from at (suc n) bytes = record { lba = big_from at 8 bytes; count = big_from (at + 8) 4 bytes } ∷ extents_from (at + 16) n bytes
 
 -- the descriptors behind the header of 8 bytes; an incomplete last one is none
 abbrev pub extents_of : List ℕ → List Extent
-extents_of sent = extents_in ((length sent - 8) / 16) (drop 8 sent)
+extents_of sent = extents_from 8 ((length sent - 8) / 16) sent
 
 -- one fill with zeros, where the range has blocks
 abbrev pub UnmapsOne : Extent → MediumState → Bool → MediumState → Type 0
@@ -182,11 +181,13 @@ Unmaps (e ∷ rest) m failed after =
 abbrev pub is_beyond : ℕ → Extent → Bool
 is_beyond blocks e = nat_lt blocks (e.lba + e.count)
 
--- its own two lengths are those of what follows them, and it has at most 256 descriptors with 32,768 blocks together; or not
+-- the two lengths in the header are not those of what follows them
+abbrev pub has_bad_lengths : List ℕ → Bool
+has_bad_lengths sent = not (big_from 0 2 sent == length sent - 2) || not (big_from 2 2 sent == length sent - 8)
+
+-- or there are more than 256 descriptors, or more than 32,768 blocks together
 abbrev pub is_bad_list : List ℕ → List Extent → Bool
-is_bad_list sent es =
-    not (big_from 0 2 sent == length sent - 2) || not (big_from 2 2 sent == length sent - 8) || nat_lt 256 (length es)
-    || nat_lt 32768 (sum_by (λ e. e.count) es)
+is_bad_list sent es = has_bad_lengths sent || nat_lt 256 (length es) || nat_lt 32768 (sum_by (λ e. e.count) es)
 
 -- every range is checked before one is unmapped
 abbrev pub list_checks : MediumState → List ℕ → List Check
@@ -197,12 +198,13 @@ list_checks m sent =
     ∷ check (list_any (is_beyond m.blocks) (extents_of sent)) address_out_of_range
     ∷ []
 
+abbrev pub UnmapsList : MediumState → List ℕ → Outcome
+UnmapsList m sent = Checked m (list_checks m sent) (Calls (Unmaps (extents_of sent) m) write_error [])
+
 -- no parameter list is no error, also on a protected medium
 abbrev pub ServesUnmap : MediumState → ℕ → List ℕ → Outcome
 ServesUnmap m bytes sent =
-    Checked m (check (not (length sent == bytes)) invalid_field_in_cdb ∷ [])
-    (Either (bytes == 0) (Answers m (good []))
-    (Checked m (list_checks m sent) (Calls (Unmaps (extents_of sent) m) write_error [])))
+    Checked m (check (not (length sent == bytes)) invalid_field_in_cdb ∷ []) (Either (bytes == 0) (Answers m (good [])) (UnmapsList m sent))
 
 -- ==== the whole
 

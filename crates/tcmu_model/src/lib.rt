@@ -7,5 +7,5 @@ mod op;
 mod state;
 
 pub use lengths::{blocks_of, entry_length, tmr_length};
-pub use op::{CdbFault, Op};
+pub use op::{CdbFault, Extent, Op};
 pub use state::CommandState;

@@ -34,3 +34,10 @@ pub enum CdbFault {
     #[error("byte {0} holds an invalid field")]
     Field(u8),
 }
+
+/// A range of logical blocks.
+#[derive(Clone, Copy, Debug, PartialEq, Eq)]
+pub struct Extent {
+    pub lba: u64,
+    pub count: u32,
+}
