@@ -5,9 +5,11 @@ mod blocks;
 mod checks;
 mod compare;
 mod engine;
+mod laws;
 mod replies;
 mod senses;
 mod show;
 mod unmap;
 
 pub use engine::Engine;
+pub use laws::{one_reply, one_reply_in_memory, some_reply, stays_told};

@@ -112,11 +112,13 @@ write_checks m sent bytes lba count =
 abbrev pub Calls : (Bool → MediumState → Type 0) → SenseData → List ℕ → Outcome
 Calls Call sense payload reply after = (failed : Bool) × Call failed after × (reply ≡ (if failed then refused sense else good payload))
 
--- READ: as many bytes as there are in the range and as may be answered; no call where these are none
+-- READ: some bytes
+abbrev pub ReadsSome : MediumState → ℕ → ℕ → Outcome
+ReadsSome m at n reply after = (out : List ℕ) × (length out ≡ n) × Calls (Reads at out m) unrecovered_read_error out reply after
+
+-- as many as there are in the range and as may be answered; no call where these are none
 abbrev pub ReadsBytes : MediumState → ℕ → ℕ → Outcome
-ReadsBytes m at n =
-    Either (n == 0) (Answers m (good []))
-    (λ reply after. (out : List ℕ) × (length out ≡ n) × Calls (Reads at out m) unrecovered_read_error out reply after)
+ReadsBytes m at n = Either (n == 0) (Answers m (good [])) (ReadsSome m at n)
 
 abbrev pub ServesRead : MediumState → ℕ → ℕ → ℕ → Outcome
 ServesRead m lba count in_len = Checked m (range_checks m.blocks lba count) (ReadsBytes m (512 * lba) (min (512 * count) in_len))
