@@ -3,6 +3,7 @@ pub mod Lists
 pub mod Lengths
 pub mod RingState
 pub mod MediumState
+pub mod Medium
 pub mod Device
 pub mod Events
 pub mod Steps
@@ -12,3 +13,6 @@ pub mod Text
 pub mod Replay
 pub mod Sound
 pub mod Work
+pub mod Decoding
+pub mod Pages
+pub mod Scsi

@@ -3,7 +3,9 @@
 #![tactic(auto)]
 
 mod lengths;
+mod op;
 mod state;
 
 pub use lengths::{blocks_of, entry_length, tmr_length};
+pub use op::{CdbFault, Extent, Op};
 pub use state::CommandState;
