@@ -1,0 +1,9 @@
+pub mod Reading
+pub mod Words
+pub mod Fields
+pub mod Config
+pub mod Lines
+pub mod ScenarioData
+pub mod Said
+pub mod Scenario
+pub mod Script
