@@ -1,3 +1,13 @@
+pub mod States
+pub mod Lists
+pub mod Lengths
+pub mod RingState
+pub mod MediumState
+pub mod Device
+pub mod Events
+pub mod Steps
+pub mod Drain
+pub mod BlockLists
 pub mod Reading
 pub mod Words
 pub mod Fields

@@ -1,8 +1,13 @@
-//! The definitions that the contracts of several crates cite, and the code types that these definitions speak of.
+//! The abstract SCSI device of TCMU, the scenario language, and the definitions round them. They stand in specs/, where the contracts of every crate cite
+//! them; here are the code types that they cite and the plain functions that compute with them.
 #![tactic(auto)]
 
 mod faults;
+mod lengths;
+mod state;
 mod words;
 
 pub use faults::{ConfigFault, Why};
+pub use lengths::{blocks_of, entry_length, tmr_length};
+pub use state::CommandState;
 pub use words::{Subtype, Verb};

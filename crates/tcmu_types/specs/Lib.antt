@@ -5,3 +5,4 @@ pub mod SenseBytes
 pub mod Events
 pub mod Views
 pub mod Dumps
+pub mod Numbered
