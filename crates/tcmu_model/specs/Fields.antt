@@ -4,9 +4,34 @@ use Rattle.std.specs.List.{slice_split, flat_map, list_all, position}
 use Rattle.std.specs.Option.{option_and_then, option_map}
 use Rattle.std.specs.Str.Parse.{digits_value}
 use Rattle.tcmu_types.specs.Naming.{is_name}
-use Rattle.tcmu_types.specs.Rules.{wanted_length}
+use Rattle.tcmu_types.specs.Rules.{group_length}
 use Rattle.tcmu_types.specs.declared.settings.Flags.{Flags}
 use Rattle.tcmu_model.specs.Reading.{each}
+
+-- ---- characters
+
+abbrev pub line_feed : ℕ
+line_feed = 10
+
+abbrev pub hash : ℕ
+hash = 35
+
+abbrev pub star : ℕ
+star = 42
+
+abbrev pub plus : ℕ
+plus = 43
+
+abbrev pub comma : ℕ
+comma = 44
+
+abbrev pub slash : ℕ
+slash = 47
+
+abbrev pub colon : ℕ
+colon = 58
+
+-- ---- texts
 
 -- what passes a test
 abbrev pub only_if : {A : Type 0} → (A → Bool) → A → Option A
@@ -67,7 +92,7 @@ bytes_of_hex (a ∷ []) = None
 bytes_of_hex (a ∷ b ∷ rest) = option_and_then (λ x. option_map (λ xs. x ∷ xs) (bytes_of_hex rest)) (hex_pair a b)
 
 abbrev pub is_cdb : List ℕ → Bool
-is_cdb bytes = nat_lt 0 (length bytes) && (length bytes == wanted_length bytes)
+is_cdb bytes = nat_lt 0 (length bytes) && (length bytes == group_length (slice_index bytes 0))
 
 unfoldable pub cdb_of : List ℕ → Option (List ℕ)
 cdb_of text = option_and_then (only_if is_cdb) (bytes_of_hex text)
@@ -76,11 +101,11 @@ cdb_of text = option_and_then (only_if is_cdb) (bytes_of_hex text)
 abbrev pub run_of : List ℕ → Option (List ℕ)
 run_of text =
     if nat_lt (length text) 3 then None
-    else (if slice_index text 2 == 42 then option_and_then (λ x. option_map (λ n. replicate n x) (number_of 1 1048576 (drop 3 text))) (hex_pair (slice_index text 0) (slice_index text 1)) else None)
+    else (if slice_index text 2 == star then option_and_then (λ x. option_map (λ n. replicate n x) (number_of 1 1048576 (drop 3 text))) (hex_pair (slice_index text 0) (slice_index text 1)) else None)
 
 -- runs joined by commas, at most 1,048,576 bytes in all
 unfoldable pub runs_of : List ℕ → Option (List ℕ)
-runs_of text = option_and_then (λ runs. only_if (λ bytes. nat_le (length bytes) 1048576) (flat_map (λ r. r) runs)) (each run_of (pieces 44 text))
+runs_of text = option_and_then (λ runs. only_if (λ bytes. nat_le (length bytes) 1048576) (flat_map (λ r. r) runs)) (each run_of (pieces comma text))
 
 -- ---- flags
 
@@ -99,8 +124,8 @@ with_flags f [] = Some f
 with_flags f (word ∷ words) = option_and_then (λ g. with_flags g words) (with_flag f word)
 
 unfoldable pub flags_of : List ℕ → Option Flags
-flags_of text = if bytes_eq text (codes "none") then Some no_flags else with_flags no_flags (pieces 44 text)
+flags_of text = if bytes_eq text (codes "none") then Some no_flags else with_flags no_flags (pieces comma text)
 
 -- `none`, or rising serials
 unfoldable pub serials_of : List ℕ → Option (List ℕ)
-serials_of text = if bytes_eq text (codes "none") then Some [] else rising_of 44 1000000000 text
+serials_of text = if bytes_eq text (codes "none") then Some [] else rising_of comma 1000000000 text

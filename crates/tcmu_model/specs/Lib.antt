@@ -17,3 +17,4 @@ pub mod ScenarioData
 pub mod Said
 pub mod Scenario
 pub mod Script
+pub mod ScenarioRules

@@ -2,7 +2,7 @@
 use Rattle.std.specs.Prelude.{ℕ, Bool, ◌&&◌, ◌||◌, List, [], ◌∷◌, length, Option, Some, None, nat_lt, nat_le, ◌==◌, codes}
 use Rattle.std.specs.List.{slice_split, filter, before_first}
 use Rattle.std.specs.Option.{option_and_then, option_map}
-use Rattle.tcmu_model.specs.Fields.{after_word}
+use Rattle.tcmu_model.specs.Fields.{hash, after_word}
 
 abbrev pub is_blank : ℕ → Bool
 is_blank b = (b == 9) || (b == 13) || (b == 32)
@@ -12,7 +12,7 @@ is_allowed b = is_blank b || (nat_le 33 b && nat_le b 126)
 
 -- the part before the first `#`
 unfoldable pub before_hash : List ℕ → List ℕ
-before_hash text = before_first (λ b. b == 35) text
+before_hash text = before_first (λ b. b == hash) text
 
 -- the fields of that part
 unfoldable pub fields_of : List ℕ → List (List ℕ)

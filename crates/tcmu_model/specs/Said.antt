@@ -1,13 +1,13 @@
 -- What a line says, by its fields from left to right, behind the devices that are there.
-use Rattle.std.specs.Prelude.{ℕ, ◌*◌, ◌%◌, Bool, true, false, ◌&&◌, not, List, [], length, Option, Some, None, Result, Ok, Err, nat_le, ◌==◌, if◌then◌else◌, bytes_eq}
+use Rattle.std.specs.Prelude.{ℕ, ◌*◌, ◌%◌, Bool, false, ◌&&◌, not, List, [], Option, Some, None, Result, Ok, Err, nat_le, ◌==◌, bytes_eq}
 use Rattle.std.specs.List.{list_any, position}
-use Rattle.std.specs.Option.{option_and_then, option_map}
+use Rattle.std.specs.Option.{option_and_then, option_map, ok_or}
 use Rattle.tcmu_types.specs.Naming.{is_name}
-use Rattle.tcmu_types.specs.Data.{CommandData, SettingsData}
+use Rattle.tcmu_types.specs.Data.{SettingsData}
 use Rattle.tcmu_types.specs.Rules.{is_directed}
 use Rattle.tcmu_types.specs.Events.{EventData}
 use Rattle.tcmu_types.specs.Events as ev
-use Rattle.tcmu_model.specs.Reading.{◌>>=◌, or_fault}
+use Rattle.tcmu_model.specs.Reading.{◌>>=◌}
 use Rattle.tcmu_model.specs.Fields.{name_of, number_of, cdb_of, runs_of, flags_of, serials_of, only_if}
 use Rattle.tcmu_model.specs.Config.{ConfigData, MediumData, InMemory, InFile, config_of}
 use Rattle.tcmu_model.specs.Lines.{one_field, two_fields, three_fields, submit_fields, PayloadField, NoPayload, InBytes, OutRuns, DeviceFields, device_fields}
@@ -61,19 +61,19 @@ pages_of blocks (Some text) = option_and_then (only_if (λ p. nat_le (blocks * p
 
 unfoldable pub settings_of : DeviceFields → Result SettingsData Why
 settings_of f = do
-  ring ← or_fault why.Number (ring_of f.ring)
-  blocks ← or_fault why.Number (number_of 1 4096 f.blocks)
-  flags ← or_fault why.Flags (flags_of f.flags)
-  timeout ← or_fault why.Number (number_of 0 1000000 f.timeout)
-  qfull ← or_fault why.Number (qfull_of f.last.qfull)
-  pages ← or_fault why.Number (pages_of blocks f.last.pages)
+  ring ← ok_or (ring_of f.ring) why.Number
+  blocks ← ok_or (number_of 1 4096 f.blocks) why.Number
+  flags ← ok_or (flags_of f.flags) why.Flags
+  timeout ← ok_or (number_of 0 1000000 f.timeout) why.Number
+  qfull ← ok_or (qfull_of f.last.qfull) why.Number
+  pages ← ok_or (pages_of blocks f.last.pages) why.Number
   Ok (record { ring = ring; blocks = blocks; flags = flags; timeout = timeout; qfull = qfull; pages = pages })
 
 -- the bytes that go out, and how many come in
 abbrev pub payload_of : PayloadField → Result (List ℕ × ℕ) Why
 payload_of NoPayload = Ok ([], 0)
-payload_of (InBytes text) = or_fault why.Number (option_map (λ n. ([], n)) (number_of 0 1048576 text))
-payload_of (OutRuns text) = or_fault why.Runs (option_map (λ bytes. (bytes, 0)) (runs_of text))
+payload_of (InBytes text) = ok_or (option_map (λ n. ([], n)) (number_of 0 1048576 text)) why.Number
+payload_of (OutRuns text) = ok_or (option_map (λ bytes. (bytes, 0)) (runs_of text)) why.Runs
 
 -- ---- what a line says, by its fields from left to right
 
@@ -83,36 +83,36 @@ pub data Said : Type 0 where
 
 unfoldable pub device_line : ScenarioData → List (List ℕ) → Result Said Why
 device_line s fields = do
-  f ← or_fault why.Fields (device_fields fields)
-  name ← or_fault why.Name (new_name s f.name)
-  config ← or_fault why.Config (device_config s name f.config)
+  f ← ok_or (device_fields fields) why.Fields
+  name ← ok_or (new_name s f.name) why.Name
+  config ← ok_or (device_config s name f.config) why.Config
   settings ← settings_of f
   Ok (Opens (record { name = name; config = config; settings = settings }))
 
 unfoldable pub submit_line : ScenarioData → List (List ℕ) → Result Said Why
 submit_line s fields = do
-  f ← or_fault why.Fields (submit_fields fields)
-  at ← or_fault why.Name (device_at s f.name)
-  init ← or_fault why.Init (name_of f.init)
-  tag ← or_fault why.Number (number_of 0 4294967295 f.tag)
-  cdb ← or_fault why.Cdb (cdb_of f.cdb)
+  f ← ok_or (submit_fields fields) why.Fields
+  at ← ok_or (device_at s f.name) why.Name
+  init ← ok_or (name_of f.init) why.Init
+  tag ← ok_or (number_of 0 4294967295 f.tag) why.Number
+  cdb ← ok_or (cdb_of f.cdb) why.Cdb
   payload ← payload_of f.payload
-  command ← or_fault why.Direction (only_if is_directed (record { init = init; tag = tag; cdb = cdb; sent = payload.0; in_len = payload.1 }))
+  command ← ok_or (only_if is_directed (record { init = init; tag = tag; cdb = cdb; sent = payload.0; in_len = payload.1 })) why.Direction
   Ok (Adds (record { device = at; what = Makes (ev.Submit command) }))
 
 -- NAME alone
 unfoldable pub plain_line : ScenarioData → LineWhat → List (List ℕ) → Result Said Why
 plain_line s what fields = do
-  name ← or_fault why.Fields (one_field fields)
-  at ← or_fault why.Name (device_at s name)
+  name ← ok_or (one_field fields) why.Fields
+  at ← ok_or (device_at s name) why.Name
   Ok (Adds (record { device = at; what = what }))
 
 -- NAME and a number within its limits
 unfoldable pub number_at : ScenarioData → ℕ → ℕ → List (List ℕ) → Result (ℕ × ℕ) Why
 number_at s low high fields = do
-  f ← or_fault why.Fields (two_fields fields)
-  at ← or_fault why.Name (device_at s f.0)
-  n ← or_fault why.Number (number_of low high f.1)
+  f ← ok_or (two_fields fields) why.Fields
+  at ← ok_or (device_at s f.0) why.Name
+  n ← ok_or (number_of low high f.1) why.Number
   Ok (at, n)
 
 abbrev pub number_line : ScenarioData → ℕ → ℕ → (ℕ → EventData) → List (List ℕ) → Result Said Why
@@ -122,10 +122,10 @@ number_line s low high event fields = do
 
 unfoldable pub tmr_line : ScenarioData → List (List ℕ) → Result Said Why
 tmr_line s fields = do
-  f ← or_fault why.Fields (three_fields fields)
-  at ← or_fault why.Name (device_at s f.0)
-  kind ← or_fault why.Number (number_of 1 7 f.1)
-  serials ← or_fault why.Number (serials_of f.2)
+  f ← ok_or (three_fields fields) why.Fields
+  at ← ok_or (device_at s f.0) why.Name
+  kind ← ok_or (number_of 1 7 f.1) why.Number
+  serials ← ok_or (serials_of f.2) why.Number
   Ok (Adds (record { device = at; what = Makes (ev.Tmr kind serials) }))
 
 unfoldable pub said_by : ScenarioData → Verb → List (List ℕ) → Result Said Why

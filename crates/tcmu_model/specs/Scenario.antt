@@ -1,13 +1,14 @@
 -- Which bytes are a scenario, what they say, and why others are none.
-use Rattle.std.specs.Prelude.{ℕ, ◌+◌, ◌*◌, Bool, true, false, ◌&&◌, ◌||◌, not, List, [], ◌∷◌, ◌++◌, length, Option, Some, None, Result, Ok, Err, nat_lt, nat_le, ◌==◌, if◌then◌else◌, bytes_eq, slice_get, slice_index}
+use Rattle.std.specs.Prelude.{ℕ, ◌+◌, ◌*◌, Bool, true, false, ◌&&◌, ◌||◌, not, List, [], ◌∷◌, ◌++◌, length, Some, None, Result, Ok, Err, nat_lt, nat_le, ◌==◌, if◌then◌else◌, bytes_eq, slice_get, slice_index}
+use Rattle.std.specs.Option.{ok_or}
 use Rattle.std.specs.List.{list_any, list_all, sum_by, count_by}
 use Rattle.tcmu_types.specs.Data.{SettingsData}
-use Rattle.tcmu_model.specs.Reading.{◌>>=◌, or_fault}
-use Rattle.tcmu_model.specs.Fields.{pieces}
-use Rattle.tcmu_model.specs.Config.{ConfigData, MediumData, InMemory, InFile}
+use Rattle.tcmu_model.specs.Reading.{◌>>=◌}
+use Rattle.tcmu_model.specs.Fields.{line_feed, pieces}
+use Rattle.tcmu_model.specs.Config.{ConfigData, InMemory, InFile}
 use Rattle.tcmu_model.specs.Words.{verb_of}
 use Rattle.tcmu_model.specs.Lines.{before_hash, fields_of, is_allowed}
-use Rattle.tcmu_model.specs.ScenarioData.{DeviceLineData, LineWhat, Makes, Drains, Dumps, LineData, ScenarioData, command_of}
+use Rattle.tcmu_model.specs.ScenarioData.{DeviceLineData, Makes, Drains, Dumps, LineData, ScenarioData, command_of}
 use Rattle.tcmu_model.specs.Said.{Said, Opens, Adds, said_by}
 use Rattle.tcmu_model.specs.declared.faults.Why.{Why}
 use Rattle.tcmu_model.specs.declared.faults.Why.TheVariants as why
@@ -103,7 +104,7 @@ with_said s said = do
 unfoldable pub with_fields : ScenarioData → List (List ℕ) → Result ScenarioData Why
 with_fields s [] = Ok s
 with_fields s (word ∷ fields) = do
-  verb ← or_fault why.Verb (verb_of word)
+  verb ← ok_or (verb_of word) why.Verb
   said ← said_by s verb fields
   with_said s said
 
@@ -131,4 +132,4 @@ nothing_yet = record { devices = []; lines = [] }
 unfoldable pub scenario_of : List ℕ → Result ScenarioData Bad
 scenario_of bytes =
     if nat_lt 4194304 (length bytes) then Err (record { line = 0; why = why.TooLong })
-    else with_lines 1 nothing_yet (pieces 10 bytes)
+    else with_lines 1 nothing_yet (pieces line_feed bytes)
