@@ -23,3 +23,8 @@ pub mod Facts
 pub mod Accounts
 pub mod Drained
 pub mod DrainEnds
+pub mod Readings
+pub mod ConfigLaws
+pub mod SaidLaws
+pub mod ScenarioLaws
+pub mod ScriptLaws

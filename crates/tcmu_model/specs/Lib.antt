@@ -16,3 +16,13 @@ pub mod Work
 pub mod Decoding
 pub mod Pages
 pub mod Scsi
+pub mod Reading
+pub mod Words
+pub mod Fields
+pub mod Config
+pub mod Lines
+pub mod ScenarioData
+pub mod Said
+pub mod Scenario
+pub mod Script
+pub mod ScenarioRules
