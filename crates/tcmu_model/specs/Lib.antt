@@ -8,3 +8,7 @@ pub mod Events
 pub mod Steps
 pub mod Drain
 pub mod BlockLists
+pub mod Layout
+pub mod MailboxReading
+pub mod EntryReading
+pub mod Iovecs
