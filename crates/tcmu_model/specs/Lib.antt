@@ -26,3 +26,7 @@ pub mod Said
 pub mod Scenario
 pub mod Script
 pub mod ScenarioRules
+pub mod Layout
+pub mod MailboxReading
+pub mod EntryReading
+pub mod Iovecs
