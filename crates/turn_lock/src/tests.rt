@@ -1,9 +1,7 @@
 //! A turn in one thread, over a list of numbers that are at most a limit.
-ghost use Rattle.std.specs.Prelude.{◌≡◌, ◌<◌, ◌≤◌, [], ◌∷◌, vec_len};
-ghost use Rattle.turn_lock.specs.Told.{FitsNumber};
+ghost use Rattle.std.specs.Prelude.{◌≡◌, ◌<◌, ◌≤◌, [], ◌∷◌, MatchBool};
 
 use super::*;
-use std::alloc::Global;
 use std::test::Fail;
 use tcmu_types::NoMemory;
 
@@ -29,7 +27,7 @@ impl Stepped for Numbers {
 
     ghost makes_entry = { λ told. told };
 
-    ghost fits = { λ limit _ ask told added. FitsNumber limit ask told added };
+    ghost fits = { λ limit _ ask told added. MatchBool told ((ask ≤ limit) × (added ≡ ask ∷ [])) ((limit < ask) × (added ≡ [])) };
 
     fn length(&self) -> u64 {
         self.taken.len() as u64
@@ -60,5 +58,6 @@ fn passes_ask_one_after_another(rt: HostRuntime) -> Result<(), Fail> {
     turn.join(&mut pass, other);
     let numbers = turn.close(pass);
     assert_eq!(rt; numbers.taken.as_slice(), [4, 6].as_slice());
+    receipts_last::<Numbers>();
     Ok(())
 }
