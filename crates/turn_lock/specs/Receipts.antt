@@ -18,6 +18,10 @@ module _ {A T : Type 0} where
   abbrev pub AllBelow : ℕ → List (Receipt A T) → Type 0
   AllBelow number receipts = Every (λ r. r.number < number) receipts
 
+  -- the number is above what was seen, and above the numbers of all these receipts
+  abbrev pub IsAbove : ℕ → ℕ → List (Receipt A T) → Type 0
+  IsAbove number seen receipts = (seen < number) × AllBelow number receipts
+
   module _ (makes_entry : T → Bool) where
     -- 1 where the receipt tells that entry k was made
     abbrev pub tells_of : ℕ → Receipt A T → ℕ

@@ -1,4 +1,5 @@
-//! A turn: one value that many threads ask, one at a time and in the order in which they came, and the one history of what it was asked.
+//! A turn: one value that many threads ask, one at a time and in the order in which they came, and the one history of
+//! what they made. It is a ticket lock whose passes know what they were told.
 #![tactic(auto)]
 
 mod laws;

@@ -37,6 +37,7 @@ pub trait Stepped: Drop {
     /// Makes one ask. Want of memory appends nothing.
     fn ask(&mut self, ask: &Self::Ask) -> Result<Self::Told, NoMemory>
         ensures script { script self.new ≡ script self.old }
-        ensures told { IfOk result (λ told. Appends makes_entry (fits (script self.old)) (history self.old) ask.now told (history self.new)) }
+        ensures told { IfOk result (λ told.
+            Appends makes_entry (fits (script self.old)) (history self.old) ask.now told (history self.new)) }
         ensures refused { OnErr result (history self.new ≡ history self.old) };
 }

@@ -1,7 +1,7 @@
 //! The turn, and the passes of those who take it.
-ghost use Rattle.std.specs.Prelude.{◌≡◌, ◌+◌, ◌-◌, ◌<◌, ◌≤◌, ◌++◌, [], ◌∷◌, true, max, length, IfOk, OnErr};
+ghost use Rattle.std.specs.Prelude.{◌≡◌, ◌+◌, ◌-◌, ◌<◌, ◌≤◌, ◌++◌, [], ◌∷◌, max, length, IsTrue, IfOk, OnErr};
 ghost use Rattle.turn_lock.specs.Lists.{Every, EachOnce};
-ghost use Rattle.turn_lock.specs.Receipts.{receipt_of, times, AllBelow, NoneTwice, FitsAt};
+ghost use Rattle.turn_lock.specs.Receipts.{receipt_of, times, IsAbove, NoneTwice, FitsAt};
 ghost use mathlib.Core.List.{IsPrefix};
 ghost use Rattle.turn_lock.specs.Steps.{IsIdle, IsQueued, KeepsReceipts, HasTurn, Takes, IsUncounted, IsNote, Receives};
 
@@ -50,7 +50,12 @@ impl<K: Stepped> Model for Turn<K> {
 
     ghost Value = { TurnData K.Script K.Entry };
 
-    ghost view = { λ t. record { turn = t.table.shared.table_id; parts = t.table.shared.key.parts; script = K.script t.table.shared.key.value.value; begun = K.history t.table.shared.key.value.value } };
+    ghost view = { λ t. record {
+      turn = t.table.shared.table_id;
+      parts = t.table.shared.key.parts;
+      script = K.script t.table.shared.key.value.value;
+      begun = K.history t.table.shared.key.value.value;
+    } };
 
     ghost invariant = { λ t. (t.table.shared.table_id.words ≡ 3) × (t.table.shared.table_id.slots ≡ 1) };
 }
@@ -68,7 +73,12 @@ impl<K: Stepped> Model for Pass<K> {
 
     ghost Value = { PassData K.Ask K.Told };
 
-    ghost view = { λ p. record { turn = p.seat.table_id; parts = p.seat.me.0.parts; seen = p.seat.me.0.seen; receipts = p.seat.me.0.receipts } };
+    ghost view = { λ p. record {
+      turn = p.seat.table_id;
+      parts = p.seat.me.0.parts;
+      seen = p.seat.me.0.seen;
+      receipts = p.seat.me.0.receipts;
+    } };
 
     ghost invariant = { λ p. IsIdle p.seat.me };
 }
@@ -77,8 +87,18 @@ impl<K: Stepped> Turn<K> {
     /// Puts the value behind a turn. The pass has all parts and no receipt. Where there is no memory the value is dropped.
     pub fn start(alloc: Global, value: K, parts: u32) -> Result<(Turn<K>, Pass<K>), NoMemory>
         requires { 1 ≤ parts }
-        ensures turn { IfOk result (λ r. r.0 ≡ record { turn = r.0.turn; parts = parts; script = K.script value; begun = K.history value }) }
-        ensures pass { IfOk result (λ r. r.1 ≡ record { turn = r.0.turn; parts = parts; seen = length (K.history value); receipts = [] }) }
+        ensures turn { IfOk result (λ r. r.0 ≡ record {
+          turn = r.0.turn;
+          parts = parts;
+          script = K.script value;
+          begun = K.history value;
+        }) }
+        ensures pass { IfOk result (λ r. r.1 ≡ record {
+          turn = r.0.turn;
+          parts = parts;
+          seen = length (K.history value);
+          receipts = [];
+        }) }
     {
         let words = [0, 0, value.length()];
         let opening = Opening {
@@ -101,7 +121,7 @@ impl<K: Stepped> Turn<K> {
         requires own { pass.old.turn ≡ self.now.turn }
         requires parts { 2 ≤ pass.old.parts }
         ensures rest { pass.new ≡ record pass.old { parts = pass.old.parts - 1 } }
-        ensures split { result ≡ record { turn = pass.old.turn; parts = 1; seen = pass.old.seen; receipts = [] } }
+        ensures split { result ≡ record pass.old { parts = 1; receipts = [] } }
     {
         let seat = self.table.shared.split_seat::<Parts>(&mut pass.seat);
         Pass { seat }
@@ -111,7 +131,11 @@ impl<K: Stepped> Turn<K> {
     pub fn join(&self, pass: &mut Pass<K>, other: Pass<K>)
         requires own { pass.old.turn ≡ self.now.turn }
         requires other { other.turn ≡ self.now.turn }
-        ensures both { pass.new ≡ record { turn = pass.old.turn; parts = pass.old.parts + other.parts; seen = max pass.old.seen other.seen; receipts = pass.old.receipts ++ other.receipts } }
+        ensures both { pass.new ≡ record pass.old {
+          parts = pass.old.parts + other.parts;
+          seen = max pass.old.seen other.seen;
+          receipts = pass.old.receipts ++ other.receipts;
+        } }
         ensures none_twice { NoneTwice K.makes_entry pass.new.receipts }
     {
         let Pass { seat } = other;
@@ -129,11 +153,13 @@ impl<K: Stepped> Turn<K> {
         ask: &K::Ask,
     ) -> (Result<K::Told, NoMemory>, u64)
         requires { pass.old.turn ≡ self.now.turn }
-        ensures pass { (pass.new.turn ≡ pass.old.turn) × (pass.new.parts ≡ pass.old.parts) × (pass.new.seen ≡ result.1) }
-        ensures later { pass.old.seen ≤ result.1 }
-        ensures told { IfOk result.0 (λ told. pass.new.receipts ≡ pass.old.receipts ++ receipt_of result.1 ask.now told ∷ []) }
+        ensures same { (pass.new.turn ≡ pass.old.turn) × (pass.new.parts ≡ pass.old.parts) }
+        ensures seen { (pass.new.seen ≡ result.1) × (pass.old.seen ≤ result.1) }
+        ensures told { IfOk result.0 (λ told.
+            pass.new.receipts ≡ pass.old.receipts ++ receipt_of result.1 ask.now told ∷ []) }
         ensures refused { OnErr result.0 (pass.new.receipts ≡ pass.old.receipts) }
-        ensures rises { IfOk result.0 (λ told. K.makes_entry told ≡ true → (pass.old.seen < result.1) × AllBelow result.1 pass.old.receipts) }
+        ensures rises { IfOk result.0 (λ told.
+            IsTrue (K.makes_entry told) → IsAbove result.1 pass.old.seen pass.old.receipts) }
         ensures none_twice { NoneTwice K.makes_entry pass.new.receipts }
     {
         let desk = &self.table.shared;
@@ -151,7 +177,8 @@ impl<K: Stepped> Turn<K> {
         ensures begun { IsPrefix self.begun (K.history result) }
         ensures longer { pass.seen ≤ length (K.history result) }
         ensures fitting { Every (FitsAt K.makes_entry K.fits self.script (K.history result)) pass.receipts }
-        ensures each_once { EachOnce (length self.begun + 1) (length (K.history result) + 1) (λ k. times K.makes_entry k pass.receipts) }
+        ensures each_once { EachOnce (length self.begun + 1) (length (K.history result) + 1)
+            (λ k. times K.makes_entry k pass.receipts) }
     {
         let Pass { seat } = pass;
         let Turn { table } = self;
@@ -200,7 +227,8 @@ fn serve<K: Stepped>(
     ensures same { (seat.new.table_id ≡ seat.old.table_id) × (seat.new.id ≡ seat.old.id) }
     ensures idle { IsIdle seat.new.me }
     ensures receives { Receives seat.old.me seat.new.me ask.now result.0 result.1 }
-    ensures rises { IfOk result.0 (λ told. K.makes_entry told ≡ true → (seat.old.me.0.seen < result.1) × AllBelow result.1 seat.old.me.0.receipts) }
+    ensures rises { IfOk result.0 (λ told.
+        IsTrue (K.makes_entry told) → IsAbove result.1 seat.old.me.0.seen seat.old.me.0.receipts) }
     ensures none_twice { NoneTwice K.makes_entry seat.new.me.0.receipts }
 {
     let (told, appended, length) = ask_value(desk, seat, ask);
@@ -222,7 +250,7 @@ fn ask_value<K: Stepped>(
     ensures kept { seat.new.me.0 ≡ seat.old.me.0 }
     ensures asked { IsUncounted K.script K.history K.makes_entry K.fits seat.new.me ask.now result.0 result.2 }
     ensures grown { seat.old.me.0.seen + result.1 ≡ result.2 }
-    ensures rises { IfOk result.0 (λ told. K.makes_entry told ≡ true → seat.old.me.0.seen < result.2) }
+    ensures rises { IfOk result.0 (λ told. IsTrue (K.makes_entry told) → seat.old.me.0.seen < result.2) }
 {
     let empty = Slot {
         value: None,
