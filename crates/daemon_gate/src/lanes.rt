@@ -83,7 +83,9 @@ where
         thread::scope_env(),
         rt,
         move |scope| -> Vec<L::Done>
-            requires { All (L.ready about.now) lanes.items × (vec_len running ≡ 0) × (vec_len lanes ≤ vec_capacity running) × (vec_len dones ≡ 0) × (vec_len lanes ≤ vec_capacity dones) }
+            requires { All (L.ready about.now) lanes.items
+                × (vec_len running ≡ 0) × (vec_len lanes ≤ vec_capacity running)
+                × (vec_len dones ≡ 0) × (vec_len lanes ≤ vec_capacity dones) }
             ensures { (vec_len result ≡ vec_len lanes) × All (L.done about.entry.now) result.items }
         {
             let (running, dones) = start_all(rt, scope, about, lanes, running, dones);

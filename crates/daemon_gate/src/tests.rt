@@ -32,10 +32,8 @@ impl Stepped for Numbers {
     ghost makes_entry = { λ told. told };
 
     // a number up to the limit is taken, and another is not
-    ghost fits = {
-        λ limit _ ask told added.
-            MatchBool told ((ask ≤ limit) × (added ≡ ask ∷ [])) ((limit < ask) × (added ≡ []))
-    };
+    ghost fits = { λ limit _ ask told added.
+        MatchBool told ((ask ≤ limit) × (added ≡ ask ∷ [])) ((limit < ask) × (added ≡ [])) };
 
     fn length(&self) -> u64 {
         self.taken.len() as u64

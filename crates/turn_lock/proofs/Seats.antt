@@ -6,7 +6,7 @@ use mathlib.Core.Option.{some, some-injective, some-ne-none}
 use native.Mathlib.Decide.{ℕ_discrete}
 use lib.ListN.{get_elem?}
 use Rattle.std.specs.Prelude.{IsSome}
-use Rattle.atomic_table.specs.Table.{State, opening, Final, Seen, Splits, Joins}
+use Rattle.atomic_table.specs.Table.{opening, Final, Seen, Splits, Joins}
 use Rattle.atomic_table.proofs.Lists.{at_snoc, set_else}
 use Rattle.turn_lock.specs.declared.rule.View.{View}
 use Rattle.turn_lock.specs.declared.rule.Receipt.{Receipt}
@@ -19,12 +19,16 @@ use Rattle.turn_lock.proofs.Sums.{total-append, total-set, terms_le, total-zero,
 use Rattle.turn_lock.proofs.Views.{no_ticket, one_if-off, some_same, each_set}
 use Rattle.turn_lock.proofs.Asking.{same_ticket}
 
-module _ {K S E A T : Type 0} (script : K → S) (history : K → List E) (makes_entry : T → Bool) (fits : S → List E → A → T → List E → Type 0) (first : K) (parts : ℕ) where
-  abbrev Rule : State (Slot K A T) (View K E A T) → Type 0
-  Rule = IsOrderly script history makes_entry fits first parts
+-- what is known of the history at the end, and of the pass that has all parts
+pub record IsEnd {K S E A T : Type 0} (script : K → S) (history : K → List E) (makes_entry : T → Bool) (fits : S → List E → A → T → List E → Type 0) (first : K) (now : List E) (v : View K E A T) : Type 0 where
+  pub begun : IsPrefix (history first) now
+  pub longer : v.seen ≤ length now
+  pub fitting : Every (FitsAt makes_entry fits (script first) now) v.receipts
+  pub each_once : EachOnce (length (history first) + 1) (length now + 1) (λ k. times makes_entry k v.receipts)
 
+module _ {K S E A T : Type 0} {script : K → S} {history : K → List E} {makes_entry : T → Bool} {fits : S → List E → A → T → List E → Type 0} {first : K} {parts : ℕ} where
   pub opens : (ws : List ℕ) (xs : List (Slot K A T)) (n : ℕ) → ws ≡ 0 ∷ 0 ∷ n ∷ [] → xs ≡ slot_of (Some first) None ∷ [] → length (history first) ≡ n → 0 < parts → parts < 2 ^ 32
-      → Rule (opening ws xs (first_view first parts (length (history first))))
+      → IsOrderly script history makes_entry fits first parts (opening ws xs (first_view first parts (length (history first))))
   opens ws xs n words slots long live few =
       let v : View K E A T = first_view first parts (length (history first)) in
       record {
@@ -44,7 +48,7 @@ module _ {K S E A T : Type 0} (script : K → S) (history : K → List E) (makes
         out = λ z. absurd (omega arith);
       }
 
-  pub splits : (id : ℕ) (v : View K E A T) → 1 < v.parts → v.ticket ≡ None → v.holds ≡ false → Splits Rule id v (one_less v) (one_part v)
+  pub splits : (id : ℕ) (v : View K E A T) → 1 < v.parts → v.ticket ≡ None → v.holds ≡ false → Splits (IsOrderly script history makes_entry fits first parts) id v (one_less v) (one_part v)
   splits id v parts bare idle s o me =
       let left = one_less v in
       let right = one_part v in
@@ -78,7 +82,7 @@ module _ {K S E A T : Type 0} (script : K → S) (history : K → List E) (makes
       }
 
   pub joins : (id : ℕ) (v : View K E A T) (other : ℕ) (w : View K E A T) → 0 < v.parts → v.ticket ≡ None → v.holds ≡ false → 0 < w.parts → w.ticket ≡ None → w.holds ≡ false
-      → Joins Rule id v other w (joined_view v w) spent_view
+      → Joins (IsOrderly script history makes_entry fits first parts) id v other w (joined_view v w) spent_view
   joins id v other w live bare idle live' bare' idle' s o me apart them =
       let both = joined_view v w in
       let f = o.each id v me in
@@ -118,16 +122,9 @@ module _ {K S E A T : Type 0} (script : K → S) (history : K → List E) (makes
         out = λ z. o.out (omega arith);
       }
 
-  -- what is known of the history at the end, and of the pass that has all parts
-  pub record IsEnd (now : List E) (v : View K E A T) : Type 0 where
-    pub begun : IsPrefix (history first) now
-    pub longer : v.seen ≤ length now
-    pub fitting : Every (FitsAt makes_entry fits (script first) now) v.receipts
-    pub each_once : EachOnce (length (history first) + 1) (length now + 1) (λ k. times makes_entry k v.receipts)
-
   -- at the end the pass that has all parts is the only one that is not spent, so the slot is at home
-  pub closes : (ws : List ℕ) (xs : List (Slot K A T)) (id : ℕ) (v : View K E A T) → Final (Seen Rule id v) ws xs → v.parts ≡ parts → 0 < v.parts → v.holds ≡ false → (slot : Slot K A T) → get_elem? xs 0 ≡ some slot
-      → (value : K) × (slot.value ≡ Some value) × (script value ≡ script first) × IsEnd (history value) v
+  pub closes : (ws : List ℕ) (xs : List (Slot K A T)) (id : ℕ) (v : View K E A T) → Final (Seen (IsOrderly script history makes_entry fits first parts) id v) ws xs → v.parts ≡ parts → 0 < v.parts → v.holds ≡ false → (slot : Slot K A T) → get_elem? xs 0 ≡ some slot
+      → (value : K) × (slot.value ≡ Some value) × (script value ≡ script first) × IsEnd script history makes_entry fits first (history value) v
   closes ws xs id v h all live idle slot at =
       let s = h.0 in
       let o = h.1.0 in
@@ -143,7 +140,7 @@ module _ {K S E A T : Type 0} (script : K → S) (history : K → List E) (makes
         home.0,
         ap (λ (p : Slot K A T). p.value) (some-injective _ _ (sym at ∙ h.4 0 (slot_of (Some home.0) home.1) home.2)),
         home.3.0,
-        subst (λ (l : List E). IsEnd l v) (sym home.3.1)
+        subst (λ (l : List E). IsEnd script history makes_entry fits first l v) (sym home.3.1)
             record {
               begun = o.since;
               longer = (f.live live).1;
@@ -155,10 +152,12 @@ module _ {K S E A T : Type 0} (script : K → S) (history : K → List E) (makes
       absurd_some : (n : ℕ) → None ≡ Some n → ⊥
       absurd_some n e = cc
 
-  -- and the value that was taken out of the slot is that one
-  pub closes_with : (slot : Option K) (v : View K E A T) (out : K) → (value : K) × (slot ≡ Some value) × (script value ≡ script first) × IsEnd (history value) v → slot ≡ Some out
-      → (script out ≡ script first) × IsEnd (history out) v
-  closes_with slot v out h e = subst (λ (x : K). (script x ≡ script first) × IsEnd (history x) v) (some_same _ _ (sym h.1 ∙ e)) (h.2, h.3)
-
 pub is_some : {K : Type 0} (slot : Option K) (value : K) → slot ≡ Some value → IsSome slot
 is_some slot value e = subst IsSome (sym e) refl
+
+module _ {K S E A T : Type 0} {script : K → S} {history : K → List E} {makes_entry : T → Bool} {fits : S → List E → A → T → List E → Type 0} {first : K} where
+  -- and the value that was taken out of the slot is that one
+  pub closes_with : (slot : Option K) (v : View K E A T) (out : K) → (value : K) × (slot ≡ Some value) × (script value ≡ script first) × IsEnd script history makes_entry fits first (history value) v → slot ≡ Some out
+      → (script out ≡ script first) × IsEnd script history makes_entry fits first (history out) v
+  closes_with slot v out h e =
+      subst (λ (x : K). (script x ≡ script first) × IsEnd script history makes_entry fits first (history x) v) (some_same _ _ (sym h.1 ∙ e)) (h.2, h.3)

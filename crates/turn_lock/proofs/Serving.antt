@@ -11,7 +11,26 @@ use Rattle.turn_lock.specs.Turns.{Seated, slot_of}
 use Rattle.turn_lock.specs.Steps.{IsNote, receipts_noted, IsIdle, Receives, HasTurn, Tells, IsUncounted}
 use Rattle.turn_lock.proofs.Views.{some_same}
 
-module _ {K S E A T : Type 0} (script : K → S) (history : K → List E) where
+module _ {A T F : Type 0} where
+  -- the receipt of the note is the ask's
+  noted_is : (number : ℕ) (ask : A) (told : Result T F) (note : Option (Note A T)) → IsNote ask told note → receipts_noted number note ≡ receipts_of number ask told
+  noted_is number ask (Ok told) noted h = ap (λ (o : Option (Note A T)). receipts_noted number o) h.1 ∙ (λ i. receipt_of number (h.2 i) (h.3 i) ∷ [])
+  noted_is number ask (Err failed) noted h = ap (λ (o : Option (Note A T)). receipts_noted number o) h
+
+module _ {S E A T F : Type 0} (makes_entry : T → Bool) (fits : S → List E → A → T → List E → Type 0) where
+  -- what was appended, as the note says
+  grown : (scr : S) (before after : List E) (ask : A) (told : Result T F) (note : Option (Note A T))
+      → IfOk told (λ t. Appends makes_entry (fits scr) before ask t after) → OnErr told (after ≡ before) → IsNote ask told note
+      → (added : List E) × (after ≡ before ++ added) × Tells makes_entry fits scr before added note
+  grown scr before after ask (Ok told) noted a n is =
+      let it = is.0 in
+      let says : (t : T) → it.told.value ≡ t → (length a.0 ≡ one_if (makes_entry t)) × fits scr before ask t a.0 → (length a.0 ≡ one_if (makes_entry it.told.value)) × fits scr before it.ask.value it.told.value a.0 =
+      λ t e h. subst (λ (x : T). (length a.0 ≡ one_if (makes_entry x)) × fits scr before it.ask.value x a.0) (sym e) (subst (λ (x : A). (length a.0 ≡ one_if (makes_entry t)) × fits scr before x t a.0) (sym is.2) h) in
+      (a.0, a.1, subst (λ (o : Option (Note A T)). Tells makes_entry fits scr before a.0 o) (sym is.1) (says told is.3 (a.2, a.3)))
+  grown scr before after ask (Err failed) noted a n is =
+      ([], n ∙ sym (append-nil before), subst (λ (o : Option (Note A T)). Tells makes_entry fits scr before [] o) (sym is) refl)
+
+module _ {K S E A T : Type 0} {script : K → S} {history : K → List E} where
   -- the value that was moved out is the one that the seat had: of the length that the seat saw
   pub moved_out : (m : Seated K E A T) (out : Slot K A T) (value : K) → HasTurn script history m → m.1 ≡ (0, out) ∷ rest m.1 → out.value ≡ Some value
       → (history value ≡ m.0.kept) × (length (history value) ≡ m.0.seen) × ((opening : K) → m.0.opening ≡ Some opening → script value ≡ script opening) × (rest m.1 ≡ [])
@@ -25,32 +44,15 @@ module _ {K S E A T : Type 0} (script : K → S) (history : K → List E) where
         ap (λ (l : List (ℕ × Slot K A T)). rest l) h.slot,
       )
 
-module _ {K S E A T F : Type 0} (script : K → S) (history : K → List E) (makes_entry : T → Bool) (fits : S → List E → A → T → List E → Type 0) where
-  -- what was appended, as the note says
-  grown : (scr : S) (before after : List E) (ask : A) (told : Result T F) (note : Option (Note A T))
-      → IfOk told (λ t. Appends makes_entry (fits scr) before ask t after) → OnErr told (after ≡ before) → IsNote ask told note
-      → (added : List E) × (after ≡ before ++ added) × Tells makes_entry fits scr before added note
-  grown scr before after ask (Ok told) noted a n is =
-      let it = is.0 in
-      let says : (t : T) → it.told.value ≡ t → (length a.0 ≡ one_if (makes_entry t)) × fits scr before ask t a.0 → (length a.0 ≡ one_if (makes_entry it.told.value)) × fits scr before it.ask.value it.told.value a.0 =
-      λ t e h. subst (λ (x : T). (length a.0 ≡ one_if (makes_entry x)) × fits scr before it.ask.value x a.0) (sym e) (subst (λ (x : A). (length a.0 ≡ one_if (makes_entry t)) × fits scr before x t a.0) (sym is.2) h) in
-      (a.0, a.1, subst (λ (o : Option (Note A T)). Tells makes_entry fits scr before a.0 o) (sym is.1) (says told is.3 (a.2, a.3)))
-  grown scr before after ask (Err failed) noted a n is =
-      ([], n ∙ sym (append-nil before), subst (λ (o : Option (Note A T)). Tells makes_entry fits scr before [] o) (sym is) refl)
-
-  -- the receipt of the note is the ask's
-  noted_is : (number : ℕ) (ask : A) (told : Result T F) (note : Option (Note A T)) → IsNote ask told note → receipts_noted number note ≡ receipts_of number ask told
-  noted_is number ask (Ok told) noted h = ap (λ (o : Option (Note A T)). receipts_noted number o) h.1 ∙ (λ i. receipt_of number (h.2 i) (h.3 i) ∷ [])
-  noted_is number ask (Err failed) noted h = ap (λ (o : Option (Note A T)). receipts_noted number o) h
-
+module _ {K S E A T F : Type 0} {script : K → S} {history : K → List E} {makes_entry : T → Bool} {fits : S → List E → A → T → List E → Type 0} where
   -- after it was asked and moved back the seat has it, with the note
   pub asked : (m m1 m2 : Seated K E A T) (out empty : Slot K A T) (value new : K) (note : Option (Note A T)) (ask : A) (told : Result T F)
       → HasTurn script history m → m.1 ≡ (0, out) ∷ rest m.1 → out.value ≡ Some value → m1 ≡ (m.0, (0, empty) ∷ rest m.1) → m2 ≡ (m1.0, (0, slot_of (Some new) note) ∷ rest m1.1)
       → script new ≡ script value → IfOk told (λ t. Appends makes_entry (fits (script value)) (history value) ask t (history new)) → OnErr told (history new ≡ history value) → IsNote ask told note
       → IsUncounted script history makes_entry fits m2 ask told (length (history new))
   asked m m1 m2 out empty value new note ask told h e is e1 e2 same a n noted =
-      let v = moved_out script history m out value h e is in
-      let more = grown (script value) (history value) (history new) ask told note a n noted in
+      let v = moved_out m out value h e is in
+      let more = grown makes_entry fits (script value) (history value) (history new) ask told note a n noted in
       let now : m2 ≡ (m.0, (0, slot_of (Some new) note) ∷ []) =
       e2 ∙ ap (λ (y : Seated K E A T). (y.0, (0, slot_of (Some new) note) ∷ rest y.1)) e1 ∙ ap (λ (l : List (ℕ × Slot K A T)). (m.0, (0, slot_of (Some new) note) ∷ l)) v.3 in
       subst (λ (y : Seated K E A T). IsUncounted script history makes_entry fits y ask told (length (history new))) (sym now)

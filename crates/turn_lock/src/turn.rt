@@ -249,7 +249,7 @@ fn ask_value<K: Stepped>(
     ensures same { (seat.new.table_id ≡ seat.old.table_id) × (seat.new.id ≡ seat.old.id) }
     ensures kept { seat.new.me.0 ≡ seat.old.me.0 }
     ensures asked { IsUncounted K.script K.history K.makes_entry K.fits seat.new.me ask.now result.0 result.2 }
-    ensures grown { seat.old.me.0.seen + result.1 ≡ result.2 }
+    ensures grown { seat.new.me.0.seen + result.1 ≡ result.2 }
     ensures rises { IfOk result.0 (λ told. IsTrue (K.makes_entry told) → seat.old.me.0.seen < result.2) }
 {
     let empty = Slot {

@@ -19,4 +19,4 @@ pub returns-clause-asked : goal.returns-clause-asked
 returns-clause-asked g c =
     let one = c.exchange-value.ensures in
     subst (λ (n : ℕ). IsUncounted g.K.Stepped.script g.K.Stepped.history g.K.Stepped.makes_entry g.K.Stepped.fits c.exchange.new.seat.me c.args.ask.now c.ask-told.result n) (sym c.length-after.ensures)
-    (asked g.K.Stepped.script g.K.Stepped.history g.K.Stepped.makes_entry g.K.Stepped.fits _ _ _ _ _ _ _ _ _ _ c.requires.turn one.2 c.unwrap-value.ensures one.3 c.exchange.ensures.3 c.ask-told.ensures.script c.ask-told.ensures.told c.ask-told.ensures.refused c.note_of-note.ensures)
+    (asked _ _ _ _ _ _ _ _ _ _ c.requires.turn one.2 c.unwrap-value.ensures one.3 c.exchange.ensures.3 c.ask-told.ensures.script c.ask-told.ensures.told c.ask-told.ensures.refused c.note_of-note.ensures)

@@ -8,4 +8,4 @@ pub load-requires : goal.load-requires
 load-requires g c =
     let i = c.loop.invariant in
     let q = subst (λ (m : Seated g.row.K.Denot g.row.K-Entry.Denot g.row.K-Ask.Denot g.row.K-Told.Denot). IsQueued c.args.mine m) (sym i.2) c.requires.queued in
-    (i.0 ∙ c.requires.own.0, omega arith, looks_or_takes g.K.Stepped.script g.K.Stepped.history g.K.Stepped.makes_entry g.K.Stepped.fits _ _ _ _ _ q.3.0 q.0 q.3.1 q.1 q.2)
+    (i.0 ∙ c.requires.own.0, omega arith, looks_or_takes _ _ _ q.3.0 q.0 q.3.1 q.1 q.2)

@@ -8,18 +8,18 @@ pub unwrap-requires : goal.unwrap-requires
 unwrap-requires g c =
     let idle = c.pass.invariant in
     let all = ap (λ (p : PassData g.row.K-Ask.Denot g.row.K-Told.Denot). p.parts) c.pass.view_is ∙ (c.requires.all ∙ sym (ap (λ (t : TurnData g.row.K-Script.Denot g.row.K-Entry.Denot). t.parts) c.self.view_is)) in
-    let h = closes g.K.Stepped.script g.K.Stepped.history g.K.Stepped.makes_entry g.K.Stepped.fits _ _ _ _ _ _ c.close_with-closed.ensures.values.2 all idle.0 idle.2 c.take-value.result c.take-value.ensures.value in
+    let h = closes _ _ _ _ c.close_with-closed.ensures.values.2 all idle.0 idle.2 c.take-value.result c.take-value.ensures.value in
     is_some _ h.0 h.1
 
 -- what is known at the return, of the fields
 ends : (g : Over) (c : goal.After-unwrap g)
     → (g.K.Stepped.script c.unwrap.result ≡ g.K.Stepped.script c.self.inside.table.shared.key.value.value)
-    × IsEnd g.K.Stepped.script g.K.Stepped.history g.K.Stepped.makes_entry g.K.Stepped.fits c.self.inside.table.shared.key.value.value c.self.inside.table.shared.key.parts (g.K.Stepped.history c.unwrap.result) c.pass.inside.seat.me.0
+    × IsEnd g.K.Stepped.script g.K.Stepped.history g.K.Stepped.makes_entry g.K.Stepped.fits c.self.inside.table.shared.key.value.value (g.K.Stepped.history c.unwrap.result) c.pass.inside.seat.me.0
 ends g c =
     let idle = c.pass.invariant in
     let all = ap (λ (p : PassData g.row.K-Ask.Denot g.row.K-Told.Denot). p.parts) c.pass.view_is ∙ (c.requires.all ∙ sym (ap (λ (t : TurnData g.row.K-Script.Denot g.row.K-Entry.Denot). t.parts) c.self.view_is)) in
-    let h = closes g.K.Stepped.script g.K.Stepped.history g.K.Stepped.makes_entry g.K.Stepped.fits _ _ _ _ _ _ c.close_with-closed.ensures.values.2 all idle.0 idle.2 c.take-value.result c.take-value.ensures.value in
-    closes_with g.K.Stepped.script g.K.Stepped.history g.K.Stepped.makes_entry g.K.Stepped.fits _ _ _ _ _ h c.unwrap.ensures
+    let h = closes _ _ _ _ c.close_with-closed.ensures.values.2 all idle.0 idle.2 c.take-value.result c.take-value.ensures.value in
+    closes_with _ _ _ h c.unwrap.ensures
 
 pub returns-clause-script : goal.returns-clause-script
 returns-clause-script g c = rw (← c.self.view_is) (ends g c).0

@@ -15,7 +15,7 @@ join_seat-requires g c =
       its ∙ (c.requires.other ∙ sym here),
       j.3,
       omega (arith, c.self.invariant.0),
-      joins g.K.Stepped.script g.K.Stepped.history g.K.Stepped.makes_entry g.K.Stepped.fits _ _ _ _ _ _ i.0 i.1 i.2 j.0 j.1 j.2,
+      joins _ _ _ _ i.0 i.1 i.2 j.0 j.1 j.2,
     )
 
 pub load-requires : goal.load-requires
@@ -24,5 +24,5 @@ load-requires g c =
     let mine = ap (λ (p : PassData g.row.K-Ask.Denot g.row.K-Told.Denot). p.turn) c.pass.view_is in (
       c.join_seat.ensures.0 ∙ (mine ∙ (c.requires.own ∙ sym here)),
       omega (arith, c.self.invariant.0),
-      looks g.K.Stepped.script g.K.Stepped.history g.K.Stepped.makes_entry g.K.Stepped.fits _ _ _ _ _,
+      looks _ _ _,
     )

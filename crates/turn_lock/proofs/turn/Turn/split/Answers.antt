@@ -9,4 +9,4 @@ split_seat-seat-requires g c =
     let here = ap (λ (t : TurnData g.row.K-Script.Denot g.row.K-Entry.Denot). t.turn) c.self.view_is in
     let mine = ap (λ (p : PassData g.row.K-Ask.Denot g.row.K-Told.Denot). p.turn) c.pass.view_is in
     let two = ap (λ (p : PassData g.row.K-Ask.Denot g.row.K-Told.Denot). p.parts) c.pass.view_is in
-    (mine ∙ (c.requires.own ∙ sym here), omega (arith, c.self.invariant.0), splits g.K.Stepped.script g.K.Stepped.history g.K.Stepped.makes_entry g.K.Stepped.fits _ _ _ _ (omega (arith, two, c.requires.parts)) idle.1 idle.2)
+    (mine ∙ (c.requires.own ∙ sym here), omega (arith, c.self.invariant.0), splits _ _ (omega (arith, two, c.requires.parts)) idle.1 idle.2)

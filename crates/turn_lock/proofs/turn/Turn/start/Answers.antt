@@ -5,4 +5,4 @@ use Rattle.turn_lock.proofs.turn.Turn.start.Goals as goal
 pub new-requires : goal.new-requires
 new-requires g c =
     let ranges = c.ranges.parts.fits in
-    opens g.K.Stepped.script g.K.Stepped.history g.K.Stepped.makes_entry g.K.Stepped.fits _ _ _ _ _ refl (grind rules) (grind rules) (omega (arith, c.from.ensures, c.requires)) (omega (arith, c.from.ensures))
+    opens _ _ _ refl (grind rules) (grind rules) (omega (arith, c.from.ensures, c.requires)) (omega (arith, c.from.ensures))
