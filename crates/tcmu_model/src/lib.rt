@@ -1,11 +1,23 @@
-//! The abstract SCSI device of TCMU and the definitions round it. They stand in specs/, where the contracts of every crate cite
-//! them; here are the code types that they cite, the plain functions that compute with them, and the laws of the device.
+//! The abstract SCSI device of TCMU, the scenario language, and the definitions round them. They stand in specs/, where the contracts
+//! of every crate cite them; here are the code types that they cite and the plain functions that compute with them, and the laws of the device.
 #![tactic(auto)]
 
+mod entry;
+mod faults;
+mod laws;
 mod laws_sound;
 mod lengths;
+mod mailbox;
+mod op;
 mod state;
+mod words;
 
+pub use entry::{EntryFault, EntryRef, Response};
+pub use faults::{ConfigFault, Why};
+pub use laws::{config_law, scenario_law, script_law};
 pub use laws_sound::{Answering, events_keep_sound, opening_is_sound, runs_keep_sound};
 pub use lengths::{blocks_of, entry_length, tmr_length};
+pub use mailbox::{Mailbox, MailboxFault};
+pub use op::{CdbFault, Extent, Op};
 pub use state::CommandState;
+pub use words::{Subtype, Verb};
