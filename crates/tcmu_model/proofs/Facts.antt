@@ -23,12 +23,12 @@ use Rattle.tcmu_model.proofs.Basics.{laid_rise, serials_split, placed_every, com
 
 -- ==== counts
 
-dispatched_rise : (d : DeviceState) → SerialsSound d → Rise 0 (dispatched_serials d.ring) d.accepted
+pub dispatched_rise : (d : DeviceState) → SerialsSound d → Rise 0 (dispatched_serials d.ring) d.accepted
 dispatched_rise d h =
     rise_front 0 (dispatched_serials d.ring) (serials_in (drop d.ring.dispatched d.ring.laid)) d.accepted
     (subst (λ (xs : List ℕ). Rise 0 xs d.accepted) (sym (serials_split d.ring.dispatched d.ring.laid)) (laid_rise d h))
 
-placed_laid : (d : DeviceState) → AnswersSound d → Every (λ s. is_among (serials_in d.ring.laid) s ≡ true) d.placed
+pub placed_laid : (d : DeviceState) → AnswersSound d → Every (λ s. is_among (serials_in d.ring.laid) s ≡ true) d.placed
 placed_laid d h = placed_every (λ s. is_among (serials_in d.ring.laid) s ≡ true) d h (every-among (serials_in d.ring.laid))
 
 -- no more answers are placed than commands are dispatched
@@ -39,7 +39,7 @@ placed_dispatched d h =
     let c : dispatched_commands d.ring ≡ length (dispatched_serials d.ring) = commands_serials (take d.ring.dispatched d.ring.laid) in
     omega (arith, a, b, c)
 
-length_finished : (d : DeviceState) → IsSound d → length (finished d) ≡ cleared_commands d.ring
+pub length_finished : (d : DeviceState) → IsSound d → length (finished d) ≡ cleared_commands d.ring
 length_finished d h = length-take-le (cleared_commands d.ring) d.placed (cleared_placed d h.ring h.answers)
 
 -- each command that is laid is finished or unfinished

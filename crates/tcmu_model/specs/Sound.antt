@@ -10,7 +10,7 @@ use Rattle.tcmu_model.specs.Lists.{first_of}
 use Rattle.tcmu_model.specs.Lengths.{entry_length, tmr_length, blocks_of}
 use Rattle.tcmu_model.specs.RingState.{RingState, Item, Laid, Pad, Cmd, Tmr, used, is_pad, serials_in, cleared_commands, published_commands}
 use Rattle.tcmu_model.specs.Device.{Unfinished, Delayed, DeviceState, has_state}
-use Rattle.tcmu_model.specs.Events.{is_among, is_open, answered, held_blocks}
+use Rattle.tcmu_model.specs.Events.{is_among, is_open, is_in_hand, answered, held_blocks}
 
 -- ==== lists
 
@@ -123,6 +123,10 @@ state_fits dispatched placed published attached Lost has_reply =
 abbrev pub is_right : DeviceState → Unfinished → Bool
 is_right d u =
     state_fits (is_among (dispatched_serials d.ring) u.serial) (is_among d.placed u.serial) (is_among (answered d) u.serial) d.attached u.state (is_some u.reply)
+
+-- dispatched, and not yet used for an answer
+abbrev pub awaits_answer : Unfinished → Bool
+awaits_answer u = is_in_hand u || (has_state Lost u && not (is_some u.reply))
 
 -- a reply that its command can carry
 pub record ReplyFits (c : CommandData) (reply : ReplyData) : Type 0 where
