@@ -17,7 +17,7 @@ use Rattle.tcmu_model.specs.Events.{is_handled, placing, publishable, next_item,
 use Rattle.tcmu_model.specs.Steps.{HandlerRelation, asked, moved, Makes, Step}
 use Rattle.tcmu_model.specs.Drain.{drain_event, Drains}
 use Rattle.tcmu_model.specs.Sound.{Every, IsLaid, Along, IsItem, IsSound}
-use Rattle.tcmu_model.specs.Work.{work, Outcome, HasOutcomes}
+use Rattle.tcmu_model.specs.Work.{work, Outcome, HasOutcomes, Ends}
 use Rattle.tcmu_model.proofs.Draining.{Choice, handles, responds, publishes, cleans, enters, dispatches, chosen_attached, work_falls}
 use Rattle.tcmu_model.proofs.Runs.{sound_step}
 use Rattle.tcmu_model.proofs.Drained.{drained}
@@ -247,11 +247,6 @@ choice_made R device d e o h (dispatches a k) = subst (λ (x : EventData). Made 
     (none_logged (after_dispatch d.state).log d.state.log (dispatch_kept (λ x. x.log) d.state (λ i. refl))) (dispatch_kept (λ x. x.attached) d.state (λ i. refl)))
 
 -- ==== the drain ends
-
-pub record Ends (R : HandlerRelation) (device : ℕ) (d : Device) : Type 0 where
-  pub entries : List EntryData
-  pub end : Device
-  pub drain : Drains R device d entries end
 
 ends_within : (fuel : ℕ) (R : HandlerRelation) (device : ℕ) (d : Device) → HasOutcomes R → IsSound d.state → work d.state < fuel → Ends R device d
 ends_within zero R device d o h l = absurd (omega (arith, l))

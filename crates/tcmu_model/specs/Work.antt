@@ -38,3 +38,9 @@ HasOutcomes R = (name : List ℕ) (medium : MediumState) (c : CommandData) → I
 -- these entries lead a drain from one device to another, from which it can go on
 abbrev pub GoesOn : HandlerRelation → ℕ → Device → List EntryData → Device → Type 0
 GoesOn R device start sofar d = (rest : List EntryData) (end : Device) → Drains R device d rest end → Drains R device start (sofar ++ rest) end
+
+-- a drain from here has an end
+pub record Ends (R : HandlerRelation) (device : ℕ) (d : Device) : Type 0 where
+  pub entries : List EntryData
+  pub end : Device
+  pub drain : Drains R device d entries end
