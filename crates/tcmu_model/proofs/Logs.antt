@@ -1,5 +1,5 @@
 -- A log only grows: no event takes a completion back.
-use Rattle.std.proofs.Common.{◌≡◌, ℕ, ◌+◌, Bool, true, false, cond, ◌&&◌, nat_eq, List, [], ◌∷◌, ◌++◌, length, drop, Option, Some, None, refl, sym, ap, ◌∙◌, subst, arith, append_assoc, length-append, ⊎_elim}
+use Rattle.std.proofs.Common.{◌≡◌, ℕ, Bool, true, false, cond, ◌&&◌, nat_eq, List, [], ◌∷◌, ◌++◌, Option, Some, None, refl, sym, ap, ◌∙◌, append_assoc, ⊎_elim}
 use Rattle.std.proofs.lemmas.List.{append-nil}
 use Rattle.std.proofs.lemmas.Bool.{cases_Bool}
 use Rattle.tcmu_types.specs.Data.{CommandData, ReplyData, DoneData}
@@ -9,7 +9,6 @@ use Rattle.tcmu_types.specs.declared.answer.Submit.{Submit}
 use Rattle.tcmu_types.specs.declared.answer.Submit.TheVariants as submit
 use Rattle.tcmu_types.specs.declared.answer.Enter.{Enter}
 use Rattle.tcmu_types.specs.declared.answer.Enter.TheVariants as enter
-use Rattle.tcmu_types.specs.declared.answer.Handle.{Handle}
 use Rattle.tcmu_types.specs.declared.answer.Handle.TheVariants as handle
 use Rattle.tcmu_types.specs.declared.answer.Tmr.{Tmr}
 use Rattle.tcmu_types.specs.declared.answer.Tmr.TheVariants as tmr
@@ -17,8 +16,8 @@ use Rattle.tcmu_model.specs.declared.state.CommandState.TheVariants.{Placed}
 use Rattle.tcmu_model.specs.Lists.{first_of, without_first}
 use Rattle.tcmu_model.specs.RingState.{Item}
 use Rattle.tcmu_model.specs.Device.{Unfinished, Delayed, DeviceState, Device, is_at}
-use Rattle.tcmu_model.specs.Events.{after_submit, with_command, with_delayed, after_enter, after_entering, after_dispatch, next_item, passed, after_item, after_handle, after_respond, is_handled, placing, after_publish, publishable, Books, finish, finish_all, books, answered, completions, after_clean, after_tick, after_block, emptied, count_in_hand, after_reset, after_restart, with_note, after_tmr}
-use Rattle.tcmu_model.specs.Steps.{HandlerRelation, Makes, Step}
+use Rattle.tcmu_model.specs.Events.{after_submit, with_command, with_delayed, after_enter, after_entering, after_dispatch, next_item, passed, after_item, after_handle, after_respond, is_handled, after_publish, Books, finish, finish_all, books, answered, completions, after_clean, after_tick, after_block, emptied, count_in_hand, after_reset, after_restart, with_note, after_tmr}
+use Rattle.tcmu_model.specs.Steps.{HandlerRelation, Makes}
 
 -- the later log is the earlier one with more behind it
 abbrev pub Grows : List DoneData → List DoneData → Type 0

@@ -1,23 +1,20 @@
 -- Where each dispatched command stands: finished, answered, or in hand.
-use Rattle.std.proofs.Common.{◌≡◌, ℕ, ◌+◌, ◌-◌, ◌<◌, ◌≤◌, Bool, true, false, not, cond, List, [], ◌∷◌, ◌++◌, length, take, drop, map, refl, sym, ap, ◌∙◌, arith, ⊎_elim, subst, ◌||◌, ◌&&◌, eqb, if◌then◌else◌, Some, None, Option, suc, zero}
-use Rattle.std.specs.List.{list_any, filter, count_by, sum_by}
+use Rattle.std.proofs.Common.{◌≡◌, ℕ, ◌+◌, Bool, true, false, not, cond, List, [], ◌∷◌, length, take, drop, map, refl, sym, ap, ◌∙◌, arith, ⊎_elim, ◌||◌, ◌&&◌, eqb, if◌then◌else◌, suc, zero}
+use Rattle.std.specs.List.{list_any, filter, count_by}
 use Rattle.std.specs.Option.{is_some}
-use Rattle.std.proofs.lemmas.Bool.{cases_Bool, true≢false, false≢true, or_parts, eqb-false, ne_eqb}
-use Rattle.std.proofs.lemmas.List.{length-map, take-append-drop}
-use Rattle.std.proofs.lemmas.List.Filters.{length-filter_both}
-use Rattle.std.proofs.lemmas.List.Sums.{sum_by-cons, length-filter}
-use Rattle.tcmu_types.specs.Data.{ReplyData}
+use Rattle.std.proofs.lemmas.Bool.{cases_Bool, false≢true, or_parts, eqb-false, ne_eqb}
+use Rattle.std.proofs.lemmas.List.Sums.{sum_by-cons}
 use Rattle.tcmu_model.specs.declared.state.CommandState.{CommandState}
 use Rattle.tcmu_model.specs.declared.state.CommandState.TheVariants.{Waiting, Out, Handled, Parked, Placed, Lost}
 use Rattle.tcmu_model.specs.States.{same_state}
-use Rattle.tcmu_model.specs.RingState.{RingState, Item, serials_in, commands_in, cleared_commands, published_commands, dispatched_commands}
+use Rattle.tcmu_model.specs.RingState.{serials_in, cleared_commands, dispatched_commands}
 use Rattle.tcmu_model.specs.Device.{Unfinished, DeviceState, has_state, has_serial}
 use Rattle.tcmu_model.specs.Events.{is_among, answered, is_in_hand}
-use Rattle.tcmu_model.specs.Sound.{Every, Rise, Differ, finished, dispatched_serials, state_fits, is_right, awaits_answer, SerialsSound, AnswersSound, IsSound}
-use Rattle.tcmu_model.proofs.Everies.{every-weaker, every-both, every-take, every-drop, every-all, map_filter, filter_same}
-use Rattle.tcmu_model.proofs.Rises.{not_above, among-filter, among-take, among_every, every-among, count_differ, differ-take}
-use Rattle.tcmu_model.proofs.Basics.{laid_rise, rows_rise, placed_every, commands_serials, among_more}
-use Rattle.tcmu_model.proofs.Facts.{length_finished, dispatched_rise, placed_laid}
+use Rattle.tcmu_model.specs.Sound.{Every, Rise, Differ, finished, dispatched_serials, state_fits, is_right, awaits_answer, SerialsSound, IsSound}
+use Rattle.tcmu_model.proofs.Everies.{every-weaker, every-both, every-take, every-drop, every-all}
+use Rattle.tcmu_model.proofs.Rises.{not_above, among-filter, among_every, every-among, count_differ, differ-take}
+use Rattle.tcmu_model.proofs.Basics.{laid_rise, commands_serials, among_more}
+use Rattle.tcmu_model.proofs.Facts.{dispatched_rise, placed_laid}
 
 any_among : (s : ℕ) (us : List Unfinished) → list_any (has_serial s) us ≡ is_among (map (λ u. u.serial) us) s
 any_among s [] = refl
@@ -30,7 +27,7 @@ there_is d s h = any_among s d.unfinished ∙ (ap (λ (xs : List ℕ). is_among 
 pub finished_gone : (d : DeviceState) → IsSound d → Every (λ s. list_any (has_serial s) d.unfinished ≡ false) (finished d)
 finished_gone d h =
     every-weaker (λ s. is_among (finished d) s ≡ true) (λ s. list_any (has_serial s) d.unfinished ≡ false) (finished d)
-      (λ s k. there_is d s h.serials ∙ (let z : (not (is_among (finished d) s) && is_among (serials_in d.ring.laid) s) ≡ false = rw k refl in z)) (every-among (finished d))
+    (λ s k. there_is d s h.serials ∙ (let z : (not (is_among (finished d) s) && is_among (serials_in d.ring.laid) s) ≡ false = rw k refl in z)) (every-among (finished d))
 
 apart_from : (s : ℕ) (ss : List ℕ) → is_among ss s ≡ false → Every (λ k. eqb s k ≡ false) ss
 apart_from s [] h = tt
@@ -42,16 +39,16 @@ differ_parts zero ss d = every-all (λ k. is_among [] k ≡ false) ss (λ k. ref
 differ_parts (suc n) [] d = tt
 differ_parts (suc n) (s ∷ ss) d =
     every-weaker (λ k. (is_among (take n ss) k ≡ false) × (eqb s k ≡ false)) (λ k. is_among (s ∷ take n ss) k ≡ false) (drop n ss) (λ k p. rw (p.1) (p.0))
-      (every-both (λ k. is_among (take n ss) k ≡ false) (λ k. eqb s k ≡ false) (drop n ss) (differ_parts n ss d.1) (every-drop (λ k. eqb s k ≡ false) n ss (apart_from s ss d.0)))
+    (every-both (λ k. is_among (take n ss) k ≡ false) (λ k. eqb s k ≡ false) (drop n ss) (differ_parts n ss d.1) (every-drop (λ k. eqb s k ≡ false) n ss (apart_from s ss d.0)))
 
 -- the others are of commands that are not
 pub placed_there : (d : DeviceState) → IsSound d → Every (λ s. list_any (has_serial s) d.unfinished ≡ true) (drop (cleared_commands d.ring) d.placed)
 placed_there d h =
     let c : ℕ = cleared_commands d.ring in
     every-weaker (λ s. (is_among (finished d) s ≡ false) × (is_among (serials_in d.ring.laid) s ≡ true)) (λ s. list_any (has_serial s) d.unfinished ≡ true) (drop c d.placed)
-      (λ s k. there_is d s h.serials ∙ (let z : (not (is_among (finished d) s) && is_among (serials_in d.ring.laid) s) ≡ true = rw (k.0, k.1) refl in z))
-      (every-both (λ s. is_among (finished d) s ≡ false) (λ s. is_among (serials_in d.ring.laid) s ≡ true) (drop c d.placed)
-        (differ_parts c d.placed h.answers.differ) (every-drop (λ s. is_among (serials_in d.ring.laid) s ≡ true) c d.placed (placed_laid d h.answers)))
+    (λ s k. there_is d s h.serials ∙ (let z : (not (is_among (finished d) s) && is_among (serials_in d.ring.laid) s) ≡ true = rw (k.0, k.1) refl in z))
+    (every-both (λ s. is_among (finished d) s ≡ false) (λ s. is_among (serials_in d.ring.laid) s ≡ true) (drop c d.placed)
+    (differ_parts c d.placed h.answers.differ) (every-drop (λ s. is_among (serials_in d.ring.laid) s ≡ true) c d.placed (placed_laid d h.answers)))
 
 -- ==== rows
 
@@ -76,10 +73,10 @@ answered_fits false p q t r e h = absurd (false≢true e)
 pub answered_rows : (d : DeviceState) → IsSound d → Every (λ u. is_among d.placed u.serial ≡ true → (u.state ≡ (if d.attached || is_among (answered d) u.serial then Placed else Lost)) × (is_some u.reply ≡ true)) d.unfinished
 answered_rows d h =
     every-weaker (λ u. is_right d u ≡ true) (λ u. is_among d.placed u.serial ≡ true → (u.state ≡ (if d.attached || is_among (answered d) u.serial then Placed else Lost)) × (is_some u.reply ≡ true)) d.unfinished
-      (λ u k p.
-        let s : is_among (dispatched_serials d.ring) u.serial ≡ true = among_every (λ x. is_among (dispatched_serials d.ring) x ≡ true) d.placed u.serial h.answers.dispatched p in
-        let z : state_fits (is_among (dispatched_serials d.ring) u.serial) true (is_among (answered d) u.serial) d.attached u.state (is_some u.reply) ≡ true = rw p at k in
-        answered_fits (is_among (dispatched_serials d.ring) u.serial) (is_among (answered d) u.serial) d.attached u.state (is_some u.reply) s z) h.answers.states
+    (λ u k p.
+    let s : is_among (dispatched_serials d.ring) u.serial ≡ true = among_every (λ x. is_among (dispatched_serials d.ring) x ≡ true) d.placed u.serial h.answers.dispatched p in
+    let z : state_fits (is_among (dispatched_serials d.ring) u.serial) true (is_among (answered d) u.serial) d.attached u.state (is_some u.reply) ≡ true = rw p at k in
+    answered_fits (is_among (dispatched_serials d.ring) u.serial) (is_among (answered d) u.serial) d.attached u.state (is_some u.reply) s z) h.answers.states
 
 in_hand_fits : (published attached : Bool) (t : CommandState) (r : Bool) → state_fits true false published attached t r ≡ true →
     (if attached then same_state t Out || same_state t Handled || same_state t Parked else same_state t Lost && not r) ≡ true
@@ -100,9 +97,9 @@ in_hand_fits false false Lost false h = refl
 pub in_hand_rows : (d : DeviceState) → IsSound d → Every (λ u. is_among (dispatched_serials d.ring) u.serial ≡ true → is_among d.placed u.serial ≡ false → (if d.attached then is_in_hand u else has_state Lost u && not (is_some u.reply)) ≡ true) d.unfinished
 in_hand_rows d h =
     every-weaker (λ u. is_right d u ≡ true) (λ u. is_among (dispatched_serials d.ring) u.serial ≡ true → is_among d.placed u.serial ≡ false → (if d.attached then is_in_hand u else has_state Lost u && not (is_some u.reply)) ≡ true) d.unfinished
-      (λ u k s p.
-        let z : state_fits true false (is_among (answered d) u.serial) d.attached u.state (is_some u.reply) ≡ true = rw (s, p) at k in
-        in_hand_fits (is_among (answered d) u.serial) d.attached u.state (is_some u.reply) z) h.answers.states
+    (λ u k s p.
+    let z : state_fits true false (is_among (answered d) u.serial) d.attached u.state (is_some u.reply) ≡ true = rw (s, p) at k in
+    in_hand_fits (is_among (answered d) u.serial) d.attached u.state (is_some u.reply) z) h.answers.states
 
 -- ==== how many answers are owed
 
@@ -120,15 +117,15 @@ count_left F A L high r df da lf la fa =
         let keep : List ℕ = filter (λ s. not (is_among F s)) xs in
         ⊎_elim
         (λ (e : is_among F x ≡ true).
-            let g : is_among A x ≡ true = among_every (λ s. is_among A s ≡ true) F x fa e in
-            let b : count_by (is_among A) (filter (λ s. not (is_among F s)) (x ∷ xs)) ≡ count_by (is_among A) keep = rw e refl in
-            let ca : cond {A = ℕ} (is_among A x) 1 0 ≡ 1 = ap (λ t. cond {A = ℕ} t 1 0) g in
-            let cf : cond {A = ℕ} (is_among F x) 1 0 ≡ 1 = ap (λ t. cond {A = ℕ} t 1 0) e in
-            omega (arith, a, f, b, ca, cf, split xs))
+        let g : is_among A x ≡ true = among_every (λ s. is_among A s ≡ true) F x fa e in
+        let b : count_by (is_among A) (filter (λ s. not (is_among F s)) (x ∷ xs)) ≡ count_by (is_among A) keep = rw e refl in
+        let ca : cond {A = ℕ} (is_among A x) 1 0 ≡ 1 = ap (λ t. cond {A = ℕ} t 1 0) g in
+        let cf : cond {A = ℕ} (is_among F x) 1 0 ≡ 1 = ap (λ t. cond {A = ℕ} t 1 0) e in
+        omega (arith, a, f, b, ca, cf, split xs))
         (λ (e : is_among F x ≡ false).
-            let b : count_by (is_among A) (filter (λ s. not (is_among F s)) (x ∷ xs)) ≡ cond (is_among A x) 1 0 + count_by (is_among A) keep = rw e (sum_by-cons (λ (y : ℕ). cond {A = ℕ} (is_among A y) 1 0) x keep) in
-            let cf : cond {A = ℕ} (is_among F x) 1 0 ≡ 0 = ap (λ t. cond {A = ℕ} t 1 0) e in
-            omega (arith, a, f, b, cf, split xs))
+        let b : count_by (is_among A) (filter (λ s. not (is_among F s)) (x ∷ xs)) ≡ cond (is_among A x) 1 0 + count_by (is_among A) keep = rw e (sum_by-cons (λ (y : ℕ). cond {A = ℕ} (is_among A y) 1 0) x keep) in
+        let cf : cond {A = ℕ} (is_among F x) 1 0 ≡ 0 = ap (λ t. cond {A = ℕ} t 1 0) e in
+        omega (arith, a, f, b, cf, split xs))
         (cases_Bool (is_among F x))
 
 rise_differ : (low : ℕ) (xs : List ℕ) (high : ℕ) → Rise low xs high → Differ xs
@@ -182,14 +179,17 @@ awaiting d h =
   where
     Right : (d : DeviceState) → Unfinished → Type 0
     Right d u = cond {A = ℕ} (awaits_answer u) 1 0 + cond (is_among d.placed u.serial) 1 0 ≡ cond (is_among (dispatched_serials d.ring) u.serial) 1 0
+
     right : (d : DeviceState) (u : Unfinished) → IsSound d → is_right d u ≡ true → Right d u
     right d u h k =
         row_counts (is_among (dispatched_serials d.ring) u.serial) (is_among d.placed u.serial) (is_among (answered d) u.serial) d.attached u.state (is_some u.reply)
-          (λ p. among_every (λ x. is_among (dispatched_serials d.ring) x ≡ true) d.placed u.serial h.answers.dispatched p) k
+        (λ p. among_every (λ x. is_among (dispatched_serials d.ring) x ≡ true) d.placed u.serial h.answers.dispatched p) k
+
     dispatched_laid : (d : DeviceState) → Every (λ s. is_among (serials_in d.ring.laid) s ≡ true) (dispatched_serials d.ring)
     dispatched_laid d =
         every-weaker (λ s. is_among (dispatched_serials d.ring) s ≡ true) (λ s. is_among (serials_in d.ring.laid) s ≡ true) (dispatched_serials d.ring)
-          (λ s k. among_more d.ring.dispatched d.ring.laid s k) (every-among (dispatched_serials d.ring))
+        (λ s k. among_more d.ring.dispatched d.ring.laid s k) (every-among (dispatched_serials d.ring))
+
     rows : (us : List Unfinished) → Every (Right d) us → count_by awaits_answer us + count_by (is_among d.placed) (map (λ u. u.serial) us) ≡ count_by (is_among (dispatched_serials d.ring)) (map (λ u. u.serial) us)
     rows [] e = refl
     rows (u ∷ us) e =

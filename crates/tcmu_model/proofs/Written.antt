@@ -1,11 +1,11 @@
 -- Laws of bytes that are written and read.
 use Rattle.std.proofs.Common.{◌≡◌, ℕ, ◌+◌, ◌-◌, ◌*◌, ◌^◌, ◌<◌, ◌≤◌, List, [], ◌∷◌, ◌++◌, length, take, drop, replicate, refl, sym, ◌∙◌, ap, subst, arith, append_assoc, length-append, length-drop}
-use Rattle.std.proofs.lemmas.List.{drop_at, take_at, take-append-le, drop-append-le, length-take, length-replicate, drop-drop}
+use Rattle.std.proofs.lemmas.List.{drop_at, take_at, drop-append-le, length-take, length-replicate, drop-drop}
 use Rattle.std.proofs.Math.Seq.{drop-append-add}
 use Rattle.std.proofs.lemmas.List.{take_rest, drop_all, take-append-drop, append-nil}
 use Rattle.std.proofs.Math.Nat.{mod-eq_of_lt}
 use borrow.Rule.Slice.PartMut.{put_mid}
-use Rattle.byteorder.specs.Endian.{little_bytes, little_number, little_from}
+use Rattle.byteorder.specs.Endian.{little_bytes, little_number}
 use Rattle.byteorder.specs.Numbers.{length-bytes_low_first, little_number-reads_back, little_from-append}
 use Rattle.tcmu_model.specs.Layout.{le, field, zeros, padded, put, entry_header, command_head}
 

@@ -1,6 +1,6 @@
 -- What bytes read as an entry of the command ring say, and what may be wrong with them.
-use Rattle.std.specs.Prelude.{◌≡◌, ◌≢◌, ◌⊎◌, ℕ, zero, suc, ◌+◌, ◌-◌, ◌*◌, ◌%◌, ◌≤◌, ◌<◌, ◌&&◌, ◌==◌, not, nat_lt, nat_le, Bool, List, length, take, drop, slice_index, Option, Some, None, Result, Ok, Err, MatchResult, if◌then◌else◌}
-use Rattle.tcmu_types.specs.Rules.{group_length, IsCdb}
+use Rattle.std.specs.Prelude.{◌≡◌, ◌≢◌, ◌⊎◌, ℕ, zero, suc, ◌+◌, ◌-◌, ◌*◌, ◌%◌, ◌≤◌, ◌<◌, ◌&&◌, ◌==◌, not, nat_lt, nat_le, Bool, List, take, drop, slice_index, Option, Some, None, Result, Ok, Err, MatchResult, if◌then◌else◌}
+use Rattle.tcmu_types.specs.Rules.{group_length}
 use Rattle.tcmu_types.specs.declared.iovec.Iov.{Iov}
 use Rattle.tcmu_model.specs.Layout.{field, ring_start, data_start}
 use Rattle.tcmu_model.specs.declared.mailbox.Mailbox.{Mailbox}

@@ -1,10 +1,10 @@
 -- The bytes of a region: its mailbox, the entries of its command ring, and a response in an entry (the kernel's tcmu-design).
 -- Numbers stand with their lowest byte first. An offset in a region counts from the region's start, an offset in the ring from
 -- the ring's.
-use Rattle.std.specs.Prelude.{ℕ, ◌+◌, ◌-◌, ◌*◌, max, Bool, List, [], ◌∷◌, ◌++◌, length, drop, replicate, Option, Some, None, unwrap_or, if◌then◌else◌}
+use Rattle.std.specs.Prelude.{ℕ, ◌+◌, ◌-◌, ◌*◌, max, List, [], ◌∷◌, ◌++◌, length, drop, replicate, Option, Some, None, unwrap_or, if◌then◌else◌}
 use Rattle.std.specs.Option.{is_some}
 use Rattle.byteorder.specs.Endian.{little_bytes, little_number}
-use Rattle.tcmu_types.specs.Data.{SenseData, ReplyData, SettingsData}
+use Rattle.tcmu_types.specs.Data.{SenseData, ReplyData}
 use Rattle.tcmu_types.specs.Overwriting.{overwritten}
 use Rattle.tcmu_types.specs.SenseBytes.{fixed_sense}
 use Rattle.tcmu_types.specs.declared.settings.Flags.{Flags}

@@ -30,3 +30,4 @@ pub mod Layout
 pub mod MailboxReading
 pub mod EntryReading
 pub mod Iovecs
+pub mod Examples

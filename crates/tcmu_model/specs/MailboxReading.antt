@@ -1,5 +1,5 @@
 -- What bytes read as a mailbox say, and what may be wrong with them.
-use Rattle.std.specs.Prelude.{◌≡◌, ◌≢◌, ◌⊎◌, ℕ, ◌+◌, ◌*◌, ◌%◌, ◌^◌, ◌&&◌, ◌≤◌, ◌<◌, ◌==◌, not, nat_lt, nat_le, Bool, List, length, Result, Ok, Err, MatchResult, if◌then◌else◌}
+use Rattle.std.specs.Prelude.{◌≡◌, ◌≢◌, ◌⊎◌, ℕ, ◌%◌, ◌^◌, ◌&&◌, ◌≤◌, ◌<◌, ◌==◌, not, nat_lt, nat_le, Bool, List, length, Result, Ok, Err, MatchResult, if◌then◌else◌}
 use Rattle.tcmu_model.specs.Layout.{field, put, mailbox_bytes, ring_start, head_place, tail_place}
 use Rattle.tcmu_model.specs.declared.mailbox.Mailbox.{Mailbox}
 use Rattle.tcmu_model.specs.declared.mailbox.MailboxFault.{MailboxFault}

@@ -11,11 +11,9 @@ pub fn log_law()
     ensures accepted { (d : DeviceState) → IsSound d → Every (λ e. (1 ≤ e.serial) × (e.serial ≤ d.accepted)) d.log }
     ensures once { (d : DeviceState) (s : ℕ) → IsSound d → 1 ≤ s → s ≤ d.accepted → times_logged d.log s + times_open d s ≡ 1 }
     ensures expired { (d : DeviceState) → IsSound d → Every (λ u. u.expired ≡ true → times_logged d.log u.serial ≡ 1) d.unfinished }
-{
-}
+{}
 
 /// A delayed command has a serial above every laid one.
 pub fn delayed_law()
     ensures { (d : DeviceState) → IsSound d → Every (λ w. Every (λ s. s < w.serial) (serials_in d.ring.laid)) d.delayed }
-{
-}
+{}

@@ -18,8 +18,7 @@ pub trait Answering {
 /// A device is sound as it opens.
 pub fn opening_is_sound()
     ensures { (s : SettingsData) → IsSettings s → IsSound (opening_state s) }
-{
-}
+{}
 
 /// Every event keeps a device sound.
 pub fn events_keep_sound()
@@ -35,12 +34,10 @@ pub fn events_keep_sound()
     ensures reset { (d : DeviceState) (level : ℕ) → IsSound d → IsSound (after_reset d level) }
     ensures restart { (d : DeviceState) → IsSound d → IsSound (after_restart d) }
     ensures tmr { (d : DeviceState) (kind : ℕ) (ss : List ℕ) → IsSound d → IsSound (after_tmr d kind ss (tmr_answer d ss)) }
-{
-}
+{}
 
 /// So every run does, whatever its handler may answer; and a run goes on by one step.
 pub fn runs_keep_sound<H: Answering>()
     ensures sound { (s : SettingsData) (name : List ℕ) (medium : MediumState) (es : List EntryData) (d : Device) → IsSettings s → Run H.relation (opening s name medium) es d → IsSound d.state }
     ensures more { (d m d' : Device) (es : List EntryData) (e : EntryData) → Run H.relation d es m → Step H.relation m e d' → Run H.relation d (es ++ e ∷ []) d' }
-{
-}
+{}

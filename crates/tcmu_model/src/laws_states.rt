@@ -12,8 +12,7 @@ ghost use Rattle.tcmu_model.specs.Sound.{Every, finished, dispatched_serials, aw
 pub fn waiting_law()
     ensures states { (d : DeviceState) → IsSound d → Every (λ u. has_state Waiting u ≡ not (is_among (dispatched_serials d.ring) u.serial)) d.unfinished }
     ensures order { (d : DeviceState) → IsSound d → map (λ u. u.serial) (filter (has_state Waiting) d.unfinished) ≡ serials_in (drop d.ring.dispatched d.ring.laid) }
-{
-}
+{}
 
 /// Of the answers placed, those that are cleared are of commands that are finished, and the others of commands that are unfinished:
 /// Placed on an attached device, or where they are published; else Lost, with their replies.
@@ -21,13 +20,11 @@ pub fn placed_law()
     ensures finished { (d : DeviceState) → IsSound d → Every (λ s. list_any (has_serial s) d.unfinished ≡ false) (finished d) }
     ensures unfinished { (d : DeviceState) → IsSound d → Every (λ s. list_any (has_serial s) d.unfinished ≡ true) (drop (cleared_commands d.ring) d.placed) }
     ensures states { (d : DeviceState) → IsSound d → Every (λ u. is_among d.placed u.serial ≡ true → (u.state ≡ (if d.attached || is_among (answered d) u.serial then Placed else Lost)) × (is_some u.reply ≡ true)) d.unfinished }
-{
-}
+{}
 
 /// A dispatched command whose answer is not placed is Out, Handled or Parked on an attached device, and Lost without a reply on a
 /// detached one. With the answers placed these are all that are dispatched.
 pub fn in_hand_law()
     ensures states { (d : DeviceState) → IsSound d → Every (λ u. is_among (dispatched_serials d.ring) u.serial ≡ true → is_among d.placed u.serial ≡ false → (if d.attached then is_in_hand u else has_state Lost u && not (is_some u.reply)) ≡ true) d.unfinished }
     ensures owed { (d : DeviceState) → IsSound d → count_by awaits_answer d.unfinished + length d.placed ≡ dispatched_commands d.ring }
-{
-}
+{}

@@ -15,6 +15,7 @@ mod mailbox;
 mod op;
 mod state;
 mod words;
+mod worked;
 
 pub use entry::{EntryFault, EntryRef, Response};
 pub use faults::{ConfigFault, Why};
@@ -29,3 +30,6 @@ pub use mailbox::{Mailbox, MailboxFault};
 pub use op::{CdbFault, Extent, Op};
 pub use state::CommandState;
 pub use words::{Subtype, Verb};
+pub use worked::{
+    expiry_examples, note_examples, order_examples, reset_examples, room_examples, waiting_examples,
+};

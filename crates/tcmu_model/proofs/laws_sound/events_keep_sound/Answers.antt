@@ -8,7 +8,16 @@ use Rattle.tcmu_model.proofs.laws_sound.events_keep_sound.Goals as goal
 pub returns : goal.returns
 returns c =
     record {
-      submit = sound_after_submit; enter = sound_after_enter; dispatch = sound_after_dispatch; handle = sound_after_handle; respond = sound_after_respond;
-      publish = sound_after_publish; clean = sound_after_clean; tick = sound_after_tick; block = sound_after_block; reset = sound_after_reset;
-      restart = sound_after_restart; tmr = sound_after_tmr;
+      submit = sound_after_submit;
+      enter = sound_after_enter;
+      dispatch = sound_after_dispatch;
+      handle = sound_after_handle;
+      respond = sound_after_respond;
+      publish = sound_after_publish;
+      clean = sound_after_clean;
+      tick = sound_after_tick;
+      block = sound_after_block;
+      reset = sound_after_reset;
+      restart = sound_after_restart;
+      tmr = sound_after_tmr;
     }
