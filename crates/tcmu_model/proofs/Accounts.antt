@@ -8,10 +8,10 @@ use Rattle.tcmu_model.specs.RingState.{serials_in}
 use Rattle.tcmu_model.specs.Device.{Unfinished, Delayed, DeviceState}
 use Rattle.tcmu_model.specs.Events.{is_among}
 use Rattle.tcmu_model.specs.Sound.{Every, Rise, Differ, times_logged, times_open, is_accepted, is_open_at, is_delayed_at, IsSound}
-use Rattle.tcmu_model.proofs.Everies.{every-weaker, every-both}
+use Rattle.tcmu_model.proofs.Everies.{every-weaker, every-both, every-mapped}
 use Rattle.tcmu_model.proofs.Rises.{rise_within, among_every}
-use Rattle.tcmu_model.proofs.Basics.{rows_rise}
-use Rattle.tcmu_model.proofs.Facts.{delayed_above, rows_among}
+use Rattle.tcmu_model.proofs.Basics.{rows_rise, rows_among}
+use Rattle.tcmu_model.proofs.Facts.{delayed_above}
 
 cons_logged : (e : DoneData) (es : List DoneData) (k : ℕ) → times_logged (e ∷ es) k ≡ cond (eqb e.serial k) 1 0 + times_logged es k
 cons_logged e es k = sum_by-cons (λ (x : DoneData). cond {A = ℕ} (eqb x.serial k) 1 0) e es
@@ -129,9 +129,5 @@ expired_logged d h =
     omega (arith, once, k.0.0 e, none_delayed d.delayed u.serial above))
     (every-both (λ u. (u.expired ≡ true → count_by (is_open_at u.serial) d.unfinished ≡ 0) × ((0 < u.serial) × (u.serial ≤ d.accepted))) (λ u. is_among (serials_in d.ring.laid) u.serial ≡ true) d.unfinished
     (every-both (λ u. u.expired ≡ true → count_by (is_open_at u.serial) d.unfinished ≡ 0) (λ u. (0 < u.serial) × (u.serial ≤ d.accepted)) d.unfinished
-    (expired_closed d.unfinished 0 d.accepted (rows_rise d h.serials)) (mapped d.unfinished (rise_within 0 (map (λ u. u.serial) d.unfinished) d.accepted (rows_rise d h.serials))))
+    (expired_closed d.unfinished 0 d.accepted (rows_rise d h.serials)) (every-mapped (λ (u : Unfinished). u.serial) (λ s. (0 < s) × (s ≤ d.accepted)) d.unfinished (rise_within 0 (map (λ u. u.serial) d.unfinished) d.accepted (rows_rise d h.serials))))
     (rows_among d h.serials))
-  where
-    mapped : (us : List Unfinished) → Every (λ s. (0 < s) × (s ≤ d.accepted)) (map (λ u. u.serial) us) → Every (λ u. (0 < u.serial) × (u.serial ≤ d.accepted)) us
-    mapped [] h = tt
-    mapped (u ∷ us) h = (h.0, mapped us h.1)

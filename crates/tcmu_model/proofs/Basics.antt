@@ -1,15 +1,16 @@
 -- First consequences of soundness: serials rise, and what is placed was laid.
-use Rattle.std.proofs.Common.{◌≡◌, ℕ, ◌+◌, ◌≤◌, true, not, cond, List, [], ◌∷◌, ◌++◌, length, take, drop, map, refl, sym, ap, ◌∙◌, arith, subst, length-append}
-use Rattle.std.proofs.lemmas.Bool.{or_left}
+use Rattle.std.proofs.Common.{◌≡◌, ℕ, ◌+◌, ◌≤◌, Bool, true, false, not, cond, List, [], ◌∷◌, ◌++◌, length, take, drop, map, refl, sym, ap, ◌∙◌, arith, subst, length-append}
+use Rattle.std.specs.List.{filter}
+use Rattle.std.proofs.lemmas.Bool.{or_left, false≢true}
 use Rattle.std.proofs.lemmas.List.{take-append-drop}
 use Rattle.std.proofs.lemmas.List.Sums.{sum_by-cons}
 use Rattle.tcmu_model.specs.RingState.{RingState, Item, Laid, Pad, Cmd, Tmr, is_command, commands_in, serial_in, serials_in, cleared_commands, published_commands}
-use Rattle.tcmu_model.specs.Device.{DeviceState}
+use Rattle.tcmu_model.specs.Device.{Unfinished, DeviceState}
 use Rattle.tcmu_model.specs.Events.{is_among}
 use Rattle.tcmu_model.specs.Sound.{Every, Rise, finished, delayed_serials, dispatched_serials, SerialsSound, AnswersSound, RingSound}
 use Rattle.tcmu_model.proofs.Fronts.{commands_more}
-use Rattle.tcmu_model.proofs.Everies.{every-weaker, every-front}
-use Rattle.tcmu_model.proofs.Rises.{rise_front, rise_filter, among-append, among_every}
+use Rattle.tcmu_model.proofs.Everies.{every-weaker, every-front, every-filter, every-passes, every-mapped}
+use Rattle.tcmu_model.proofs.Rises.{rise_front, rise_filter, among-append, among_every, every-among}
 use Rattle.tcmu_model.proofs.Laying.{serials-append}
 
 pub laid_rise : (d : DeviceState) → SerialsSound d → Rise 0 (serials_in d.ring.laid) d.accepted
@@ -56,3 +57,21 @@ cleared_published d h = commands_more d.ring.cleared d.ring.published d.ring.lai
 
 pub cleared_placed : (d : DeviceState) → RingSound d.settings d.ring → AnswersSound d → cleared_commands d.ring ≤ length d.placed
 cleared_placed d h a = omega (arith, cleared_published d h, a.published)
+
+-- each unfinished command is laid, and not finished
+pub rows_among : (d : DeviceState) → SerialsSound d → Every (λ u. is_among (serials_in d.ring.laid) u.serial ≡ true) d.unfinished
+rows_among d h =
+    every-mapped (λ (u : Unfinished). u.serial) (λ k. is_among (serials_in d.ring.laid) k ≡ true) d.unfinished
+    (subst (λ (xs : List ℕ). Every (λ k. is_among (serials_in d.ring.laid) k ≡ true) xs) (sym h.order)
+    (every-filter (λ k. not (is_among (finished d) k)) (λ k. is_among (serials_in d.ring.laid) k ≡ true) (serials_in d.ring.laid) (every-among (serials_in d.ring.laid))))
+
+pub rows_unfinished : (d : DeviceState) → SerialsSound d → Every (λ u. is_among (finished d) u.serial ≡ false) d.unfinished
+rows_unfinished d h =
+    every-mapped (λ (u : Unfinished). u.serial) (λ k. is_among (finished d) k ≡ false) d.unfinished
+    (subst (λ (xs : List ℕ). Every (λ k. is_among (finished d) k ≡ false) xs) (sym h.order)
+    (every-weaker (λ k. not (is_among (finished d) k) ≡ true) (λ k. is_among (finished d) k ≡ false) (filter (λ k. not (is_among (finished d) k)) (serials_in d.ring.laid)) (λ k z. back (is_among (finished d) k) z)
+    (every-passes (λ k. not (is_among (finished d) k)) (serials_in d.ring.laid))))
+  where
+    back : (b : Bool) → not b ≡ true → b ≡ false
+    back true h = absurd (false≢true h)
+    back false h = refl

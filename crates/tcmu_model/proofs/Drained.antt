@@ -17,12 +17,12 @@ use Rattle.tcmu_model.specs.Drain.{least_serial, can_enter, chosen, drain_event}
 use Rattle.tcmu_model.specs.Sound.{Every, CanWait, finished, dispatched_serials, state_fits, is_right, parked_rightly, IsSound}
 use Rattle.tcmu_model.proofs.Places.{none_first}
 use Rattle.tcmu_model.proofs.Draining.{all_todo, todo_attached}
-use Rattle.tcmu_model.proofs.Everies.{every-weaker, every-both, none-every}
+use Rattle.tcmu_model.proofs.Everies.{every-weaker, every-map, every-both, none-every}
 use Rattle.tcmu_model.proofs.Rises.{count_differ, among-take, every-among}
 use Rattle.tcmu_model.proofs.Laying.{empty_takes}
 use Rattle.tcmu_model.proofs.SoundLaying.{entry_least}
-use Rattle.tcmu_model.proofs.Basics.{laid_rise, commands_serials, placed_every}
-use Rattle.tcmu_model.proofs.Facts.{count_rows, waiting_undispatched, rows_among, publishable_most}
+use Rattle.tcmu_model.proofs.Basics.{laid_rise, rows_among, commands_serials, placed_every}
+use Rattle.tcmu_model.proofs.Facts.{count_rows, waiting_undispatched, publishable_most}
 
 -- nothing is to do
 record Quiet (d : DeviceState) : Type 0 where
@@ -148,7 +148,7 @@ all_answered : (d : DeviceState) → IsSound d → Every (λ u. has_state Placed
 all_answered d h e =
     let L : List ℕ = serials_in d.ring.laid in
     let F : List ℕ = finished d in
-    let rows : Every (λ s. is_among d.placed s ≡ true) (map (λ u. u.serial) d.unfinished) = mapped d.unfinished
+    let rows : Every (λ s. is_among d.placed s ≡ true) (map (λ u. u.serial) d.unfinished) = every-map (λ (u : Unfinished). u.serial) (λ u. is_among d.placed u.serial ≡ true) (λ s. is_among d.placed s ≡ true) d.unfinished (λ u k. k)
     (every-weaker (λ u. (is_right d u ≡ true) × (has_state Placed u ≡ true)) (λ u. is_among d.placed u.serial ≡ true) d.unfinished
     (λ u k. placed_among (is_among (dispatched_serials d.ring) u.serial) (is_among d.placed u.serial) (is_among (take (published_commands d.ring) d.placed) u.serial) d.attached u.state (is_some u.reply) k.0 k.1)
     (every-both (λ u. is_right d u ≡ true) (λ u. has_state Placed u ≡ true) d.unfinished h.answers.states e)) in
@@ -158,10 +158,6 @@ all_answered d h e =
     (placed_every (λ s. is_among L s ≡ true) d h.answers (every-among L)) in
     omega (arith, a, count_all (is_among d.placed) L all, commands_serials d.ring.laid)
   where
-    mapped : (us : List Unfinished) → Every (λ u. is_among d.placed u.serial ≡ true) us → Every (λ s. is_among d.placed s ≡ true) (map (λ u. u.serial) us)
-    mapped [] h = tt
-    mapped (u ∷ us) h = (h.0, mapped us h.1)
-
     cleared : (s : ℕ) → not (is_among (finished d) s) ≡ false → is_among d.placed s ≡ true
     cleared s z =
         ⊎_elim

@@ -109,3 +109,7 @@ map_filter g p (x ∷ xs) =
     (λ (e : p (g x) ≡ true). rw e (ap (λ ys. g x ∷ ys) (map_filter g p xs)))
     (λ (e : p (g x) ≡ false). rw e (map_filter g p xs))
     (cases_Bool (p (g x)))
+
+pub every-mapped : {X Y : Type 0} (g : X → Y) (P : Y → Type 0) (xs : List X) → Every P (map g xs) → Every (λ x. P (g x)) xs
+every-mapped g P [] h = tt
+every-mapped g P (x ∷ xs) h = (h.0, every-mapped g P xs h.1)

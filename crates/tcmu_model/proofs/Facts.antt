@@ -16,7 +16,7 @@ use Rattle.tcmu_model.specs.Device.{Unfinished, Delayed, DeviceState, has_state}
 use Rattle.tcmu_model.specs.Events.{is_among, publishable}
 use Rattle.tcmu_model.specs.Sound.{Every, Rise, Along, IsItem, finished, delayed_serials, dispatched_serials, state_fits, is_right, SerialsSound, AnswersSound, IsSound}
 use Rattle.tcmu_model.proofs.Fronts.{front_holds, front_longest, front_short}
-use Rattle.tcmu_model.proofs.Everies.{every-weaker, every-take, every-drop, every-filter, every-passes, filter_same, filter_all, filter_twice, map_filter}
+use Rattle.tcmu_model.proofs.Everies.{every-weaker, every-take, every-drop, filter_same, filter_all, filter_twice, map_filter}
 use Rattle.tcmu_model.proofs.Rises.{rise_front, rise_seam, count_differ, differ-take, not_among, among_every, every-among}
 use Rattle.tcmu_model.proofs.SoundLaying.{entry_least}
 use Rattle.tcmu_model.proofs.Basics.{laid_rise, serials_split, placed_every, commands_serials, cleared_placed}
@@ -180,27 +180,3 @@ publishable_most d k h l m =
     let len : length front ≡ d.ring.dispatched = length-take-le d.ring.dispatched d.ring.laid h.ring.dispatched in
     let cut : commands_in (take k front) ≡ commands_in (take k d.ring.laid) = ap commands_in (take-take k d.ring.dispatched d.ring.laid l) in
     front_longest (length d.placed) k front (omega (arith, len, l)) (omega (arith, cut, m))
-
--- ==== rows and serials
-
-every-mapped : (P : ℕ → Type 0) (us : List Unfinished) → Every P (map (λ u. u.serial) us) → Every (λ u. P u.serial) us
-every-mapped P [] h = tt
-every-mapped P (u ∷ us) h = (h.0, every-mapped P us h.1)
-
--- each unfinished command is laid, and not finished
-pub rows_among : (d : DeviceState) → SerialsSound d → Every (λ u. is_among (serials_in d.ring.laid) u.serial ≡ true) d.unfinished
-rows_among d h =
-    every-mapped (λ k. is_among (serials_in d.ring.laid) k ≡ true) d.unfinished
-    (subst (λ (xs : List ℕ). Every (λ k. is_among (serials_in d.ring.laid) k ≡ true) xs) (sym h.order)
-    (every-filter (λ k. not (is_among (finished d) k)) (λ k. is_among (serials_in d.ring.laid) k ≡ true) (serials_in d.ring.laid) (every-among (serials_in d.ring.laid))))
-
-pub rows_unfinished : (d : DeviceState) → SerialsSound d → Every (λ u. is_among (finished d) u.serial ≡ false) d.unfinished
-rows_unfinished d h =
-    every-mapped (λ k. is_among (finished d) k ≡ false) d.unfinished
-    (subst (λ (xs : List ℕ). Every (λ k. is_among (finished d) k ≡ false) xs) (sym h.order)
-    (every-weaker (λ k. not (is_among (finished d) k) ≡ true) (λ k. is_among (finished d) k ≡ false) (filter (λ k. not (is_among (finished d) k)) (serials_in d.ring.laid)) (λ k z. back (is_among (finished d) k) z)
-    (every-passes (λ k. not (is_among (finished d) k)) (serials_in d.ring.laid))))
-  where
-    back : (b : Bool) → not b ≡ true → b ≡ false
-    back true h = absurd (false≢true h)
-    back false h = refl

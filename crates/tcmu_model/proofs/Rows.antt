@@ -8,9 +8,8 @@ use Rattle.tcmu_model.specs.declared.state.CommandState.{CommandState}
 use Rattle.tcmu_model.specs.declared.state.CommandState.TheVariants.{Waiting, Out, Handled, Parked, Placed, Lost}
 use Rattle.tcmu_model.specs.Lists.{with_first}
 use Rattle.tcmu_model.specs.Device.{Unfinished, DeviceState, has_state}
-use Rattle.tcmu_model.specs.Events.{is_open, blocks_in, held_blocks}
+use Rattle.tcmu_model.specs.Events.{is_open, in_state, blocks_in, held_blocks}
 use Rattle.tcmu_model.specs.Sound.{Every, IsLaid, is_open_at, state_fits, parked_rightly, SerialsSound, RoomSound}
-use Rattle.tcmu_model.proofs.Turning.{turning}
 
 pub record Same (u v : Unfinished) : Type 0 where
   pub serial : v.serial ≡ u.serial
@@ -158,10 +157,5 @@ none_parked false us h = first us h
         (λ (e : has_state Placed u ≡ false). rw (e, h.0) refl)
         (cases_Bool (has_state Placed u))
 
--- a change of state of the commands that pass
-pub turns_same : (p : Unfinished → Bool) (g : Unfinished → Unfinished) → ((u : Unfinished) → Same u (g u)) → (u : Unfinished) → Same u (turning p g u)
-turns_same p g h u =
-    ⊎_elim
-    (λ (e : p u ≡ true). rw e (h u))
-    (λ (e : p u ≡ false). rw e (record { serial = refl; command = refl; expired = refl }))
-    (cases_Bool (p u))
+pub state_kept : (t : CommandState) (u : Unfinished) → Same u (in_state t u)
+state_kept t u = record { serial = refl; command = refl; expired = refl }

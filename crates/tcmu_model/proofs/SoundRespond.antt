@@ -14,19 +14,16 @@ use Rattle.tcmu_model.specs.Events.{is_among, in_state, turned, is_handled, with
 use Rattle.tcmu_model.specs.Sound.{Every, Rise, Differ, ReplyFits, finished, dispatched_serials, state_fits, is_right, parked_rightly, SerialsSound, IsSound}
 use Rattle.tcmu_model.proofs.Counts.{state_at, serial_at}
 use Rattle.tcmu_model.proofs.Firsts.{any-with_first}
-use Rattle.tcmu_model.proofs.Everies.{every-map, every-weaker, every-both, every-append, every-filter, found, none-every}
+use Rattle.tcmu_model.proofs.Everies.{every-map, every-weaker, every-both, every-append, found, none-every}
 use Rattle.tcmu_model.proofs.Rises.{among-append, among-take, among-filter, among_every, differ-push, not_above, every-among}
 use Rattle.tcmu_model.proofs.Turning.{turning, turned_map}
-use Rattle.tcmu_model.proofs.Basics.{laid_rise, rows_rise, cleared_placed}
-use Rattle.tcmu_model.proofs.Rows.{Same, SameRows, rows-trans, rows-turned, rows-serials, serials_same, room_same, fits_attached, placed_stands, none_parked}
+use Rattle.tcmu_model.proofs.Basics.{laid_rise, rows_rise, rows_among, cleared_placed}
+use Rattle.tcmu_model.proofs.Rows.{SameRows, rows-trans, rows-turned, rows-serials, rows-every, state_kept, serials_same, room_same, fits_attached, placed_stands, none_parked}
 
 -- ==== rows while answers are placed: the state of each fits what is dispatched and placed so far
 
 abbrev fits_in : List ℕ → List ℕ → Unfinished → Type 0
 fits_in D P u = state_fits (is_among D u.serial) (is_among P u.serial) false true u.state (is_some u.reply) ≡ true
-
-out_same : (t : CommandState) (u : Unfinished) → Same u (in_state t u)
-out_same t u = record { serial = refl; command = refl; expired = refl }
 
 parks_row : (D P : List ℕ) (s : ℕ) (u : Unfinished) → fits_in D P u → fits_in D P (turning (is_at s Handled) (in_state Parked) u)
 parks_row D P s u h =
@@ -137,7 +134,7 @@ one_placed d p s g a h =
           (every-both (fits_in D p.placed) (λ u. u.serial ≡ s → u.state ≡ Parked) us h.states one));
       replies = subst (λ (vs : List Unfinished). Every (λ u. IfSome u.reply (ReplyFits u.command)) vs) (sym m)
           (every-map f (λ u. IfSome u.reply (ReplyFits u.command)) (λ u. IfSome u.reply (ReplyFits u.command)) us (λ u k. kept_reply (is_at s Parked u) Placed u k) h.replies);
-      rows = rows-trans d.unfinished us (turned s Parked Placed us) h.rows (rows-turned (is_at s Parked) (in_state Placed) us (out_same Placed));
+      rows = rows-trans d.unfinished us (turned s Parked Placed us) h.rows (rows-turned (is_at s Parked) (in_state Placed) us (state_kept Placed));
     }
 
 -- ==== in order: all that are laid before the first that waits are placed
@@ -319,7 +316,7 @@ begins d s h a =
           ∙ (ap (λ b. state_fits (is_among D u.serial) (is_among d.placed u.serial) (is_among (take (published_commands d.ring) d.placed) u.serial) b u.state (is_some u.reply)) (sym a) ∙ k))) h.answers.states);
       replies = subst (λ (vs : List Unfinished). Every (λ u. IfSome u.reply (ReplyFits u.command)) vs) (sym m)
           (every-map f (λ u. IfSome u.reply (ReplyFits u.command)) (λ u. IfSome u.reply (ReplyFits u.command)) us (λ u k. kept_reply (is_at s Handled u) Parked u k) h.answers.replies);
-      rows = rows-turned (is_at s Handled) (in_state Parked) us (out_same Parked);
+      rows = rows-turned (is_at s Handled) (in_state Parked) us (state_kept Parked);
     }
 
 -- out of order none is parked
@@ -343,7 +340,7 @@ out_of_order : (d : DeviceState) (s : ℕ) → IsSound d → parked_rightly true
 out_of_order d s h k =
     let us = d.unfinished in
     let m : with_parked d s ≡ map (turning (is_at s Handled) (in_state Parked)) us = turned_map s Handled (in_state Parked) 0 us d.accepted (rows_rise d h.serials) in
-    let r : Rise 0 (map (λ u. u.serial) (with_parked d s)) d.accepted = rows_risen d (with_parked d s) h.serials (rows-turned (is_at s Handled) (in_state Parked) us (out_same Parked)) in
+    let r : Rise 0 (map (λ u. u.serial) (with_parked d s)) d.accepted = rows_risen d (with_parked d s) h.serials (rows-turned (is_at s Handled) (in_state Parked) us (state_kept Parked)) in
     let m' : turned s Parked Placed (with_parked d s) ≡ map (turning (is_at s Parked) (in_state Placed)) (with_parked d s) = turned_map s Parked (in_state Placed) 0 (with_parked d s) d.accepted r in
     let e : turned s Parked Placed (with_parked d s) ≡ map (turning (is_at s Parked) (in_state Placed)) (map (turning (is_at s Handled) (in_state Parked)) us) = m' ∙ ap (map (turning (is_at s Parked) (in_state Placed))) m in
     ap (parked_rightly true) e ∙ none_parked true (map (turning (is_at s Parked) (in_state Placed)) (map (turning (is_at s Handled) (in_state Parked)) us)) (none_left s us (none-every (has_state Parked) us (not-false (list_any (has_state Parked) us) k)))
@@ -352,15 +349,9 @@ out_of_order d s h k =
     not-false true h = absurd (false≢true h)
     not-false false h = refl
 
-every-mapped : (P : ℕ → Type 0) (us : List Unfinished) → Every P (map (λ u. u.serial) us) → Every (λ u. P u.serial) us
-every-mapped P [] h = tt
-every-mapped P (u ∷ us) h = (h.0, every-mapped P us h.1)
-
 rows_laid : (d : DeviceState) (us : List Unfinished) → SerialsSound d → SameRows d.unfinished us → Every (λ u. is_among (serials_in d.ring.laid) u.serial ≡ true) us
 rows_laid d us h s =
-    every-mapped (λ k. is_among (serials_in d.ring.laid) k ≡ true) us
-    (subst (λ (xs : List ℕ). Every (λ k. is_among (serials_in d.ring.laid) k ≡ true) xs) (sym (rows-serials d.unfinished us s ∙ h.order))
-    (every-filter (λ k. not (is_among (finished d) k)) (λ k. is_among (serials_in d.ring.laid) k ≡ true) (serials_in d.ring.laid) (every-among (serials_in d.ring.laid))))
+    rows-every (λ u. is_among (serials_in d.ring.laid) u.serial ≡ true) d.unfinished us (λ u v k z. ap (is_among (serials_in d.ring.laid)) k.serial ∙ z) s (rows_among d h)
 
 placing_sound : (ooo : Bool) (d : DeviceState) (s : ℕ) → IsSound d → d.settings.flags.ooo ≡ ooo → d.attached ≡ true → is_handled d s ≡ true → IsSound (record d { unfinished = (placed_by ooo (begun d s) s (serials_in d.ring.laid)).unfinished; placed = (placed_by ooo (begun d s) s (serials_in d.ring.laid)).placed })
 placing_sound true d s h o a z =

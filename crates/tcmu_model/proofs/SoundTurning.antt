@@ -19,7 +19,7 @@ use Rattle.tcmu_model.proofs.Rises.{rise_seam, not_among, among-append, among_ev
 use Rattle.tcmu_model.proofs.Places.{within}
 use Rattle.tcmu_model.proofs.Turning.{turning, turned_map}
 use Rattle.tcmu_model.proofs.Basics.{laid_rise, rows_rise, serials_split}
-use Rattle.tcmu_model.proofs.Rows.{Same, SameRows, rows-turned, serials_same, room_same, undispatched_waits, parked_kept}
+use Rattle.tcmu_model.proofs.Rows.{Same, SameRows, rows-turned, state_kept, serials_same, room_same, undispatched_waits, parked_kept}
 
 -- ==== the next item
 
@@ -128,9 +128,6 @@ other_sent d i e n h =
       room = record { blocks = h.room.blocks; delayed = h.room.delayed; none = h.room.none; now = h.room.now };
     }
 
-out_same : (t : CommandState) (u : Unfinished) → Same u (in_state t u)
-out_same t u = record { serial = refl; command = refl; expired = refl }
-
 command_sent : (d : DeviceState) (n s : ℕ) (c : CommandData) → d.attached ≡ true → next_item d ≡ Some (record { len = n; laid = Cmd s c }) → IsSound d → IsSound (record d { ring = passed d.ring; unfinished = turned s Waiting Out d.unfinished })
 command_sent d n s c a e h =
     let i : Item = record { len = n; laid = Cmd s c } in
@@ -144,7 +141,7 @@ command_sent d n s c a e h =
     let nd : is_among D s ≡ false = not_among D s below in
     let np : is_among d.placed s ≡ false = not_among d.placed s (every-weaker (λ k. is_among D k ≡ true) (λ k. k < s) d.placed (λ k z. among_every (λ x. x < s) D k below z) h.answers.dispatched) in
     let m : turned s Waiting Out us ≡ map f us = turned_map s Waiting (in_state Out) 0 us d.accepted (rows_rise d h.serials) in
-    let rows : SameRows us (turned s Waiting Out us) = rows-turned (is_at s Waiting) (in_state Out) us (out_same Out) in
+    let rows : SameRows us (turned s Waiting Out us) = rows-turned (is_at s Waiting) (in_state Out) us (state_kept Out) in
     let ser = serials_same d (turned s Waiting Out us) rows h.serials in
     let room = room_same d (turned s Waiting Out us) rows h.room in
     let new : Every (λ u. state_fits (is_among (D ++ s ∷ []) u.serial) (is_among d.placed u.serial) (is_among (take (published_commands d.ring) d.placed) u.serial) d.attached u.state (is_some u.reply) ≡ true) (map f us) =

@@ -60,11 +60,11 @@ after d (replies s reply) = after_handle d s reply
 
 unfoldable pub answers : DeviceState → List Ask → List AnswerData
 answers d [] = []
-answers d (a ∷ as_) = answer d a ∷ answers (after d a) as_
+answers d (a ∷ rest) = answer d a ∷ answers (after d a) rest
 
 unfoldable pub afterwards : DeviceState → List Ask → DeviceState
 afterwards d [] = d
-afterwards d (a ∷ as_) = afterwards (after d a) as_
+afterwards d (a ∷ rest) = afterwards (after d a) rest
 
 -- ==== devices and commands
 
@@ -99,10 +99,6 @@ test_unit tag = record { init = 97 ∷ []; tag = tag; cdb = 0 ∷ 0 ∷ 0 ∷ 0 
 unfoldable pub times : ℕ → Ask → List Ask
 times zero a = []
 times (suc n) a = a ∷ times n a
-
-unfoldable pub times_then : ℕ → Ask → List Ask → List Ask
-times_then zero a rest = rest
-times_then (suc n) a rest = a ∷ times_then n a rest
 
 -- the drain's choices, each request answered with GOOD
 unfoldable pub asked_by : EventData → Ask
