@@ -107,17 +107,17 @@ among-filter p (x ∷ xs) s =
     (cases_Bool (p x)))
     (cases_Bool (eqb x s))
 
+pub among-here : (front : List ℕ) (k : ℕ) (back : List ℕ) → is_among (front ++ k ∷ back) k ≡ true
+among-here [] k back = or_left (eqb k k) (is_among back k) (eq-eqb k k refl)
+among-here (x ∷ front) k back = or_right (eqb x k) (is_among (front ++ k ∷ back) k) (among-here front k back)
+
 pub every-among : (xs : List ℕ) → Every (λ s. is_among xs s ≡ true) xs
 every-among xs = behind [] xs
   where
-    here : (front : List ℕ) (k : ℕ) (back : List ℕ) → is_among (front ++ k ∷ back) k ≡ true
-    here [] k back = or_left (eqb k k) (is_among back k) (eq-eqb k k refl)
-    here (x ∷ front) k back = or_right (eqb x k) (is_among (front ++ k ∷ back) k) (here front k back)
-
     behind : (front back : List ℕ) → Every (λ k. is_among (front ++ back) k ≡ true) back
     behind front [] = tt
     behind front (k ∷ back) =
-        (here front k back, subst (λ (xs : List ℕ). Every (λ x. is_among xs x ≡ true) back) (append_assoc front (k ∷ []) back) (behind (front ++ k ∷ []) back))
+        (among-here front k back, subst (λ (xs : List ℕ). Every (λ x. is_among xs x ≡ true) back) (append_assoc front (k ∷ []) back) (behind (front ++ k ∷ []) back))
 
 -- ==== numbers that differ
 

@@ -254,6 +254,7 @@ sound_after_clean d h =
         dispatched = h.answers.dispatched;
         states = subst (λ (ws : List Unfinished). Every (λ u. is_right d u ≡ true) ws) (sym e) (every-filter (stays ps) (λ u. is_right d u ≡ true) us h.answers.states);
         replies = subst (λ (ws : List Unfinished). Every (λ u. IfSome u.reply (ReplyFits u.command)) ws) (sym e) (every-filter (stays ps) (λ u. IfSome u.reply (ReplyFits u.command)) us h.answers.replies);
+        in_order = h.answers.in_order;
         parked = ap (parked_rightly d.settings.flags.ooo) e
             ∙ parked_left d.settings.flags.ooo (stays ps) us
             (every-weaker (λ u. is_among ps u.serial ≡ true → (u.state ≡ Placed) × (is_some u.reply ≡ true)) (λ u. stays ps u ≡ false → has_state Placed u ≡ true) us

@@ -33,7 +33,7 @@ sound_opening s h =
       settings = h;
       ring = record { size = refl; cleared = omega arith; published = omega arith; dispatched = omega arith; room = omega (arith, h.ring_low); items = tt; ends = tt };
       serials = record { rise = omega arith; order = refl; laid = tt; accounted = λ k. none k (le-none k) };
-      answers = record { published = omega arith; differ = tt; dispatched = tt; states = tt; replies = tt; parked = empty s.flags.ooo };
+      answers = record { published = omega arith; differ = tt; dispatched = tt; states = tt; replies = tt; in_order = λ q. ([], refl); parked = empty s.flags.ooo };
       room = record { blocks = omega arith; delayed = tt; none = λ q. refl; now = omega arith };
     }
   where
@@ -64,6 +64,7 @@ sound_after_block d b h =
         dispatched = h.answers.dispatched;
         states = h.answers.states;
         replies = h.answers.replies;
+        in_order = h.answers.in_order;
         parked = h.answers.parked;
       };
       room = record { blocks = h.room.blocks; delayed = h.room.delayed; none = h.room.none; now = h.room.now };
@@ -107,6 +108,7 @@ sound_published d a h =
             ap (λ (b : Bool). state_fits D P B b u.state (is_some u.reply)) a
             ∙ (fits_attached D P B A u.state (is_some u.reply) ∙ (ap (λ (b : Bool). state_fits D P A b u.state (is_some u.reply)) (sym a) ∙ k))) h.answers.states;
         replies = h.answers.replies;
+        in_order = h.answers.in_order;
         parked = h.answers.parked;
       };
       room = record { blocks = h.room.blocks; delayed = h.room.delayed; none = h.room.none; now = h.room.now };
@@ -217,6 +219,7 @@ sound_after_tick d n h =
             (λ u k. let e = expire_same now u in rw (e.0, e.2, e.3) k) h.answers.states;
         replies = every-map f (λ u. IfSome u.reply (ReplyFits u.command)) (λ u. IfSome u.reply (ReplyFits u.command)) us
             (λ u k. let e = expire_same now u in subst (λ (o : Option ReplyData). IfSome o (ReplyFits (f u).command)) (sym e.3) (subst (λ (c : CommandData). IfSome u.reply (ReplyFits c)) (sym e.1) k)) h.answers.replies;
+        in_order = h.answers.in_order;
         parked = parked_kept d.settings.flags.ooo f us (λ u. ap (λ t. same_state t Parked) (expire_same now u).2) (λ u. ap (λ t. same_state t Placed) (expire_same now u).2) ∙ h.answers.parked;
       };
       room = record {
@@ -295,7 +298,7 @@ sound_emptied d level h =
             let b : times_logged (opened ++ waited) k ≡ times_logged opened k + times_logged waited k = sum_by-append (λ (v : DoneData). cond {A = ℕ} (eqb v.serial k) 1 0) opened waited in
             omega (arith, a, b, reset_open level k d.unfinished, reset_delayed level k d.delayed, h.serials.accounted k);
       };
-      answers = record { published = omega arith; differ = tt; dispatched = tt; states = tt; replies = tt; parked = empty d.settings.flags.ooo };
+      answers = record { published = omega arith; differ = tt; dispatched = tt; states = tt; replies = tt; in_order = λ q. ([], refl); parked = empty d.settings.flags.ooo };
       room = record { blocks = omega arith; delayed = tt; none = λ q. refl; now = h.room.now };
     }
   where
@@ -425,6 +428,7 @@ sound_after_restart d h =
             (lost_fits (is_among (dispatched_serials d.ring) u.serial) (is_among d.placed u.serial) (is_among A u.serial) d.attached u.state (is_some u.reply)
             (λ n. among-take (published_commands d.ring) d.placed u.serial n) k)) h.answers.states;
         replies = every-map (lose A) (λ u. IfSome u.reply (ReplyFits u.command)) (λ u. IfSome u.reply (ReplyFits u.command)) us (λ u k. lose_reply A u k) h.answers.replies;
+        in_order = h.answers.in_order;
         parked = none_parked d.settings.flags.ooo (map (lose A) us) (every-map (lose A) (λ u. is_right d u ≡ true) (λ u. has_state Parked u ≡ false) us (λ u k. lose_unparked A u) h.answers.states);
       };
       room = record { blocks = room.blocks; delayed = room.delayed; none = room.none; now = room.now };

@@ -115,6 +115,7 @@ answers_entered d s c ws n h below =
       states = subst (λ (xs : List ℕ). Every (λ u. state_fits (is_among xs u.serial) (is_among d.placed u.serial) (is_among (take (published_commands (with_item d.ring i)) d.placed) u.serial) d.attached u.state (is_some u.reply) ≡ true) (d.unfinished ++ waiting d s c ∷ [])) (sym sent)
           (subst (λ (m : ℕ). Every (λ u. state_fits (is_among (dispatched_serials d.ring) u.serial) (is_among d.placed u.serial) (is_among (take m d.placed) u.serial) d.attached u.state (is_some u.reply) ≡ true) (d.unfinished ++ waiting d s c ∷ [])) (sym cut) old);
       replies = every-append (λ u. IfSome u.reply (ReplyFits u.command)) d.unfinished (waiting d s c ∷ []) h.answers.replies (tt, tt);
+      in_order = λ q. let b = h.answers.in_order q in (b.0 ++ s ∷ [], serials_laid d.ring i ∙ (ap (λ (xs : List ℕ). xs ++ s ∷ []) b.1 ∙ append_assoc d.placed b.0 (s ∷ [])));
       parked = parked-push d.settings.flags.ooo d.unfinished (waiting d s c) refl h.answers.parked;
     }
 
@@ -171,6 +172,7 @@ sound_noted d kind ss h f =
         states = subst (λ (xs : List ℕ). Every (λ u. state_fits (is_among xs u.serial) (is_among d.placed u.serial) (is_among (take (published_commands (with_item d.ring i)) d.placed) u.serial) d.attached u.state (is_some u.reply) ≡ true) d.unfinished) (sym sent)
             (subst (λ (m : ℕ). Every (λ u. state_fits (is_among (dispatched_serials d.ring) u.serial) (is_among d.placed u.serial) (is_among (take m d.placed) u.serial) d.attached u.state (is_some u.reply) ≡ true) d.unfinished) (sym cut_p) h.answers.states);
         replies = h.answers.replies;
+        in_order = λ q. let b = h.answers.in_order q in (b.0, e ∙ b.1);
         parked = h.answers.parked;
       };
       room = record { blocks = h.room.blocks; delayed = h.room.delayed; none = h.room.none; now = h.room.now };

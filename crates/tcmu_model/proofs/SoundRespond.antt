@@ -3,7 +3,7 @@ use Rattle.std.proofs.Common.{◌≡◌, ℕ, ◌+◌, ◌<◌, ◌≤◌, Bool,
 use Rattle.std.specs.List.{list_any, filter}
 use Rattle.std.specs.Option.{is_some}
 use Rattle.std.specs.Prelude.{IfSome}
-use Rattle.std.proofs.lemmas.Bool.{cases_Bool, false≢true, or_parts, and_parts, and_from, eqb-true, eqb-false, eq-eqb, ne_eqb, or_right}
+use Rattle.std.proofs.lemmas.Bool.{cases_Bool, false≢true, or_parts, and_parts, and_from, eqb-true, eqb-false, eq-eqb, ne_eqb, or_right, true≢false}
 use Rattle.std.proofs.lemmas.List.{take-append-le}
 use Rattle.tcmu_model.specs.declared.state.CommandState.{CommandState}
 use Rattle.tcmu_model.specs.declared.state.CommandState.TheVariants.{Waiting, Out, Handled, Parked, Placed, Lost}
@@ -11,11 +11,11 @@ use Rattle.tcmu_model.specs.States.{same_state}
 use Rattle.tcmu_model.specs.RingState.{serials_in, published_commands, cleared_commands}
 use Rattle.tcmu_model.specs.Device.{Unfinished, DeviceState, has_state, is_at}
 use Rattle.tcmu_model.specs.Events.{is_among, in_state, turned, is_handled, with_parked, Placing, with_placed, run_placed, placed_by, placing, after_respond}
-use Rattle.tcmu_model.specs.Sound.{Every, Rise, Differ, ReplyFits, finished, dispatched_serials, state_fits, is_right, parked_rightly, SerialsSound, IsSound}
+use Rattle.tcmu_model.specs.Sound.{Every, Rise, Begins, Differ, ReplyFits, finished, dispatched_serials, state_fits, is_right, parked_rightly, SerialsSound, IsSound}
 use Rattle.tcmu_model.proofs.Counts.{state_at, serial_at}
 use Rattle.tcmu_model.proofs.Firsts.{any-with_first}
 use Rattle.tcmu_model.proofs.Everies.{every-map, every-weaker, every-both, every-append, found, none-every}
-use Rattle.tcmu_model.proofs.Rises.{among-append, among-take, among-filter, among_every, differ-push, not_above, every-among}
+use Rattle.tcmu_model.proofs.Rises.{among-append, among-take, among-filter, among_every, among-here, differ-push, not_above, not_among, rise_seam, every-among}
 use Rattle.tcmu_model.proofs.Turning.{turning, turned_map}
 use Rattle.tcmu_model.proofs.Basics.{laid_rise, rows_rise, rows_among, cleared_placed}
 use Rattle.tcmu_model.proofs.Rows.{SameRows, rows-trans, rows-turned, rows-serials, rows-every, state_kept, serials_same, room_same, fits_attached, placed_stands, none_parked}
@@ -263,10 +263,29 @@ run_sound d p low (s ∷ ss) g r l b h =
     (cases_Bool (list_any (is_at s Parked) p.unfinished)))
     (cases_Bool (is_among p.placed s))
 
+-- ==== in order: what is placed is a front of what is laid
+
+run_rest : (p : Placing) (L : List ℕ) (high : ℕ) (done rest : List ℕ) → Rise 0 L high → L ≡ done ++ rest → p.placed ≡ done → Begins (run_placed p rest).placed L
+run_rest p L high done [] r l e = ([], l ∙ ap (λ (xs : List ℕ). xs ++ []) (sym e))
+run_rest p L high done (s ∷ rest) r l e =
+    let below : Every (λ x. x < s) done = (rise_seam 0 done s rest high (subst (λ (xs : List ℕ). Rise 0 xs high) l r)).0 in
+    let new : is_among p.placed s ≡ false = ap (λ (xs : List ℕ). is_among xs s) e ∙ not_among done s below in
+    ⊎_elim
+    (λ (z : list_any (is_at s Parked) p.unfinished ≡ true).
+    rw (new, z) (run_rest (with_placed p s) L high (done ++ s ∷ []) rest r (l ∙ sym (append_assoc done (s ∷ []) rest)) (ap (λ (xs : List ℕ). xs ++ s ∷ []) e)))
+    (λ (z : list_any (is_at s Parked) p.unfinished ≡ false). rw (new, z) (s ∷ rest, l ∙ ap (λ (xs : List ℕ). xs ++ s ∷ rest) (sym e)))
+    (cases_Bool (list_any (is_at s Parked) p.unfinished))
+
+run_begins : (p : Placing) (L : List ℕ) (high : ℕ) (done more rest : List ℕ) → Rise 0 L high → L ≡ done ++ (more ++ rest) → p.placed ≡ done ++ more → Begins (run_placed p (more ++ rest)).placed L
+run_begins p L high done [] rest r l e = run_rest p L high done rest r l (e ∙ append-nil done)
+run_begins p L high done (s ∷ more) rest r l e =
+    let old : is_among p.placed s ≡ true = ap (λ (xs : List ℕ). is_among xs s) e ∙ among-here done s more in
+    rw old (run_begins p L high (done ++ s ∷ []) more rest r (l ∙ sym (append_assoc done (s ∷ []) (more ++ rest))) (e ∙ sym (append_assoc done (s ∷ []) more)))
+
 -- ==== the response
 
-placed_sound : (d : DeviceState) (p : Placing) → IsSound d → d.attached ≡ true → PlacingSound d p → parked_rightly d.settings.flags.ooo p.unfinished ≡ true → IsSound (record d { unfinished = p.unfinished; placed = p.placed })
-placed_sound d p g a h k =
+placed_sound : (d : DeviceState) (p : Placing) → IsSound d → d.attached ≡ true → PlacingSound d p → parked_rightly d.settings.flags.ooo p.unfinished ≡ true → (d.settings.flags.ooo ≡ false → Begins p.placed (serials_in d.ring.laid)) → IsSound (record d { unfinished = p.unfinished; placed = p.placed })
+placed_sound d p g a h k b =
     let c : ℕ = cleared_commands d.ring in
     let l : length p.placed ≡ length d.placed + length h.more = ap length h.grown ∙ length-append d.placed h.more in
     let cut : take c p.placed ≡ take c d.placed = ap (take c) h.grown ∙ take-append-le c d.placed h.more (cleared_placed d g.ring g.answers) in
@@ -290,6 +309,7 @@ placed_sound d p g a h k =
             (λ u z. ap (λ b. state_fits (is_among (dispatched_serials d.ring) u.serial) (is_among p.placed u.serial) (is_among (take (published_commands d.ring) p.placed) u.serial) b u.state (is_some u.reply)) a
             ∙ (fits_attached (is_among (dispatched_serials d.ring) u.serial) (is_among p.placed u.serial) (is_among (take (published_commands d.ring) p.placed) u.serial) false u.state (is_some u.reply) ∙ z)) h.states;
         replies = h.replies;
+        in_order = b;
         parked = k;
       };
       room = record { blocks = room.blocks; delayed = room.delayed; none = room.none; now = room.now };
@@ -359,6 +379,7 @@ placing_sound true d s h o a z =
     let p : parked_rightly true d.unfinished ≡ true = subst (λ (b : Bool). parked_rightly b d.unfinished ≡ true) o h.answers.parked in
     placed_sound d (with_placed (begun d s) s) h a (one_placed d (begun d s) s h.serials w (begins d s h a))
     (subst (λ (b : Bool). parked_rightly b (turned s Parked Placed (with_parked d s)) ≡ true) (sym o) (out_of_order d s h p))
+    (λ q. absurd (true≢false (sym o ∙ q)))
 placing_sound false d s h o a z =
     let b : PlacingSound d (begun d s) = begins d s h a in
     let l : Every (λ u. is_among (serials_in d.ring.laid) u.serial ≡ true) (with_parked d s) = rows_laid d (with_parked d s) h.serials b.rows in
@@ -366,6 +387,8 @@ placing_sound false d s h o a z =
     (every-weaker (λ u. is_among (serials_in d.ring.laid) u.serial ≡ true) (λ u. is_among (serials_in d.ring.laid) u.serial ≡ false → u.state ≡ Placed) (with_parked d s) (λ u k n. absurd (false≢true (sym n ∙ k))) l) b in
     placed_sound d (run_placed (begun d s) (serials_in d.ring.laid)) h a r.sound
     (subst (λ (t : Bool). parked_rightly t (run_placed (begun d s) (serials_in d.ring.laid)).unfinished ≡ true) (sym o) r.parked)
+    (λ q. let f = h.answers.in_order q in
+    subst (λ (ss : List ℕ). Begins (run_placed (begun d s) ss).placed (serials_in d.ring.laid)) (sym f.1) (run_begins (begun d s) (serials_in d.ring.laid) d.accepted [] d.placed f.0 (laid_rise d h.serials) f.1 refl))
 
 handled_attached : (dispatched placed published attached : Bool) (r : Bool) → state_fits dispatched placed published attached Handled r ≡ true → attached ≡ true
 handled_attached true false p true r h = refl

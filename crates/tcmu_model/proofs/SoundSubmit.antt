@@ -99,6 +99,7 @@ sound_delayed d c h can some =
         dispatched = h.answers.dispatched;
         states = h.answers.states;
         replies = h.answers.replies;
+        in_order = h.answers.in_order;
         parked = h.answers.parked;
       };
       room = record {

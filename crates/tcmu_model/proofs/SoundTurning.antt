@@ -123,6 +123,7 @@ other_sent d i e n h =
         dispatched = subst (λ (xs : List ℕ). Every (λ k. is_among xs k ≡ true) d.placed) (sym s) h.answers.dispatched;
         states = subst (λ (xs : List ℕ). Every (λ u. state_fits (is_among xs u.serial) (is_among d.placed u.serial) (is_among (take (published_commands d.ring) d.placed) u.serial) d.attached u.state (is_some u.reply) ≡ true) d.unfinished) (sym s) h.answers.states;
         replies = h.answers.replies;
+        in_order = h.answers.in_order;
         parked = h.answers.parked;
       };
       room = record { blocks = h.room.blocks; delayed = h.room.delayed; none = h.room.none; now = h.room.now };
@@ -160,6 +161,7 @@ command_sent d n s c a e h =
             (subst (λ (vs : List Unfinished). Every (λ u. state_fits (is_among (D ++ s ∷ []) u.serial) (is_among d.placed u.serial) (is_among (take (published_commands d.ring) d.placed) u.serial) d.attached u.state (is_some u.reply) ≡ true) vs) (sym m) new);
         replies = subst (λ (vs : List Unfinished). Every (λ u. IfSome u.reply (ReplyFits u.command)) vs) (sym m)
             (every-map f (λ u. IfSome u.reply (ReplyFits u.command)) (λ u. IfSome u.reply (ReplyFits u.command)) us (λ u k. kept_reply (is_at s Waiting u) u k) h.answers.replies);
+        in_order = h.answers.in_order;
         parked = ap (parked_rightly d.settings.flags.ooo) m
             ∙ (parked_kept d.settings.flags.ooo f us (λ u. keeps_state Parked s Waiting Out u refl refl) (λ u. keeps_state Placed s Waiting Out u refl refl) ∙ h.answers.parked);
       };
@@ -254,6 +256,7 @@ sound_after_handle d s reply u h e fits =
         states = subst (λ (ws : List Unfinished). Every (λ v. is_right d v ≡ true) ws) (sym m)
             (every-map f (λ v. is_right d v ≡ true) (λ v. is_right d v ≡ true) us (λ v k. handled_row s reply (dispatched_serials d.ring) d.placed (take (published_commands d.ring) d.placed) d.attached v k) h.answers.states);
         replies = first_replies s reply us u e fits h.answers.replies;
+        in_order = h.answers.in_order;
         parked = ap (parked_rightly d.settings.flags.ooo) m
             ∙ (parked_kept d.settings.flags.ooo f us (λ v. keeps_handled Parked s reply v refl refl) (λ v. keeps_handled Placed s reply v refl refl) ∙ h.answers.parked);
       };

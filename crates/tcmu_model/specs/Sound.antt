@@ -24,6 +24,10 @@ abbrev pub Rise : ℕ → List ℕ → ℕ → Type 0
 Rise low [] high = low ≤ high
 Rise low (x ∷ xs) high = (low < x) × Rise x xs high
 
+-- the list begins with this front
+abbrev pub Begins : List ℕ → List ℕ → Type 0
+Begins front xs = (rest : List ℕ) × (xs ≡ front ++ rest)
+
 -- the numbers differ
 abbrev pub Differ : List ℕ → Type 0
 Differ [] = Unit {0}
@@ -148,6 +152,8 @@ pub record AnswersSound (d : DeviceState) : Type 0 where
   pub states : Every (λ u. is_right d u ≡ true) d.unfinished
   pub replies : Every (λ u. IfSome u.reply (ReplyFits u.command)) d.unfinished
   pub parked : parked_rightly d.settings.flags.ooo d.unfinished ≡ true
+  -- in order, answers are placed as their commands were laid
+  pub in_order : d.settings.flags.ooo ≡ false → Begins d.placed (serials_in d.ring.laid)
 
 -- ==== room
 
