@@ -6,7 +6,7 @@ ghost use Rattle.tcmu_model.specs.declared.state.CommandState.TheVariants.{Waiti
 ghost use Rattle.tcmu_model.specs.RingState.{serials_in, cleared_commands, dispatched_commands};
 ghost use Rattle.tcmu_model.specs.Device.{DeviceState, has_serial, has_state};
 ghost use Rattle.tcmu_model.specs.Events.{is_among, answered, is_in_hand};
-ghost use Rattle.tcmu_model.specs.Sound.{Every, finished, dispatched_serials, awaits_answer, IsSound};
+ghost use Rattle.tcmu_model.specs.Sound.{Every, Begins, finished, dispatched_serials, awaits_answer, IsSound};
 
 /// The commands that are Waiting are those that are not dispatched, in the order of laying.
 pub fn waiting_law()
@@ -15,11 +15,13 @@ pub fn waiting_law()
 {}
 
 /// Of the answers placed, those that are cleared are of commands that are finished, and the others of commands that are unfinished:
-/// Placed on an attached device, or where they are published; else Lost, with their replies.
+/// Placed on an attached device, or where they are published; else Lost, with their replies. Without the flag for completions out of
+/// order, answers are placed in the order in which their commands were laid.
 pub fn placed_law()
     ensures finished { (d : DeviceState) → IsSound d → Every (λ s. list_any (has_serial s) d.unfinished ≡ false) (finished d) }
     ensures unfinished { (d : DeviceState) → IsSound d → Every (λ s. list_any (has_serial s) d.unfinished ≡ true) (drop (cleared_commands d.ring) d.placed) }
     ensures states { (d : DeviceState) → IsSound d → Every (λ u. is_among d.placed u.serial ≡ true → (u.state ≡ (if d.attached || is_among (answered d) u.serial then Placed else Lost)) × (is_some u.reply ≡ true)) d.unfinished }
+    ensures in_order { (d : DeviceState) → IsSound d → d.settings.flags.ooo ≡ false → Begins d.placed (serials_in d.ring.laid) }
 {}
 
 /// A dispatched command whose answer is not placed is Out, Handled or Parked on an attached device, and Lost without a reply on a

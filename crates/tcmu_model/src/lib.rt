@@ -14,6 +14,8 @@ mod lengths;
 mod mailbox;
 mod op;
 mod state;
+#[cfg(test)]
+mod tests;
 mod words;
 mod worked;
 
