@@ -1,19 +1,14 @@
 -- What a sound device tells of its numbers.
-use Rattle.std.proofs.Common.{◌≡◌, ℕ, ◌+◌, ◌-◌, ◌*◌, ◌<◌, ◌≤◌, Bool, true, false, cond, not, ltb, eqb, List, [], ◌∷◌, ◌++◌, length, take, drop, map, Some, None, refl, sym, ap, subst, ◌∙◌, arith, ⊎_elim, ◌||◌, ◌&&◌, if◌then◌else◌}
-use Rattle.std.specs.List.{list_any, count_by, filter, sum_by}
-use Rattle.std.proofs.lemmas.Bool.{cases_Bool, false≢true, true≢false, or_parts, or_right, ltb-true, ltb-false, eqb-true, eqb-false, ne_eqb, le-ltb, lt-ltb}
-use Rattle.std.proofs.lemmas.List.{take-take, take-append-drop}
+use Rattle.std.proofs.Common.{◌≡◌, ℕ, ◌+◌, ◌*◌, ◌<◌, ◌≤◌, Bool, true, false, cond, not, ltb, eqb, List, [], ◌∷◌, ◌++◌, length, map, Some, None, refl, sym, ap, subst, ◌∙◌, arith, ⊎_elim, ◌||◌}
+use Rattle.std.specs.List.{list_any, count_by, filter}
+use Rattle.std.proofs.lemmas.Bool.{cases_Bool, false≢true, or_parts, ltb-true, ltb-false, eqb-true, ne_eqb, le-ltb, lt-ltb}
 use Rattle.std.proofs.lemmas.List.Sums.{sum_by-cons, count_by-le-length}
 use Rattle.std.proofs.lemmas.List.Folds.{list_any-append}
-use Rattle.tcmu_model.specs.Lists.{first_of, RisesAbove, IsRising}
-use Rattle.tcmu_model.specs.RingState.{serials_in, used, cleared_commands, published_commands}
-use Rattle.tcmu_model.specs.Device.{Unfinished, DeviceState, has_serial, has_state, is_at}
-use Rattle.tcmu_model.specs.declared.state.CommandState.TheVariants.{Placed, Lost}
-use Rattle.tcmu_model.specs.Events.{is_among, is_losing, is_in_hand, lose, answered, books, Books, finish, finish_all, cleaned_books, unknown_serial}
+use Rattle.tcmu_model.specs.Lists.{RisesAbove, IsRising}
+use Rattle.tcmu_model.specs.RingState.{serials_in, used}
+use Rattle.tcmu_model.specs.Device.{Unfinished, DeviceState, has_serial}
+use Rattle.tcmu_model.specs.Events.{is_among, unknown_serial}
 use Rattle.tcmu_model.specs.Sound.{IsSound, Every, Rise, Differ, finished, delayed_serials}
-use Rattle.std.proofs.Math.Seq.{take-add}
-use Rattle.tcmu_model.proofs.Firsts.{first_of_none}
-use Rattle.tcmu_model.proofs.Fronts.{commands_more}
 use Rattle.tcmu_path.specs.Fresh.{AreAway}
 use Rattle.tcmu_model.proofs.Facts.{bounded_rows}
 
@@ -57,15 +52,15 @@ count-at n s (u ∷ us) h a =
     let m = sum_by-cons (λ x. cond {A = ℕ} (above n x) 1 0) u us in
     ⊎_elim
     (λ (e : eqb u.serial s ≡ true).
-        let q : u.serial ≡ s = eqb-true u.serial s e in
-        let no : ltb s u.serial ≡ false = le-ltb s u.serial (omega (arith, q)) in
-        let yes : ltb n u.serial ≡ true = lt-ltb n u.serial (omega (arith, q, h)) in
-        let one : cond {A = ℕ} (above n u) 1 0 ≡ 1 = ap (λ b. cond {A = ℕ} b 1 0) yes in
-        let none : cond {A = ℕ} (above s u) 1 0 ≡ 0 = ap (λ b. cond {A = ℕ} b 1 0) no in
-        omega (arith, l, m, one, none, count-above n s us (omega (arith, h))))
+    let q : u.serial ≡ s = eqb-true u.serial s e in
+    let no : ltb s u.serial ≡ false = le-ltb s u.serial (omega (arith, q)) in
+    let yes : ltb n u.serial ≡ true = lt-ltb n u.serial (omega (arith, q, h)) in
+    let one : cond {A = ℕ} (above n u) 1 0 ≡ 1 = ap (λ b. cond {A = ℕ} b 1 0) yes in
+    let none : cond {A = ℕ} (above s u) 1 0 ≡ 0 = ap (λ b. cond {A = ℕ} b 1 0) no in
+    omega (arith, l, m, one, none, count-above n s us (omega (arith, h))))
     (λ (e : eqb u.serial s ≡ false).
-        let k : list_any (has_serial s) us ≡ true = rw e at a in
-        omega (arith, l, m, above-fewer n s u (omega (arith, h)), count-at n s us h k))
+    let k : list_any (has_serial s) us ≡ true = rw e at a in
+    omega (arith, l, m, above-fewer n s u (omega (arith, h)), count-at n s us h k))
     (cases_Bool (eqb u.serial s))
 
 few-above : (n : ℕ) (ss : List ℕ) (us : List Unfinished) → RisesAbove n ss → unknown_serial us ss ≡ None → length ss ≤ count_by (above n) us
@@ -73,8 +68,8 @@ few-above n [] us r k = omega arith
 few-above n (s ∷ ss) us r k =
     ⊎_elim
     (λ (e : list_any (has_serial s) us ≡ true).
-        let rest : unknown_serial us ss ≡ None = rw e at k in
-        omega (arith, count-at n s us r.0 e, few-above s ss us r.1 rest))
+    let rest : unknown_serial us ss ≡ None = rw e at k in
+    omega (arith, count-at n s us r.0 e, few-above s ss us r.1 rest))
     (λ (e : list_any (has_serial s) us ≡ false). let z : Some s ≡ None = rw e at k in absurd (cc))
     (cases_Bool (list_any (has_serial s) us))
 
@@ -85,14 +80,14 @@ count-less s (u ∷ us) a =
     let l = sum_by-cons (λ x. cond {A = ℕ} (above s x) 1 0) u us in
     ⊎_elim
     (λ (e : eqb u.serial s ≡ true).
-        let q : u.serial ≡ s = eqb-true u.serial s e in
-        let no : ltb s u.serial ≡ false = le-ltb s u.serial (omega (arith, q)) in
-        let none : cond {A = ℕ} (above s u) 1 0 ≡ 0 = ap (λ b. cond {A = ℕ} b 1 0) no in
-        omega (arith, l, none, count_by-le-length (above s) us))
+    let q : u.serial ≡ s = eqb-true u.serial s e in
+    let no : ltb s u.serial ≡ false = le-ltb s u.serial (omega (arith, q)) in
+    let none : cond {A = ℕ} (above s u) 1 0 ≡ 0 = ap (λ b. cond {A = ℕ} b 1 0) no in
+    omega (arith, l, none, count_by-le-length (above s) us))
     (λ (e : eqb u.serial s ≡ false).
-        let k : list_any (has_serial s) us ≡ true = rw e at a in
-        let one : cond {A = ℕ} (above s u) 1 0 ≤ 1 = at_most_one (above s u) in
-        omega (arith, l, one, count-less s us k))
+    let k : list_any (has_serial s) us ≡ true = rw e at a in
+    let one : cond {A = ℕ} (above s u) 1 0 ≤ 1 = at_most_one (above s u) in
+    omega (arith, l, one, count-less s us k))
     (cases_Bool (eqb u.serial s))
 
 -- rising serials that are all known are no more than the commands
@@ -101,8 +96,8 @@ few_known [] us r k = omega arith
 few_known (s ∷ ss) us r k =
     ⊎_elim
     (λ (e : list_any (has_serial s) us ≡ true).
-        let rest : unknown_serial us ss ≡ None = rw e at k in
-        omega (arith, count-less s us e, few-above s ss us r rest))
+    let rest : unknown_serial us ss ≡ None = rw e at k in
+    omega (arith, count-less s us e, few-above s ss us r rest))
     (λ (e : list_any (has_serial s) us ≡ false). let z : Some s ≡ None = rw e at k in absurd (cc))
     (cases_Bool (list_any (has_serial s) us))
 

@@ -1,5 +1,5 @@
 -- Answers that are cleared are of commands that are finished: what goes over the placed answers may begin behind them.
-use Rattle.std.proofs.Common.{◌≡◌, ℕ, ◌+◌, ◌-◌, ◌≤◌, Bool, true, false, cond, not, eqb, List, [], ◌∷◌, ◌++◌, take, drop, map, None, refl, sym, ap, ◌∙◌, arith, ◌||◌, ◌&&◌, if◌then◌else◌}
+use Rattle.std.proofs.Common.{◌≡◌, ℕ, ◌+◌, ◌-◌, ◌≤◌, Bool, false, cond, not, eqb, List, [], ◌∷◌, ◌++◌, take, drop, map, None, refl, sym, ap, ◌∙◌, arith, ◌||◌, ◌&&◌, if◌then◌else◌}
 use Rattle.std.specs.List.{list_any, count_by}
 use Rattle.std.proofs.Math.Seq.{take-add}
 use Rattle.std.proofs.lemmas.Bool.{or_parts, eqb-false, ne_eqb}
@@ -9,7 +9,6 @@ use Rattle.tcmu_model.specs.declared.state.CommandState.TheVariants.{Placed, Los
 use Rattle.tcmu_model.specs.Lists.{first_of}
 use Rattle.tcmu_model.specs.Device.{Unfinished, has_state, is_at}
 use Rattle.tcmu_model.specs.Events.{is_among, is_losing, is_in_hand, lose, Books, finish, finish_all}
-use Rattle.tcmu_model.specs.Sound.{Every}
 use Rattle.tcmu_model.proofs.Firsts.{first_of_none}
 use Rattle.tcmu_path.specs.Fresh.{AreAway}
 

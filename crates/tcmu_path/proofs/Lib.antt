@@ -5,3 +5,4 @@ pub mod Turns
 pub mod Bounds
 pub mod Cleared
 pub mod Plains
+pub mod Keeping

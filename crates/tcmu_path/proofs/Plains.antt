@@ -1,5 +1,5 @@
 -- What a plain device keeps beside its state, after an event.
-use Rattle.std.proofs.Common.{◌≡◌, ℕ, ◌+◌, ◌≤◌, false, List, [], ◌∷◌, ◌++◌, length, take, refl, sym, ap, ◌∙◌, arith, append_assoc}
+use Rattle.std.proofs.Common.{◌≡◌, ℕ, ◌+◌, ◌≤◌, List, [], ◌∷◌, ◌++◌, length, take, refl, sym, ap, ◌∙◌, arith, append_assoc}
 use Rattle.std.proofs.lemmas.List.{take-append-le, length-append}
 use Rattle.tcmu_types.specs.Data.{SettingsData}
 use Rattle.tcmu_model.specs.Lengths.{blocks_of}
@@ -42,7 +42,9 @@ within-laid laid new n h l = omega (arith, h, ap length l.is, length-append laid
 pub plain_noted : (s : SettingsData) (laid new : List Item) (us : List Unfinished) (ws : List Delayed) (placed : List ℕ) (h p l n : ℕ) → IsPlain s laid us ws placed h p l n → Lays laid new → IsPlain s new us ws placed h p l n
 plain_noted s laid new us ws placed h p l n t k =
     record {
-      held_is = t.held_is; placed_room = t.placed_room; log_room = t.log_room;
+      held_is = t.held_is;
+      placed_room = t.placed_room;
+      log_room = t.log_room;
       within = within-laid laid new n t.within k;
       ordered = λ e. let same : placed ≡ placed = refl in ordered-laid laid new placed placed n t.within k same (t.ordered e);
     }

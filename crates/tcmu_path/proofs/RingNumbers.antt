@@ -1,13 +1,12 @@
 -- What laying, publishing and clearing do to the numbers that a plain ring keeps.
-use Rattle.std.proofs.Common.{◌≡◌, ℕ, ◌+◌, ◌-◌, ◌%◌, ◌<◌, ◌≤◌, List, [], ◌∷◌, ◌++◌, length, drop, take, refl, sym, ap, ◌∙◌, subst, arith, eqb, Bool, true, false, cond, ⊎_elim, length-append, append_assoc, add-one, suc, zero}
+use Rattle.std.proofs.Common.{◌≡◌, ℕ, ◌+◌, ◌-◌, ◌%◌, ◌<◌, ◌≤◌, List, [], ◌∷◌, ◌++◌, length, drop, take, refl, sym, ap, ◌∙◌, arith, eqb, true, false, cond, ⊎_elim, length-append, append_assoc, add-one, suc, zero}
 use Rattle.std.proofs.lemmas.List.Sums.{sum_by-append, sum_by-take-drop, sum_by_push, sum_by-cons}
 use Rattle.std.proofs.lemmas.List.{drop-drop, drop-append-le, take-append-le, take-take, drop-take, length-take-le}
 use Rattle.std.proofs.lemmas.Bool.{cases_Bool, eqb-true, ne_eqb}
 use Rattle.std.proofs.Math.Nat.{mod-add-mod}
 use Rattle.std.proofs.Math.Seq.{take-add}
 use Rattle.std.specs.List.{sum_by}
-use Rattle.tcmu_model.specs.RingState.{RingState, Item, lengths, pads, pad, need, used, free, head, commands_in, is_command, front_with, cleared_commands, published_commands}
-use Rattle.tcmu_model.proofs.Fronts.{front_short}
+use Rattle.tcmu_model.specs.RingState.{RingState, Item, lengths, pads, pad, need, free, commands_in, is_command, front_with}
 use Rattle.tcmu_path.specs.Numbers.{HasNumbers}
 
 pub lengths-drop_le : (items : List Item) (i j : ℕ) → i ≤ j → lengths (drop j items) ≤ lengths (drop i items)
@@ -60,7 +59,10 @@ HasNumbers-lay r h u c p pad_kept item items t hp hf hi =
     let cs : commands_in (take r.cleared items) ≡ commands_in (take r.cleared r.laid) = ap (λ xs. commands_in (take r.cleared xs)) all ∙ commands-front r.laid more r.cleared some in
     let ps : commands_in (take r.published items) ≡ commands_in (take r.published r.laid) = ap (λ xs. commands_in (take r.published xs)) all ∙ commands-front r.laid more r.published some_published in
     record {
-      low = t.low; high = t.high; cleared = t.cleared; published = t.published;
+      low = t.low;
+      high = t.high;
+      cleared = t.cleared;
+      published = t.published;
       dispatched = omega (arith, t.dispatched, len);
       head_is = ap (λ x. (x + (pad_kept + item.len)) % r.size) t.head_is ∙ (m ∙ ap (λ x. x % r.size) (sym whole));
       used_is = omega (arith, us, rest);
@@ -84,9 +86,16 @@ HasNumbers-clear r h u c p gone t e =
     let us : u ≡ lengths (drop r.cleared r.laid) = t.used_is in
     let rm : u < r.size = t.room in
     record {
-      low = t.low; high = t.high; cleared = omega arith; published = t.published; dispatched = t.dispatched; head_is = t.head_is;
-      used_is = omega (arith, k, us, e); room = omega (arith, rm);
-      cleared_is = t.published_is; published_is = t.published_is;
+      low = t.low;
+      high = t.high;
+      cleared = omega arith;
+      published = t.published;
+      dispatched = t.dispatched;
+      head_is = t.head_is;
+      used_is = omega (arith, k, us, e);
+      room = omega (arith, rm);
+      cleared_is = t.published_is;
+      published_is = t.published_is;
     }
 
 commands_cons : (m : ℕ) (x : Item) (xs : List Item) → commands_in (take (m + 1) (x ∷ xs)) ≡ cond (is_command x) 1 0 + commands_in (take m xs)
@@ -101,21 +110,21 @@ front_past n (suc p) (x ∷ xs) l h =
     let m : p ≤ length xs = omega (arith, l) in
     ⊎_elim
     (λ (e : is_command x ≡ true).
-        let one : ◌≡◌ {A = ℕ} (cond (is_command x) 1 0) 1 = ap (λ b. cond b 1 0) e in
-        let some : n ≡ 0 → ⊥ = λ z. omega (arith, t, one, h, z) in
-        let z : eqb n 0 ≡ false = ne_eqb n 0 some in
-        let less : (n - 1) - commands_in (take p xs) ≡ n - commands_in (take (suc p) (x ∷ xs)) = omega (arith, t, one) in
-        let ih : front_with (n - 1) xs ≡ p + front_with ((n - 1) - commands_in (take p xs)) (drop p xs) = front_past (n - 1) p xs m (omega (arith, t, one, h)) in
-        let same : front_with ((n - 1) - commands_in (take p xs)) (drop p xs) ≡ front_with (n - commands_in (take (suc p) (x ∷ xs))) (drop p xs) = ap (λ k. front_with k (drop p xs)) less in
-        let start : front_with n (x ∷ xs) ≡ front_with (n - 1) xs + 1 = rw (e, z) refl in
-        omega (arith, start, ih, same))
+    let one : ◌≡◌ {A = ℕ} (cond (is_command x) 1 0) 1 = ap (λ b. cond b 1 0) e in
+    let some : n ≡ 0 → ⊥ = λ z. omega (arith, t, one, h, z) in
+    let z : eqb n 0 ≡ false = ne_eqb n 0 some in
+    let less : (n - 1) - commands_in (take p xs) ≡ n - commands_in (take (suc p) (x ∷ xs)) = omega (arith, t, one) in
+    let ih : front_with (n - 1) xs ≡ p + front_with ((n - 1) - commands_in (take p xs)) (drop p xs) = front_past (n - 1) p xs m (omega (arith, t, one, h)) in
+    let same : front_with ((n - 1) - commands_in (take p xs)) (drop p xs) ≡ front_with (n - commands_in (take (suc p) (x ∷ xs))) (drop p xs) = ap (λ k. front_with k (drop p xs)) less in
+    let start : front_with n (x ∷ xs) ≡ front_with (n - 1) xs + 1 = rw (e, z) refl in
+    omega (arith, start, ih, same))
     (λ (e : is_command x ≡ false).
-        let one : ◌≡◌ {A = ℕ} (cond (is_command x) 1 0) 0 = ap (λ b. cond b 1 0) e in
-        let less : n - commands_in (take p xs) ≡ n - commands_in (take (suc p) (x ∷ xs)) = omega (arith, t, one) in
-        let ih : front_with n xs ≡ p + front_with (n - commands_in (take p xs)) (drop p xs) = front_past n p xs m (omega (arith, t, one, h)) in
-        let same : front_with (n - commands_in (take p xs)) (drop p xs) ≡ front_with (n - commands_in (take (suc p) (x ∷ xs))) (drop p xs) = ap (λ k. front_with k (drop p xs)) less in
-        let start : front_with n (x ∷ xs) ≡ front_with n xs + 1 = rw e refl in
-        omega (arith, start, ih, same))
+    let one : ◌≡◌ {A = ℕ} (cond (is_command x) 1 0) 0 = ap (λ b. cond b 1 0) e in
+    let less : n - commands_in (take p xs) ≡ n - commands_in (take (suc p) (x ∷ xs)) = omega (arith, t, one) in
+    let ih : front_with n xs ≡ p + front_with (n - commands_in (take p xs)) (drop p xs) = front_past n p xs m (omega (arith, t, one, h)) in
+    let same : front_with (n - commands_in (take p xs)) (drop p xs) ≡ front_with (n - commands_in (take (suc p) (x ∷ xs))) (drop p xs) = ap (λ k. front_with k (drop p xs)) less in
+    let start : front_with n (x ∷ xs) ≡ front_with n xs + 1 = rw e refl in
+    omega (arith, start, ih, same))
     (cases_Bool (is_command x))
 
 between : (laid : List Item) (p d : ℕ) → p ≤ d → drop p (take d laid) ≡ take (d - p) (drop p laid)
@@ -129,7 +138,7 @@ more_items n p d laid l m h =
     let c : commands_in (take p xs) ≡ commands_in (take p laid) = ap commands_in (take-take p d laid l) in
     let f : front_with n xs ≡ p + front_with (n - commands_in (take p xs)) (drop p xs) = front_past n p xs (omega (arith, len, l)) (omega (arith, c, h)) in
     let same : front_with (n - commands_in (take p xs)) (drop p xs) ≡ front_with (n - commands_in (take p laid)) (take (d - p) (drop p laid)) =
-        ap (λ k. front_with (n - k) (drop p xs)) c ∙ ap (λ ys. front_with (n - commands_in (take p laid)) ys) (between laid p d l) in
+    ap (λ k. front_with (n - k) (drop p xs)) c ∙ ap (λ ys. front_with (n - commands_in (take p laid)) ys) (between laid p d l) in
     omega (arith, f, same)
 
 pub more_commands : (p k d : ℕ) (laid : List Item) → k ≤ d - p → commands_in (take p laid) + commands_in (take k (take (d - p) (drop p laid))) ≡ commands_in (take (p + k) laid)

@@ -1,5 +1,5 @@
 -- A queue whose commands go round once, each leaving or going behind the others.
-use Rattle.std.proofs.Common.{◌≡◌, ℕ, ◌+◌, ◌<◌, Bool, List, [], ◌∷◌, ◌++◌, length, take, drop, map, get_or, refl, sym, ap, ◌∙◌, arith, append_assoc}
+use Rattle.std.proofs.Common.{◌≡◌, ℕ, ◌+◌, ◌<◌, Bool, List, [], ◌∷◌, ◌++◌, length, take, drop, map, get_or, sym, ap, ◌∙◌, arith, append_assoc}
 use Rattle.std.specs.List.{filter}
 use Rattle.std.proofs.lemmas.List.{take_more, drop_more, map-append}
 use Rattle.std.proofs.lemmas.List.Elements.{filter-append}
@@ -35,7 +35,7 @@ logged_round p g old xs ends k start log new h e l n =
     let a : new ≡ (start ++ map g (filter p (take k old))) ++ map g (filter p (f.first ∷ [])) = n ∙ (ap (λ ys. log ++ map g (filter p ys)) first ∙ ap (λ ys. ys ++ map g (filter p (f.first ∷ []))) l) in
     let b : (start ++ map g (filter p (take k old))) ++ map g (filter p (f.first ∷ [])) ≡ start ++ (map g (filter p (take k old)) ++ map g (filter p (f.first ∷ []))) = append_assoc start (map g (filter p (take k old))) (map g (filter p (f.first ∷ []))) in
     let c : map g (filter p (take k old)) ++ map g (filter p (f.first ∷ [])) ≡ map g (filter p (take (k + 1) old)) =
-        sym (map-append g (filter p (take k old)) (filter p (f.first ∷ []))) ∙ ap (map g) (sym (filter-append p (take k old) (f.first ∷ [])) ∙ ap (filter p) (sym f.before)) in
+    sym (map-append g (filter p (take k old)) (filter p (f.first ∷ []))) ∙ ap (map g) (sym (filter-append p (take k old) (f.first ∷ [])) ∙ ap (filter p) (sym f.before)) in
     a ∙ (b ∙ ap (λ zs. start ++ zs) c)
 
 pub closed_round : (g : Delayed → DoneData) (old xs : List Delayed) (k : ℕ) (start log new : List DoneData) → k < length old → xs ≡ drop k old → log ≡ start ++ map g (take k old) → new ≡ log ++ map g (take 1 xs) → new ≡ start ++ map g (take (k + 1) old)

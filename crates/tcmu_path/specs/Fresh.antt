@@ -1,5 +1,5 @@
 -- What an event goes over, and what it leaves alone.
-use Rattle.std.specs.Prelude.{◌≡◌, ℕ, ◌-◌, false, List, take, drop}
+use Rattle.std.specs.Prelude.{◌≡◌, ℕ, false, List}
 use Rattle.tcmu_model.specs.Device.{Unfinished, DeviceState}
 use Rattle.tcmu_model.specs.Events.{Placing, is_among}
 use Rattle.tcmu_model.specs.Sound.{Every}

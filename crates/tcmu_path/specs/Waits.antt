@@ -1,5 +1,5 @@
 -- The delayed command that is next to enter.
-use Rattle.std.specs.Prelude.{◌≡◌, ◌≤◌, ◌+◌, ℕ, List, ◌∷◌}
+use Rattle.std.specs.Prelude.{◌≡◌, ◌≤◌, ℕ, List, ◌∷◌}
 use Rattle.tcmu_model.specs.RingState.{need, free}
 use Rattle.tcmu_model.specs.Device.{Delayed, DeviceState}
 use Rattle.tcmu_model.specs.Events.{entry_length_in, blocks_in, free_blocks}

@@ -189,7 +189,14 @@ pub fn finish_published(
     ensures grows { length log.old.items ≤ length log.new.items }
 {
     let serials = published(placed, ring);
-    finish_all(rows, log, held, serials, settings.pages, settings.flags.read_len);
+    finish_all(
+        rows,
+        log,
+        held,
+        serials,
+        settings.pages,
+        settings.flags.read_len,
+    );
 }
 
 /// Loses the commands that a restart takes, and counts them. Of the answers that are cleared no command is left.

@@ -32,10 +32,16 @@ pub fn reset_completion(alloc: Global, level: u8, serial: u64, command: &Command
     if level == 1 {
         closing(alloc, 0x08, None, serial, command)
     } else {
-        closing(alloc, 0x02, Some(Sense {
-            key: 0x04,
-            asc: 0x44,
-            ascq: 0x00,
-        }), serial, command)
+        closing(
+            alloc,
+            0x02,
+            Some(Sense {
+                key: 0x04,
+                asc: 0x44,
+                ascq: 0x00,
+            }),
+            serial,
+            command,
+        )
     }
 }

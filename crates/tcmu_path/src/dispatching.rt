@@ -57,7 +57,11 @@ fn send(rows: &mut Vec<Row>, serial: u64)
 }
 
 /// Hands an item of the ring out.
-pub fn dispatch_item(alloc: Global, rows: &mut Vec<Row>, item: &RingItem) -> Result<Dispatch, NoMemory>
+pub fn dispatch_item(
+    alloc: Global,
+    rows: &mut Vec<Row>,
+    item: &RingItem,
+) -> Result<Dispatch, NoMemory>
     ensures answer { IfOk result (λ a. dispatch_data a ≡ item_answer rows.old.items item.now) }
     ensures rows { OnOk result (rows.new.items ≡ after_item rows.old.items item.now) }
     ensures err { OnErr result (rows.new.items ≡ rows.old.items) }

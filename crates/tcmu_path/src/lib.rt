@@ -6,9 +6,11 @@ mod closings;
 mod dispatching;
 mod path;
 mod placing;
+mod plain;
 mod ring;
 mod rows;
 mod state;
 mod waiting;
 
 pub use path::Path;
+pub use plain::PlainPath;

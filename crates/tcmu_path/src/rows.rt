@@ -57,12 +57,7 @@ pub fn room_for(alloc: Global, command: &Command) -> Result<Bytes, NoMemory>
 
 impl Row {
     /// A command that waits, with room for its completion.
-    pub fn new(
-        serial: u64,
-        command: Command,
-        deadline: Option<u64>,
-        room: Bytes,
-    ) -> Row
+    pub fn new(serial: u64, command: Command, deadline: Option<u64>, room: Bytes) -> Row
         requires empty { room.items ≡ [] }
         requires room { command.in_len ≤ room.spare }
         ensures { result ≡ record { serial = serial; command = command; state = CommandState.Waiting; deadline = deadline; expired = false; reply = None } }
@@ -162,7 +157,9 @@ impl Row {
     pub fn is_in_hand(&self) -> bool
         ensures { result ≡ is_in_hand self.now }
     {
-        self.state.is(CommandState::Out) || self.state.is(CommandState::Handled) || self.state.is(CommandState::Parked)
+        self.state.is(CommandState::Out)
+            || self.state.is(CommandState::Handled)
+            || self.state.is(CommandState::Parked)
     }
 
     /// Whether a restart takes the command.
@@ -188,11 +185,17 @@ impl Row {
     pub fn expiry(&self, alloc: Global) -> Done
         ensures { result ≡ expiry self.now }
     {
-        closing(alloc, 0x02, Some(Sense {
-            key: 0x0b,
-            asc: 0x08,
-            ascq: 0x01,
-        }), self.serial, &self.command)
+        closing(
+            alloc,
+            0x02,
+            Some(Sense {
+                key: 0x0b,
+                asc: 0x08,
+                ascq: 0x01,
+            }),
+            self.serial,
+            &self.command,
+        )
     }
 
     /// The completion of a command that is answered, where it is not expired.

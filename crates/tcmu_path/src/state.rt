@@ -1,6 +1,7 @@
 //! A plain device without its handler: what its events answer, and what they leave.
 ghost use Rattle.std.specs.Prelude.{◌≡◌, ℕ, ◌+◌, ◌<◌, ◌≤◌, ◌^◌, ◌==◌, [], ◌++◌, not, map, true, false, Some, None, length, IfOk, OnOk, OnErr, MatchOption, if◌then◌else◌};
 ghost use Rattle.std.specs.List.{list_any, filter};
+ghost use Rattle.tcmu_types.specs.Rules.{IsCommand, IsReply};
 ghost use Rattle.tcmu_types.specs.Views.{dispatch_data};
 ghost use Rattle.tcmu_model.specs.Lists.{IsRising};
 ghost use Rattle.tcmu_model.specs.Lengths.{blocks_of, entry_length};
@@ -18,7 +19,9 @@ use crate::books::{close_all, expire_all, finish_published, lose_unpublished};
 use crate::dispatching::{append, dispatch_item, keep_reply};
 use crate::placing::{park, place, place_in_order};
 use crate::ring::{Content, Ring, RingItem};
-use crate::rows::{Row, any_at, count_expired, count_in, find, handlers_out, least, room_for, unknown};
+use crate::rows::{
+    Row, any_at, count_expired, count_in, find, handlers_out, least, room_for, unknown,
+};
 use crate::waiting::{DelayedCommand, Queue};
 use handler_trait::Request;
 use std::alloc::Global;
@@ -69,13 +72,7 @@ fn later(now: u64, n: u32) -> u64
 }
 
 /// Logs what a moment ends: commands expire, and delayed ones leave.
-fn end_by(
-    rows: &mut Vec<Row>,
-    delayed: &mut Queue,
-    log: &mut Listed<Done>,
-    alloc: Global,
-    now: u64,
-)
+fn end_by(rows: &mut Vec<Row>, delayed: &mut Queue, log: &mut Listed<Done>, alloc: Global, now: u64)
     requires { to_log rows.old.items + length delayed.old.items ≤ log.old.spare }
     ensures rows { rows.new.items ≡ map (expire now) rows.old.items }
     ensures delayed { delayed.new.items ≡ filter (λ w. not (has_left now w)) delayed.old.items }
@@ -129,6 +126,7 @@ impl State {
     pub fn block(&mut self) -> bool
         ensures answer { result ≡ block_answer self.old true }
         ensures after { self.new ≡ after_block self.old true }
+        ensures accepted { self.new.accepted ≡ self.old.accepted }
     {
         let changed = !self.blocked;
         self.blocked = true;
@@ -139,6 +137,7 @@ impl State {
     pub fn unblock(&mut self) -> bool
         ensures answer { result ≡ block_answer self.old false }
         ensures after { self.new ≡ after_block self.old false }
+        ensures accepted { self.new.accepted ≡ self.old.accepted }
     {
         let changed = self.blocked;
         self.blocked = false;
@@ -156,10 +155,17 @@ impl State {
         requires { self.old.now ≤ 2 ^ 63 }
         ensures answer { result ≡ tick_answer self.old n }
         ensures after { self.new ≡ after_tick self.old n }
+        ensures accepted { self.new.accepted ≡ self.old.accepted }
     {
         let before = self.log.len();
         self.now = later(self.now, n);
-        end_by(&mut self.rows, &mut self.delayed, &mut self.log, self.alloc, self.now);
+        end_by(
+            &mut self.rows,
+            &mut self.delayed,
+            &mut self.log,
+            self.alloc,
+            self.now,
+        );
         (self.log.len() - before) as u64
     }
 
@@ -168,6 +174,7 @@ impl State {
         requires { published_commands self.old.ring ≤ length self.old.placed }
         ensures answer { result ≡ publish_answer self.old }
         ensures after { self.new ≡ after_publish self.old }
+        ensures accepted { self.new.accepted ≡ self.old.accepted }
     {
         if !self.attached {
             return Publish::Detached;
@@ -185,6 +192,7 @@ impl State {
         ensures answer { result ≡ clean_answer self.old }
         ensures after { self.new ≡ after_clean self.old }
         ensures count { length self.new.log ≡ length self.old.log + clean_answer self.old }
+        ensures accepted { self.new.accepted ≡ self.old.accepted }
     {
         let before = self.log.len();
         finish_published(
@@ -204,6 +212,7 @@ impl State {
         requires { IsSound self.old }
         ensures answer { result ≡ restart_answer self.old }
         ensures after { self.new ≡ after_restart self.old }
+        ensures accepted { self.new.accepted ≡ self.old.accepted }
     {
         self.attached = false;
         lose_unpublished(&mut self.rows, &self.placed, &self.ring)
@@ -220,7 +229,8 @@ impl State {
     fn place(&mut self, serial: u64)
         requires parked { list_any (is_at serial CommandState.Parked) self.old.unfinished ≡ true }
         requires differ { Differ (serials_in self.old.ring.laid) }
-        ensures { self.new ≡ with_placing self.old (placed_by self.old.settings.flags.ooo (record { placed = self.old.placed; unfinished = self.old.unfinished }) serial (serials_in self.old.ring.laid)) }
+        ensures after { self.new ≡ with_placing self.old (placed_by self.old.settings.flags.ooo (record { placed = self.old.placed; unfinished = self.old.unfinished }) serial (serials_in self.old.ring.laid)) }
+        ensures accepted { self.new.accepted ≡ self.old.accepted }
     {
         if self.is_unordered() {
             place(&mut self.rows, &mut self.placed, serial);
@@ -234,6 +244,7 @@ impl State {
         requires { IsSound self.old }
         ensures answer { result ≡ respond_answer self.old serial }
         ensures after { self.new ≡ after_respond self.old serial }
+        ensures accepted { self.new.accepted ≡ self.old.accepted }
     {
         if !park(&mut self.rows, serial) {
             return Respond::NotHandled(serial);
@@ -251,6 +262,7 @@ impl State {
         ensures answer { IfOk result (λ a. dispatch_data a ≡ dispatch_answer self.old) }
         ensures after { OnOk result (self.new ≡ after_dispatch self.old) }
         ensures err { OnErr result (self.new ≡ self.old) }
+        ensures accepted { self.new.accepted ≡ self.old.accepted }
     {
         if !self.attached {
             return Ok(Dispatch::Detached);
@@ -281,8 +293,11 @@ impl State {
     #[tactic(auto, unfolding(tcmu_model::specs::Events::after_handle))]
     pub fn keep(&mut self, serial: u64, reply: &Reply)
         requires { (u : Unfinished) → command_out self.old serial ≡ Some u → length reply.now.payload ≤ u.command.in_len }
-        ensures { self.new ≡ after_handle self.old serial reply.now }
+        ensures after { self.new ≡ after_handle self.old serial reply.now }
+        ensures accepted { self.new.accepted ≡ self.old.accepted }
+        ensures reply { IsReply reply.now }
     {
+        let _status = reply.status;
         keep_reply(&mut self.rows, serial, reply);
     }
 
@@ -366,6 +381,7 @@ impl State {
         requires blocks { blocks_in self.old command.now ≤ free_blocks self.old }
         ensures ok { OnOk result (self.new ≡ with_command (one_accepted self.old) (self.old.accepted + 1) command.now) }
         ensures err { OnErr result (self.new ≡ self.old) }
+        ensures accepted { OnOk result (self.new.accepted ≡ self.old.accepted + 1) }
     {
         let serial = self.accepted + 1;
         let blocks = self.blocks_of(command);
@@ -376,7 +392,12 @@ impl State {
         self.log.reserve(completions)?;
         self.rows.reserve(1)?;
         let room = room_for(self.alloc, command)?;
-        let row = Row::new(serial, command.try_clone(self.alloc)?, self.deadline(), room);
+        let row = Row::new(
+            serial,
+            command.try_clone(self.alloc)?,
+            self.deadline(),
+            room,
+        );
         self.ring.lay(RingItem {
             len,
             content: Content::Command {
@@ -409,6 +430,7 @@ impl State {
         requires now { self.old.now ≤ 2 ^ 63 }
         ensures ok { OnOk result (self.new ≡ with_delayed (one_accepted self.old) (self.old.accepted + 1) command.now) }
         ensures err { OnErr result (self.new ≡ self.old) }
+        ensures accepted { OnOk result (self.new.accepted ≡ self.old.accepted + 1) }
     {
         let completions = self.completions();
         let leaves = self.leaves();
@@ -440,6 +462,8 @@ impl State {
         ensures answer { IfOk result (λ a. a ≡ queued_or_full self.old command.now) }
         ensures after { IfOk result (λ a. self.new ≡ after_submit self.old command.now a) }
         ensures err { OnErr result (self.new ≡ self.old) }
+        ensures least { self.old.accepted ≤ self.new.accepted }
+        ensures most { self.new.accepted ≤ self.old.accepted + 1 }
     {
         let len = self.entry_length(command);
         let need = self.ring.need(len);
@@ -468,10 +492,15 @@ impl State {
         ensures answer { IfOk result (λ a. a ≡ queued_or_delayed self.old command.now) }
         ensures after { IfOk result (λ a. self.new ≡ after_submit self.old command.now a) }
         ensures err { OnErr result (self.new ≡ self.old) }
+        ensures least { self.old.accepted ≤ self.new.accepted }
+        ensures most { self.new.accepted ≤ self.old.accepted + 1 }
     {
         let serial = self.accepted + 1;
         let len = self.entry_length(command);
-        if self.ring.fits(len) && self.blocks_of(command) <= self.free_blocks() && self.delayed.is_empty() {
+        if self.ring.fits(len)
+            && self.blocks_of(command) <= self.free_blocks()
+            && self.delayed.is_empty()
+        {
             self.accept(command, len)?;
             return Ok(Submit::Queued(serial));
         }
@@ -486,7 +515,11 @@ impl State {
         ensures answer { IfOk result (λ a. a ≡ submit_answer self.old command.now) }
         ensures after { IfOk result (λ a. self.new ≡ after_submit self.old command.now a) }
         ensures err { OnErr result (self.new ≡ self.old) }
+        ensures least { self.old.accepted ≤ self.new.accepted }
+        ensures most { self.new.accepted ≤ self.old.accepted + 1 }
+        ensures command { IsCommand command.now }
     {
+        let _rules = command.cdb();
         if self.blocked {
             return Ok(Submit::Busy);
         }
@@ -528,6 +561,7 @@ impl State {
         requires next { NextFits self.old len blocks }
         ensures ok { OnOk result (self.new ≡ after_entering self.old self.old.delayed) }
         ensures err { OnErr result (self.new ≡ self.old) }
+        ensures accepted { self.new.accepted ≡ self.old.accepted }
     {
         let held = self.held_with(blocks);
         let places = self.places();
@@ -547,7 +581,10 @@ impl State {
         })?;
         if let Some(waited) = self.delayed.pop() {
             self.held = held;
-            append(&mut self.rows, Row::new(waited.serial, waited.command, deadline, room));
+            append(
+                &mut self.rows,
+                Row::new(waited.serial, waited.command, deadline, room),
+            );
         }
         Ok(())
     }
@@ -558,6 +595,7 @@ impl State {
         ensures answer { IfOk result (λ a. a ≡ enter_answer self.old) }
         ensures after { IfOk result (λ a. self.new ≡ after_enter self.old a) }
         ensures err { OnErr result (self.new ≡ self.old) }
+        ensures accepted { self.new.accepted ≡ self.old.accepted }
     {
         let Some(first) = self.delayed.first() else {
             return Ok(Enter::Empty);
@@ -585,8 +623,15 @@ impl State {
     fn close(&mut self, level: u8)
         ensures after { self.new ≡ emptied self.old level }
         ensures count { length self.new.log ≡ length self.old.log + length (reset_completions self.old level) }
+        ensures accepted { self.new.accepted ≡ self.old.accepted }
     {
-        end_all(&mut self.rows, &mut self.delayed, &mut self.log, self.alloc, level);
+        end_all(
+            &mut self.rows,
+            &mut self.delayed,
+            &mut self.log,
+            self.alloc,
+            level,
+        );
         self.ring.reset();
         self.held = 0;
         self.placed.clear();
@@ -599,6 +644,7 @@ impl State {
         requires { IsSound self.old }
         ensures after { self.new ≡ emptied (after_clean self.old) level }
         ensures count { result ≡ clean_answer self.old + length (reset_completions (after_clean self.old) level) }
+        ensures accepted { self.new.accepted ≡ self.old.accepted }
     {
         let before = self.log.len();
         self.clean();
@@ -611,6 +657,7 @@ impl State {
         requires { IsSound self.old }
         ensures answer { result ≡ reset_answer self.old level }
         ensures after { self.new ≡ after_reset self.old level }
+        ensures accepted { self.new.accepted ≡ self.old.accepted }
     {
         if !self.blocked {
             return Reset::NotBlocked;
@@ -628,7 +675,8 @@ impl State {
     {
         match self.delayed.first() {
             Some(first) => {
-                self.ring.fits(self.entry_length(&first.command)) && self.blocks_of(&first.command) <= self.free_blocks()
+                self.ring.fits(self.entry_length(&first.command))
+                    && self.blocks_of(&first.command) <= self.free_blocks()
             }
             None => false,
         }
@@ -716,6 +764,7 @@ impl State {
         ensures answer { IfOk result (λ a. a ≡ tmr_answer self.old serials.now.items) }
         ensures after { IfOk result (λ a. self.new ≡ after_tmr self.old kind serials.now.items a) }
         ensures err { OnErr result (self.new ≡ self.old) }
+        ensures accepted { self.new.accepted ≡ self.old.accepted }
     {
         if !self.has_notes() {
             return Ok(Tmr::Off);
@@ -744,6 +793,7 @@ impl State {
         requires ring { need self.old.ring len ≤ free self.old.ring }
         ensures ok { OnOk result (self.new ≡ with_note self.old kind serials.now.items) }
         ensures err { OnErr result (self.new ≡ self.old) }
+        ensures accepted { self.new.accepted ≡ self.old.accepted }
     {
         let serials = Serials::from_slice(self.alloc, serials.as_slice())?;
         self.ring.lay(RingItem {

@@ -1,4 +1,4 @@
-use Rattle.std.proofs.Common.{◌≡◌, ◌≤◌, ◌+◌, ◌++◌, drop, take, map, length}
+use Rattle.std.proofs.Common.{◌≡◌, ◌≤◌, ◌+◌, ◌++◌, drop, take, map}
 use Rattle.std.specs.List.{filter}
 use Rattle.tcmu_model.specs.Events.{reset_completion, is_open}
 use Rattle.tcmu_path.specs.Room.{to_log}

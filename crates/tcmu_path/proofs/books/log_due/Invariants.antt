@@ -1,4 +1,4 @@
-use Rattle.std.proofs.Common.{◌≡◌, ◌≤◌, ◌+◌, ◌++◌, drop, take, map, length}
+use Rattle.std.proofs.Common.{◌≡◌, ◌≤◌, ◌+◌, ◌++◌, drop, take, map}
 use Rattle.std.specs.List.{filter, count_by}
 use Rattle.tcmu_model.specs.Events.{expiry, is_due}
 use Rattle.tcmu_path.proofs.books.log_due.Given as goal

@@ -1,6 +1,6 @@
-use Rattle.std.proofs.Common.{◌≡◌, ℕ, Bool, Some, sym, ap, ◌∙◌}
+use Rattle.std.proofs.Common.{Some, sym, ap, ◌∙◌}
 use Rattle.tcmu_model.specs.declared.state.CommandState.TheVariants.{Placed}
-use Rattle.tcmu_model.specs.Device.{Unfinished, is_at}
+use Rattle.tcmu_model.specs.Device.{is_at}
 use Rattle.tcmu_model.proofs.Firsts.{first_of_at, without_first_at, first_of_none, without_first_none}
 use Rattle.tcmu_path.proofs.books.take_placed.Goals as goal
 

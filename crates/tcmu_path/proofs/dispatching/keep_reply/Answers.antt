@@ -1,7 +1,6 @@
-use Rattle.std.proofs.Common.{◌≡◌, Some, None, sym, ap, ◌∙◌, arith}
+use Rattle.std.proofs.Common.{Some, sym, ap, ◌∙◌}
 use Rattle.tcmu_model.specs.declared.state.CommandState.TheVariants.{Out}
-use Rattle.tcmu_model.specs.Device.{Unfinished, is_at}
-use Rattle.tcmu_model.specs.Lists.{first_of}
+use Rattle.tcmu_model.specs.Device.{is_at}
 use Rattle.tcmu_model.specs.Events.{with_reply}
 use Rattle.tcmu_model.proofs.Firsts.{first_of_at, with_first_set, with_first_none}
 use Rattle.tcmu_path.proofs.dispatching.keep_reply.Goals as goal

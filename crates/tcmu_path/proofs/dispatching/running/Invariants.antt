@@ -1,4 +1,4 @@
-use Rattle.std.proofs.Common.{◌≡◌, ◌≤◌, ◌-◌, ◌+◌, take, length}
+use Rattle.std.proofs.Common.{◌≡◌, ◌≤◌, ◌+◌, take, length}
 use Rattle.std.specs.List.{filter}
 use Rattle.tcmu_model.specs.Events.{is_running}
 use Rattle.tcmu_path.proofs.dispatching.running.Given as goal

@@ -1,4 +1,4 @@
-use Rattle.std.proofs.Common.{◌≡◌, List, sym, subst, refl, true, ◌∙◌}
+use Rattle.std.proofs.Common.{List, sym, subst, refl}
 use Rattle.tcmu_model.specs.declared.state.CommandState.TheVariants.{Waiting, Out}
 use Rattle.tcmu_model.specs.Device.{Unfinished}
 use Rattle.tcmu_path.specs.Room.{KeepsRoom}

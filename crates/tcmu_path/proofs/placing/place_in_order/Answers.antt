@@ -1,4 +1,4 @@
-use Rattle.std.proofs.Common.{◌≡◌, ℕ, ◌+◌, List, ◌++◌, take, drop, sym, ap, subst, ◌∙◌}
+use Rattle.std.proofs.Common.{◌≡◌, ℕ, List, ◌++◌, take, drop, sym, ap, subst, ◌∙◌}
 use Rattle.tcmu_model.specs.RingState.{Item, serials_in}
 use Rattle.tcmu_model.specs.Events.{Placing, run_placed}
 use Rattle.tcmu_model.specs.Sound.{Differ}
@@ -11,7 +11,7 @@ place_run-requires-clause-differ c =
     let front : c.args.placed.now.items ≡ serials_in (take c.args.passed laid) = c.requires.ordered in
     let behind : c.items_from-items.result.now ≡ drop c.args.passed laid = c.items_from-items.ensures.value in
     let all : serials_in laid ≡ c.args.placed.now.items ++ serials_in c.items_from-items.result.now =
-        serials-cut laid c.args.passed ∙ (ap (λ (ss : List ℕ). ss ++ serials_in (drop c.args.passed laid)) (sym front) ∙ ap (λ (xs : List Item). c.args.placed.now.items ++ serials_in xs) (sym behind)) in
+    serials-cut laid c.args.passed ∙ (ap (λ (ss : List ℕ). ss ++ serials_in (drop c.args.passed laid)) (sym front) ∙ ap (λ (xs : List Item). c.args.placed.now.items ++ serials_in xs) (sym behind)) in
     subst (λ (ss : List ℕ). Differ ss) all c.requires.differ
 
 pub returns-clause-rows : goal.returns-clause-rows

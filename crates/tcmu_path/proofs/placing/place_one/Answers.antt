@@ -1,4 +1,4 @@
-use Rattle.std.proofs.Common.{◌≡◌, ℕ, ◌+◌, ◌≤◌, sym, ap, ◌∙◌, arith, true}
+use Rattle.std.proofs.Common.{◌≡◌, ◌+◌, sym, ap, ◌∙◌, arith}
 use Rattle.tcmu_model.specs.declared.state.CommandState.TheVariants.{Parked, Placed}
 use Rattle.tcmu_model.specs.Device.{Unfinished}
 use Rattle.tcmu_model.specs.Events.{turned, in_state}

@@ -1,6 +1,6 @@
 use Rattle.std.proofs.Common.{◌≡◌, ◌≤◌, ◌++◌, drop, take}
 use Rattle.tcmu_model.specs.RingState.{serials_in}
-use Rattle.tcmu_model.specs.Events.{run_placed, Placing}
+use Rattle.tcmu_model.specs.Events.{run_placed}
 use Rattle.tcmu_path.specs.Room.{to_place, KeepsRoom}
 use Rattle.tcmu_path.proofs.placing.place_run.Given as goal
 

@@ -1,4 +1,4 @@
-use Rattle.std.proofs.Common.{◌≡◌, ◌-◌, List, take, drop, ap, ◌∙◌}
+use Rattle.std.proofs.Common.{◌-◌, List, take, drop, ap, ◌∙◌}
 use Rattle.tcmu_model.specs.RingState.{RingState, Item, lengths}
 use Rattle.tcmu_path.proofs.RingNumbers.{HasNumbers-clear}
 use Rattle.tcmu_path.proofs.ring.Ring.clear.Goals as goal

@@ -1,4 +1,4 @@
-use Rattle.std.proofs.Common.{◌≡◌, ℕ, ◌≤◌, subst, arith}
+use Rattle.std.proofs.Common.{◌≤◌, subst, arith}
 use Rattle.tcmu_model.specs.RingState.{RingState, cleared_commands, published_commands}
 use Rattle.tcmu_model.proofs.Fronts.{commands_more}
 use Rattle.tcmu_path.proofs.ring.Ring.cleared_commands.Goals as goal

@@ -8,7 +8,7 @@ use Rattle.tcmu_path.proofs.ring.Ring.more.Goals as goal
 items : (n : ℕ) (r : RingState) (kept at : ℕ) (xs : List Item) → r.published ≤ r.dispatched → r.dispatched ≤ length r.laid → kept ≡ published_commands r → published_commands r ≤ n → xs ≡ r.laid → at ≡ front_with (n - kept) (take (r.dispatched - r.published) (drop r.published xs)) → r.published + at ≡ front_with n (take r.dispatched r.laid)
 items n r kept at xs l m k h e v =
     let a : at ≡ front_with (n - published_commands r) (take (r.dispatched - r.published) (drop r.published r.laid)) =
-        v ∙ (ap (λ c. front_with (n - c) (take (r.dispatched - r.published) (drop r.published xs))) k ∙ ap (λ ys. front_with (n - published_commands r) (take (r.dispatched - r.published) (drop r.published ys))) e) in
+    v ∙ (ap (λ c. front_with (n - c) (take (r.dispatched - r.published) (drop r.published xs))) k ∙ ap (λ ys. front_with (n - published_commands r) (take (r.dispatched - r.published) (drop r.published ys))) e) in
     ap (λ x. r.published + x) a ∙ more_items n r.published r.dispatched r.laid l m h
 
 pub returns-clause-items : goal.returns-clause-items

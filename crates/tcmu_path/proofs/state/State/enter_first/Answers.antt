@@ -2,7 +2,7 @@ use Rattle.std.proofs.Common.{◌≡◌, ◌+◌, ◌≤◌, ◌∷◌, [], ◌+
 use Rattle.tcmu_model.specs.Lengths.{blocks_of}
 use Rattle.tcmu_model.specs.Device.{Unfinished, Delayed, DeviceState}
 use Rattle.tcmu_model.specs.Events.{held_blocks, blocks_in}
-use Rattle.tcmu_path.specs.Room.{held_by, to_log, to_place}
+use Rattle.tcmu_path.specs.Room.{held_by, to_place}
 use Rattle.tcmu_path.proofs.Plains.{plain_laid, lays_item}
 use Rattle.tcmu_path.proofs.state.State.enter_first.Goals as goal
 

@@ -1,4 +1,4 @@
-use Rattle.std.proofs.Common.{ℕ, ◌≤◌, List, length, subst, sym, arith, ap}
+use Rattle.std.proofs.Common.{◌≤◌, List, length, subst, sym, arith, ap}
 use Rattle.tcmu_model.specs.Device.{Unfinished, DeviceState}
 use Rattle.tcmu_path.proofs.Bounds.{few_rows}
 use Rattle.tcmu_path.proofs.state.State.few.Goals as goal

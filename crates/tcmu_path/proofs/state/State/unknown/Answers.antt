@@ -1,4 +1,4 @@
-use Rattle.std.proofs.Common.{◌≡◌, ℕ, ◌≤◌, List, length, None, subst, sym, arith, ap, ◌∙◌}
+use Rattle.std.proofs.Common.{ℕ, ◌≤◌, List, length, subst, sym, arith, ap, ◌∙◌}
 use Rattle.tcmu_model.specs.Lists.{IsRising}
 use Rattle.tcmu_path.proofs.Bounds.{few_known}
 use Rattle.tcmu_path.proofs.state.State.unknown.Goals as goal

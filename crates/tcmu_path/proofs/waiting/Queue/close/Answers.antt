@@ -1,4 +1,4 @@
-use Rattle.std.proofs.Common.{◌≡◌, ◌≤◌, ◌<◌, ◌+◌, length, drop, ap, ◌∙◌, arith, List}
+use Rattle.std.proofs.Common.{◌<◌, length, drop, ap, ◌∙◌, arith, List}
 use Rattle.std.proofs.lemmas.List.{drop-drop, length-drop}
 use Rattle.tcmu_model.specs.Device.{Delayed}
 use Rattle.tcmu_model.specs.Events.{reset_completion}

@@ -1,4 +1,4 @@
-use Rattle.std.proofs.Common.{◌≡◌, ◌≤◌, ◌+◌, ◌++◌, drop, take, map, length}
+use Rattle.std.proofs.Common.{◌≡◌, ◌≤◌, ◌++◌, drop, take, map, length}
 use Rattle.tcmu_model.specs.Events.{reset_completion}
 use Rattle.tcmu_path.proofs.waiting.Queue.close.Given as goal
 

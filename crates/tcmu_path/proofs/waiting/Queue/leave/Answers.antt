@@ -1,4 +1,4 @@
-use Rattle.std.proofs.Common.{◌≡◌, ◌≤◌, ◌<◌, ◌+◌, not, length, take, arith, ◌∙◌, sym, ap, List}
+use Rattle.std.proofs.Common.{◌<◌, not, length, take, arith, List}
 use Rattle.std.specs.List.{filter}
 use Rattle.tcmu_model.specs.Device.{Delayed}
 use Rattle.tcmu_model.specs.Events.{departure, has_left}
