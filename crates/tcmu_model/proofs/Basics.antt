@@ -1,15 +1,12 @@
 -- First consequences of soundness: serials rise, and what is placed was laid.
-use Rattle.std.proofs.Common.{◌≡◌, ℕ, ◌+◌, ◌<◌, ◌≤◌, Bool, true, false, not, cond, List, [], ◌∷◌, ◌++◌, length, take, drop, map, refl, sym, ap, ◌∙◌, arith, ⊎_elim, subst, ◌||◌, ◌&&◌, eqb, Some, None, Option, length-append}
-use Rattle.std.specs.List.{list_any, filter, count_by, sum_by}
-use Rattle.std.proofs.lemmas.Bool.{cases_Bool, or_left}
+use Rattle.std.proofs.Common.{◌≡◌, ℕ, ◌+◌, ◌≤◌, true, not, cond, List, [], ◌∷◌, ◌++◌, length, take, drop, map, refl, sym, ap, ◌∙◌, arith, subst, length-append}
+use Rattle.std.proofs.lemmas.Bool.{or_left}
 use Rattle.std.proofs.lemmas.List.{take-append-drop}
 use Rattle.std.proofs.lemmas.List.Sums.{sum_by-cons}
-use Rattle.tcmu_model.specs.declared.state.CommandState.TheVariants.{Waiting, Out, Handled, Parked, Placed, Lost}
-use Rattle.tcmu_model.specs.Lists.{first_of}
 use Rattle.tcmu_model.specs.RingState.{RingState, Item, Laid, Pad, Cmd, Tmr, is_command, commands_in, serial_in, serials_in, cleared_commands, published_commands}
-use Rattle.tcmu_model.specs.Device.{Unfinished, DeviceState, has_state, has_serial}
+use Rattle.tcmu_model.specs.Device.{DeviceState}
 use Rattle.tcmu_model.specs.Events.{is_among}
-use Rattle.tcmu_model.specs.Sound.{Every, Rise, finished, delayed_serials, dispatched_serials, SerialsSound, AnswersSound, RingSound, IsSound, parked_rightly}
+use Rattle.tcmu_model.specs.Sound.{Every, Rise, finished, delayed_serials, dispatched_serials, SerialsSound, AnswersSound, RingSound}
 use Rattle.tcmu_model.proofs.Fronts.{commands_more}
 use Rattle.tcmu_model.proofs.Everies.{every-weaker, every-front}
 use Rattle.tcmu_model.proofs.Rises.{rise_front, rise_filter, among-append, among_every}
@@ -39,7 +36,7 @@ dispatched_every P r h =
 pub placed_every : (P : ℕ → Type 0) (d : DeviceState) → AnswersSound d → Every P (serials_in d.ring.laid) → Every P d.placed
 placed_every P d h e =
     every-weaker (λ s. is_among (dispatched_serials d.ring) s ≡ true) P d.placed
-      (λ s k. among_every P (dispatched_serials d.ring) s (dispatched_every P d.ring e) k) h.dispatched
+    (λ s k. among_every P (dispatched_serials d.ring) s (dispatched_every P d.ring e) k) h.dispatched
 
 pub commands_serials : (is : List Item) → commands_in is ≡ length (serials_in is)
 commands_serials [] = refl

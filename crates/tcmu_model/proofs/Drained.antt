@@ -1,25 +1,24 @@
 -- Where the drain of an attached device has nothing to do, no command is unfinished or delayed.
-use Rattle.std.proofs.Common.{◌≡◌, ℕ, ◌+◌, ◌-◌, ◌*◌, ◌<◌, ◌≤◌, Bool, true, false, not, cond, List, [], ◌∷◌, ◌++◌, length, take, drop, map, refl, sym, ap, ◌∙◌, arith, ⊎_elim, subst, ◌||◌, ◌&&◌, eqb, ltb, leb, nat_lt, if◌then◌else◌, Some, None, Option, suc, zero}
+use Rattle.std.proofs.Common.{◌≡◌, ℕ, ◌+◌, ◌≤◌, Bool, true, false, not, cond, List, [], ◌∷◌, length, take, map, refl, sym, ap, ◌∙◌, arith, ⊎_elim, subst, ◌||◌, nat_lt, Some, None, Option}
 use Rattle.std.specs.List.{list_any, filter, count_by, sum_by}
 use Rattle.std.specs.Option.{is_some, option_map}
-use Rattle.std.proofs.lemmas.Bool.{cases_Bool, true≢false, false≢true, ltb-false, le-leb, or_parts}
+use Rattle.std.proofs.lemmas.Bool.{cases_Bool, true≢false, false≢true, ltb-false, le-leb}
 use Rattle.std.proofs.lemmas.List.{take_all, drop_all}
 use Rattle.std.proofs.lemmas.List.Sums.{sum_by-cons}
-use Rattle.tcmu_types.specs.Events.{EventData}
 use Rattle.tcmu_types.specs.declared.stat.Todo.{Todo}
 use Rattle.tcmu_model.specs.declared.state.CommandState.{CommandState}
 use Rattle.tcmu_model.specs.declared.state.CommandState.TheVariants.{Waiting, Out, Handled, Parked, Placed, Lost}
 use Rattle.tcmu_model.specs.Lists.{first_of}
 use Rattle.tcmu_model.specs.States.{same_state}
-use Rattle.tcmu_model.specs.RingState.{RingState, Item, lengths, used, fits, commands_in, serials_in, cleared_commands, published_commands}
+use Rattle.tcmu_model.specs.RingState.{lengths, used, commands_in, serials_in, cleared_commands, published_commands}
 use Rattle.tcmu_model.specs.Device.{Unfinished, Delayed, DeviceState, has_state}
 use Rattle.tcmu_model.specs.Events.{is_among, publishable, held_blocks, free_blocks, blocks_in, entry_length_in, fits_ring, fits_blocks}
-use Rattle.tcmu_model.specs.Drain.{least_serial, can_enter, chosen, todo_of, drain_event}
-use Rattle.tcmu_model.specs.Sound.{Every, Rise, CanWait, finished, dispatched_serials, state_fits, is_right, parked_rightly, RingSound, SerialsSound, AnswersSound, IsSound}
+use Rattle.tcmu_model.specs.Drain.{least_serial, can_enter, chosen, drain_event}
+use Rattle.tcmu_model.specs.Sound.{Every, CanWait, finished, dispatched_serials, state_fits, is_right, parked_rightly, IsSound}
 use Rattle.tcmu_model.proofs.Places.{none_first}
 use Rattle.tcmu_model.proofs.Draining.{all_todo, todo_attached}
-use Rattle.tcmu_model.proofs.Everies.{every-weaker, every-take, every-both, every-passes, none-every}
-use Rattle.tcmu_model.proofs.Rises.{count_differ, among-take, among_every, every-among}
+use Rattle.tcmu_model.proofs.Everies.{every-weaker, every-both, none-every}
+use Rattle.tcmu_model.proofs.Rises.{count_differ, among-take, every-among}
 use Rattle.tcmu_model.proofs.Laying.{empty_takes}
 use Rattle.tcmu_model.proofs.SoundLaying.{entry_least}
 use Rattle.tcmu_model.proofs.Basics.{laid_rise, commands_serials, placed_every}
@@ -91,8 +90,8 @@ all_placed true us h k = none us h k
         ⊎_elim
         (λ (e : has_state Parked u ≡ true). let z : not (true || list_any (has_state Parked) us) ≡ true = rw e at k in absurd (false≢true z))
         (λ (e : has_state Parked u ≡ false).
-            let z : not (list_any (has_state Parked) us) ≡ true = rw e at k in
-            (⊎_elim (λ (q : has_state Placed u ≡ true). q) (λ (q : has_state Placed u ≡ false). absurd (false≢true (sym e ∙ h.0 q))) (cases_Bool (has_state Placed u)), none us h.1 z))
+        let z : not (list_any (has_state Parked) us) ≡ true = rw e at k in
+        (⊎_elim (λ (q : has_state Placed u ≡ true). q) (λ (q : has_state Placed u ≡ false). absurd (false≢true (sym e ∙ h.0 q))) (cases_Bool (has_state Placed u)), none us h.1 z))
         (cases_Bool (has_state Parked u))
 all_placed false us h k = first us h k
   where
@@ -102,9 +101,9 @@ all_placed false us h k = first us h k
         ⊎_elim
         (λ (e : has_state Placed u ≡ true). let z : parked_rightly false us ≡ true = rw e at k in (e, first us h.1 z))
         (λ (e : has_state Placed u ≡ false).
-            let p : has_state Parked u ≡ true = h.0 e in
-            let z : not true ≡ true = rw (e, p) at k in
-            absurd (false≢true z))
+        let p : has_state Parked u ≡ true = h.0 e in
+        let z : not true ≡ true = rw (e, p) at k in
+        absurd (false≢true z))
         (cases_Bool (has_state Placed u))
 
 placed_among : (dispatched placed published attached : Bool) (t : CommandState) (r : Bool) → state_fits dispatched placed published attached t r ≡ true → same_state t Placed ≡ true → placed ≡ true
@@ -122,19 +121,19 @@ rows_placed d h a q =
     let us = d.unfinished in
     let whole : dispatched_serials d.ring ≡ serials_in d.ring.laid = ap serials_in (take_all d.ring.dispatched d.ring.laid q.dispatch) in
     all_placed d.settings.flags.ooo us
-      (every-weaker
-        (λ u. ((is_right d u ≡ true) × (has_state Waiting u ≡ not (is_among (dispatched_serials d.ring) u.serial))) × ((is_among (serials_in d.ring.laid) u.serial ≡ true) × ((has_state Out u ≡ false) × (has_state Handled u ≡ false))))
-        (λ u. has_state Placed u ≡ false → has_state Parked u ≡ true) us
-        (λ u k n.
-          let w : has_state Waiting u ≡ false = k.0.1 ∙ ap not (ap (λ (xs : List ℕ). is_among xs u.serial) whole ∙ k.1.0) in
-          let f : state_fits (is_among (dispatched_serials d.ring) u.serial) (is_among d.placed u.serial) (is_among (take (published_commands d.ring) d.placed) u.serial) true u.state (is_some u.reply) ≡ true =
-            subst (λ (b : Bool). state_fits (is_among (dispatched_serials d.ring) u.serial) (is_among d.placed u.serial) (is_among (take (published_commands d.ring) d.placed) u.serial) b u.state (is_some u.reply) ≡ true) a k.0.0 in
-          parked_or_placed (is_among (dispatched_serials d.ring) u.serial) (is_among d.placed u.serial) (is_among (take (published_commands d.ring) d.placed) u.serial) u.state (is_some u.reply) f w k.1.1.0 k.1.1.1 n)
-        (every-both (λ u. (is_right d u ≡ true) × (has_state Waiting u ≡ not (is_among (dispatched_serials d.ring) u.serial))) (λ u. (is_among (serials_in d.ring.laid) u.serial ≡ true) × ((has_state Out u ≡ false) × (has_state Handled u ≡ false))) us
-          (every-both (λ u. is_right d u ≡ true) (λ u. has_state Waiting u ≡ not (is_among (dispatched_serials d.ring) u.serial)) us h.answers.states (waiting_undispatched d h))
-          (every-both (λ u. is_among (serials_in d.ring.laid) u.serial ≡ true) (λ u. (has_state Out u ≡ false) × (has_state Handled u ≡ false)) us (rows_among d h.serials)
-            (every-both (λ u. has_state Out u ≡ false) (λ u. has_state Handled u ≡ false) us (none-every (has_state Out) us q.out) (none-every (has_state Handled) us q.handled)))))
-      h.answers.parked
+    (every-weaker
+    (λ u. ((is_right d u ≡ true) × (has_state Waiting u ≡ not (is_among (dispatched_serials d.ring) u.serial))) × ((is_among (serials_in d.ring.laid) u.serial ≡ true) × ((has_state Out u ≡ false) × (has_state Handled u ≡ false))))
+    (λ u. has_state Placed u ≡ false → has_state Parked u ≡ true) us
+    (λ u k n.
+    let w : has_state Waiting u ≡ false = k.0.1 ∙ ap not (ap (λ (xs : List ℕ). is_among xs u.serial) whole ∙ k.1.0) in
+    let f : state_fits (is_among (dispatched_serials d.ring) u.serial) (is_among d.placed u.serial) (is_among (take (published_commands d.ring) d.placed) u.serial) true u.state (is_some u.reply) ≡ true =
+    subst (λ (b : Bool). state_fits (is_among (dispatched_serials d.ring) u.serial) (is_among d.placed u.serial) (is_among (take (published_commands d.ring) d.placed) u.serial) b u.state (is_some u.reply) ≡ true) a k.0.0 in
+    parked_or_placed (is_among (dispatched_serials d.ring) u.serial) (is_among d.placed u.serial) (is_among (take (published_commands d.ring) d.placed) u.serial) u.state (is_some u.reply) f w k.1.1.0 k.1.1.1 n)
+    (every-both (λ u. (is_right d u ≡ true) × (has_state Waiting u ≡ not (is_among (dispatched_serials d.ring) u.serial))) (λ u. (is_among (serials_in d.ring.laid) u.serial ≡ true) × ((has_state Out u ≡ false) × (has_state Handled u ≡ false))) us
+    (every-both (λ u. is_right d u ≡ true) (λ u. has_state Waiting u ≡ not (is_among (dispatched_serials d.ring) u.serial)) us h.answers.states (waiting_undispatched d h))
+    (every-both (λ u. is_among (serials_in d.ring.laid) u.serial ≡ true) (λ u. (has_state Out u ≡ false) × (has_state Handled u ≡ false)) us (rows_among d h.serials)
+    (every-both (λ u. has_state Out u ≡ false) (λ u. has_state Handled u ≡ false) us (none-every (has_state Out) us q.out) (none-every (has_state Handled) us q.handled)))))
+    h.answers.parked
 
 -- each serial that passes or is kept
 kept_or : (p : ℕ → Bool) (P : ℕ → Type 0) (xs : List ℕ) → ((x : ℕ) → p x ≡ false → P x) → Every P (filter p xs) → Every P xs
@@ -150,24 +149,26 @@ all_answered d h e =
     let L : List ℕ = serials_in d.ring.laid in
     let F : List ℕ = finished d in
     let rows : Every (λ s. is_among d.placed s ≡ true) (map (λ u. u.serial) d.unfinished) = mapped d.unfinished
-      (every-weaker (λ u. (is_right d u ≡ true) × (has_state Placed u ≡ true)) (λ u. is_among d.placed u.serial ≡ true) d.unfinished
-        (λ u k. placed_among (is_among (dispatched_serials d.ring) u.serial) (is_among d.placed u.serial) (is_among (take (published_commands d.ring) d.placed) u.serial) d.attached u.state (is_some u.reply) k.0 k.1)
-        (every-both (λ u. is_right d u ≡ true) (λ u. has_state Placed u ≡ true) d.unfinished h.answers.states e)) in
+    (every-weaker (λ u. (is_right d u ≡ true) × (has_state Placed u ≡ true)) (λ u. is_among d.placed u.serial ≡ true) d.unfinished
+    (λ u k. placed_among (is_among (dispatched_serials d.ring) u.serial) (is_among d.placed u.serial) (is_among (take (published_commands d.ring) d.placed) u.serial) d.attached u.state (is_some u.reply) k.0 k.1)
+    (every-both (λ u. is_right d u ≡ true) (λ u. has_state Placed u ≡ true) d.unfinished h.answers.states e)) in
     let all : Every (λ s. is_among d.placed s ≡ true) L = kept_or (λ s. not (is_among F s)) (λ s. is_among d.placed s ≡ true) L (λ s z. cleared s z)
-      (subst (λ (xs : List ℕ). Every (λ s. is_among d.placed s ≡ true) xs) h.serials.order rows) in
+    (subst (λ (xs : List ℕ). Every (λ s. is_among d.placed s ≡ true) xs) h.serials.order rows) in
     let a : count_by (is_among d.placed) L ≡ length d.placed = count_differ 0 L d.accepted d.placed (laid_rise d h.serials) h.answers.differ
-      (placed_every (λ s. is_among L s ≡ true) d h.answers (every-among L)) in
+    (placed_every (λ s. is_among L s ≡ true) d h.answers (every-among L)) in
     omega (arith, a, count_all (is_among d.placed) L all, commands_serials d.ring.laid)
   where
     mapped : (us : List Unfinished) → Every (λ u. is_among d.placed u.serial ≡ true) us → Every (λ s. is_among d.placed s ≡ true) (map (λ u. u.serial) us)
     mapped [] h = tt
     mapped (u ∷ us) h = (h.0, mapped us h.1)
+
     cleared : (s : ℕ) → not (is_among (finished d) s) ≡ false → is_among d.placed s ≡ true
     cleared s z =
         ⊎_elim
         (λ (e : is_among d.placed s ≡ true). e)
         (λ (e : is_among d.placed s ≡ false). let w : not (is_among (finished d) s) ≡ true = rw (among-take (cleared_commands d.ring) d.placed s e) refl in absurd (true≢false (sym w ∙ z)))
         (cases_Bool (is_among d.placed s))
+
     count_all : (p : ℕ → Bool) (xs : List ℕ) → Every (λ x. p x ≡ true) xs → count_by p xs ≡ length xs
     count_all p [] h = refl
     count_all p (x ∷ xs) h =

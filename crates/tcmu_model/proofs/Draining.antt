@@ -1,25 +1,21 @@
 -- What the drain chooses, and that its work falls at each choice.
-use Rattle.std.proofs.Common.{◌≡◌, ℕ, ◌+◌, ◌<◌, ◌≤◌, Bool, true, false, cond, List, [], ◌∷◌, ◌++◌, length, Option, Some, None, refl, sym, ap, ◌∙◌, arith, suc, zero, ⊎_elim, subst, ltb, nat_lt}
+use Rattle.std.proofs.Common.{◌≡◌, ℕ, ◌<◌, Bool, true, false, length, Option, Some, None, refl, sym, ap, ◌∙◌, ⊎_elim, subst, nat_lt}
 use Rattle.std.specs.Option.{option_map}
 use Rattle.std.specs.List.{list_any}
-use Rattle.std.proofs.lemmas.Bool.{cases_Bool, false≢true, true≢false, ltb-true}
-use Rattle.tcmu_types.specs.Data.{CommandData, ReplyData}
+use Rattle.std.proofs.lemmas.Bool.{cases_Bool, false≢true, ltb-true}
 use Rattle.tcmu_types.specs.Events.{EventData, AnswerData, EntryData}
 use Rattle.tcmu_types.specs.Events as ev
 use Rattle.tcmu_types.specs.declared.stat.Todo.{Todo}
-use Rattle.tcmu_types.specs.declared.answer.Handle.{Handle}
 use Rattle.tcmu_types.specs.declared.answer.Handle.TheVariants as handle
-use Rattle.tcmu_model.specs.declared.state.CommandState.{CommandState}
-use Rattle.tcmu_model.specs.declared.state.CommandState.TheVariants.{Waiting, Out, Handled, Parked, Placed, Lost}
+use Rattle.tcmu_model.specs.declared.state.CommandState.TheVariants.{Out, Handled}
 use Rattle.tcmu_model.specs.Lists.{first_of}
 use Rattle.tcmu_model.specs.Device.{Unfinished, DeviceState, Device, has_state, is_at}
-use Rattle.tcmu_model.specs.Events.{publishable, is_handled, command_out, after_enter, after_respond, after_publish, after_clean, after_dispatch, after_handle, enter_answer}
-use Rattle.tcmu_model.specs.Steps.{HandlerRelation, Step, Makes, Handles, Replies, moved}
-use Rattle.tcmu_model.specs.Drain.{least_serial, can_enter, todo_of, chosen, drain_event, nothing_to_do, Drains}
+use Rattle.tcmu_model.specs.Events.{publishable, is_handled, after_enter, after_respond, after_publish, after_clean, after_dispatch, enter_answer}
+use Rattle.tcmu_model.specs.Steps.{HandlerRelation, Step, Makes, moved}
+use Rattle.tcmu_model.specs.Drain.{least_serial, can_enter, todo_of, chosen, drain_event}
 use Rattle.tcmu_model.specs.Sound.{IsSound}
 use Rattle.tcmu_model.specs.Work.{work}
-use Rattle.tcmu_model.proofs.Places.{first_in_state, none_first, any_first}
-use Rattle.tcmu_model.proofs.Firsts.{first_of_none}
+use Rattle.tcmu_model.proofs.Places.{first_in_state, none_first}
 use Rattle.tcmu_model.proofs.Falls.{falls_handle, falls_respond, falls_publish, falls_clean, falls_enter, falls_dispatch}
 
 -- what a list of things to do says where an event is chosen
@@ -86,8 +82,8 @@ unfolding drain_event todo_of
 chosen_attached d e h =
     ⊎_elim
     (λ (a : d.attached ≡ true).
-        let k : chosen (all_todo d) ≡ Some e = rw a at h in
-        (a, choice d e (picked _ _ _ _ _ _ e k)))
+    let k : chosen (all_todo d) ≡ Some e = rw a at h in
+    (a, choice d e (picked _ _ _ _ _ _ e k)))
     (λ (a : d.attached ≡ false). let k : None ≡ Some e = rw a at h in absurd (cc))
     (cases_Bool d.attached)
 

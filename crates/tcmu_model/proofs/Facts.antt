@@ -1,32 +1,32 @@
 -- What soundness gives of the ring and of the answers: counts, bounds, and what is left behind a front.
-use Rattle.std.proofs.Common.{◌≡◌, ℕ, ◌+◌, ◌-◌, ◌*◌, ◌<◌, ◌≤◌, Bool, true, false, not, cond, List, [], ◌∷◌, ◌++◌, length, take, drop, map, refl, sym, ap, ◌∙◌, arith, ⊎_elim, subst, ◌||◌, ◌&&◌, eqb, if◌then◌else◌, Some, None, Option, suc, zero, append-nil, length-append}
-use Rattle.std.specs.List.{list_any, filter, count_by, sum_by}
+use Rattle.std.proofs.Common.{◌≡◌, ℕ, ◌+◌, ◌*◌, ◌<◌, ◌≤◌, Bool, true, false, not, cond, List, [], ◌∷◌, ◌++◌, length, take, drop, map, refl, sym, ap, ◌∙◌, arith, ⊎_elim, subst}
+use Rattle.std.specs.List.{filter, count_by}
 use Rattle.std.specs.Option.{is_some}
-use Rattle.std.proofs.lemmas.Bool.{cases_Bool, true≢false, false≢true, or_parts}
-use Rattle.std.proofs.lemmas.List.{length-map, length-take-le, take-append-drop, take-take}
+use Rattle.std.proofs.lemmas.Bool.{cases_Bool, true≢false, false≢true}
+use Rattle.std.proofs.lemmas.List.{length-map, length-take-le, take-take}
 use Rattle.std.proofs.lemmas.List.Elements.{filter-append}
 use Rattle.std.proofs.lemmas.List.Filters.{length-filter_both}
 use Rattle.std.proofs.lemmas.List.Sums.{sum_by-cons, sum_by-take-drop, length-filter, count_by-le-length}
-use Rattle.tcmu_types.specs.Data.{CommandData, SettingsData}
+use Rattle.tcmu_types.specs.Data.{SettingsData}
 use Rattle.tcmu_model.specs.declared.state.CommandState.{CommandState}
 use Rattle.tcmu_model.specs.declared.state.CommandState.TheVariants.{Waiting, Out, Handled, Parked, Placed, Lost}
 use Rattle.tcmu_model.specs.States.{same_state}
-use Rattle.tcmu_model.specs.RingState.{RingState, Item, Laid, Pad, Cmd, Tmr, lengths, used, is_command, commands_in, serials_in, cleared_commands, published_commands, dispatched_commands, front_with}
-use Rattle.tcmu_model.specs.Device.{Unfinished, Delayed, DeviceState, has_state, has_serial}
+use Rattle.tcmu_model.specs.RingState.{Item, Laid, Pad, Cmd, Tmr, lengths, used, is_command, commands_in, serials_in, cleared_commands, published_commands, dispatched_commands, front_with}
+use Rattle.tcmu_model.specs.Device.{Unfinished, Delayed, DeviceState, has_state}
 use Rattle.tcmu_model.specs.Events.{is_among, publishable}
-use Rattle.tcmu_model.specs.Sound.{Every, Rise, Differ, Along, IsItem, finished, delayed_serials, dispatched_serials, state_fits, is_right, RingSound, SerialsSound, AnswersSound, IsSound}
+use Rattle.tcmu_model.specs.Sound.{Every, Rise, Along, IsItem, finished, delayed_serials, dispatched_serials, state_fits, is_right, SerialsSound, AnswersSound, IsSound}
 use Rattle.tcmu_model.proofs.Fronts.{front_holds, front_longest, front_short}
-use Rattle.tcmu_model.proofs.Everies.{every-weaker, every-take, every-drop, every-all, every-append, every-filter, every-passes, filter_same, filter_all, filter_twice, map_filter}
-use Rattle.tcmu_model.proofs.Rises.{rise_front, rise_seam, count_differ, differ-take, not_among, among-take, among_every, every-among}
+use Rattle.tcmu_model.proofs.Everies.{every-weaker, every-take, every-drop, every-filter, every-passes, filter_same, filter_all, filter_twice, map_filter}
+use Rattle.tcmu_model.proofs.Rises.{rise_front, rise_seam, count_differ, differ-take, not_among, among_every, every-among}
 use Rattle.tcmu_model.proofs.SoundLaying.{entry_least}
-use Rattle.tcmu_model.proofs.Basics.{laid_rise, rows_rise, serials_split, placed_every, commands_serials, cleared_placed, cleared_published, among_more}
+use Rattle.tcmu_model.proofs.Basics.{laid_rise, serials_split, placed_every, commands_serials, cleared_placed}
 
 -- ==== counts
 
 dispatched_rise : (d : DeviceState) → SerialsSound d → Rise 0 (dispatched_serials d.ring) d.accepted
 dispatched_rise d h =
     rise_front 0 (dispatched_serials d.ring) (serials_in (drop d.ring.dispatched d.ring.laid)) d.accepted
-      (subst (λ (xs : List ℕ). Rise 0 xs d.accepted) (sym (serials_split d.ring.dispatched d.ring.laid)) (laid_rise d h))
+    (subst (λ (xs : List ℕ). Rise 0 xs d.accepted) (sym (serials_split d.ring.dispatched d.ring.laid)) (laid_rise d h))
 
 placed_laid : (d : DeviceState) → AnswersSound d → Every (λ s. is_among (serials_in d.ring.laid) s ≡ true) d.placed
 placed_laid d h = placed_every (λ s. is_among (serials_in d.ring.laid) s ≡ true) d h (every-among (serials_in d.ring.laid))
@@ -101,7 +101,7 @@ waits_or false b p q Lost r h = absurd (false≢true h)
 pub waiting_undispatched : (d : DeviceState) → IsSound d → Every (λ u. has_state Waiting u ≡ not (is_among (dispatched_serials d.ring) u.serial)) d.unfinished
 waiting_undispatched d h =
     every-weaker (λ u. is_right d u ≡ true) (λ u. has_state Waiting u ≡ not (is_among (dispatched_serials d.ring) u.serial)) d.unfinished
-      (λ u k. waits_or (is_among (dispatched_serials d.ring) u.serial) (is_among d.placed u.serial) (is_among (take (published_commands d.ring) d.placed) u.serial) d.attached u.state (is_some u.reply) k) h.answers.states
+    (λ u k. waits_or (is_among (dispatched_serials d.ring) u.serial) (is_among d.placed u.serial) (is_among (take (published_commands d.ring) d.placed) u.serial) d.attached u.state (is_some u.reply) k) h.answers.states
 
 -- numbers that rise in two parts: none of the back stands in front
 apart_behind : (low : ℕ) (xs ys : List ℕ) (high : ℕ) → Rise low (xs ++ ys) high → Every (λ y. is_among xs y ≡ false) ys
@@ -135,12 +135,13 @@ waiting_rows d h =
     none : (xs : List ℕ) → Every (λ s. is_among (dispatched_serials d.ring) s ≡ true) xs → filter (λ s. not (is_among (dispatched_serials d.ring) s)) xs ≡ []
     none [] e = refl
     none (x ∷ xs) e = rw (e.0) (none xs e.1)
+
     both : (s : ℕ) → not (is_among (finished d) s) ≡ false → not (is_among (dispatched_serials d.ring) s) ≡ false
     both s z =
         ⊎_elim
         (λ (e : is_among (finished d) s ≡ true).
-            let w : is_among (dispatched_serials d.ring) s ≡ true = among_every (λ k. is_among (dispatched_serials d.ring) k ≡ true) (finished d) s (every-take (λ k. is_among (dispatched_serials d.ring) k ≡ true) (cleared_commands d.ring) d.placed h.answers.dispatched) e in
-            rw w refl)
+        let w : is_among (dispatched_serials d.ring) s ≡ true = among_every (λ k. is_among (dispatched_serials d.ring) k ≡ true) (finished d) s (every-take (λ k. is_among (dispatched_serials d.ring) k ≡ true) (cleared_commands d.ring) d.placed h.answers.dispatched) e in
+        rw w refl)
         (λ (e : is_among (finished d) s ≡ false). absurd (true≢false (let w : not (is_among (finished d) s) ≡ true = rw e refl in sym w ∙ z)))
         (cases_Bool (is_among (finished d) s))
 
@@ -153,6 +154,7 @@ delayed_above d h = above 0 (serials_in d.ring.laid) d.delayed d.accepted h.seri
     lower xs [] low high e r = tt
     lower xs (w ∷ ws) low high e r =
         (every-weaker (λ x. x ≤ low) (λ x. x < w.serial) xs (λ x l. omega (arith, l, r.0)) e, lower xs ws w.serial high (every-weaker (λ x. x ≤ low) (λ x. x ≤ w.serial) xs (λ x l. omega (arith, l, r.0)) e) r.1)
+
     above : (low : ℕ) (xs : List ℕ) (ws : List Delayed) (high : ℕ) → Rise low (xs ++ delayed_serials ws) high → Every (λ w. Every (λ s. s < w.serial) xs) ws
     above low xs [] high r = tt
     above low xs (w ∷ ws) high r =
@@ -189,15 +191,15 @@ every-mapped P (u ∷ us) h = (h.0, every-mapped P us h.1)
 pub rows_among : (d : DeviceState) → SerialsSound d → Every (λ u. is_among (serials_in d.ring.laid) u.serial ≡ true) d.unfinished
 rows_among d h =
     every-mapped (λ k. is_among (serials_in d.ring.laid) k ≡ true) d.unfinished
-      (subst (λ (xs : List ℕ). Every (λ k. is_among (serials_in d.ring.laid) k ≡ true) xs) (sym h.order)
-        (every-filter (λ k. not (is_among (finished d) k)) (λ k. is_among (serials_in d.ring.laid) k ≡ true) (serials_in d.ring.laid) (every-among (serials_in d.ring.laid))))
+    (subst (λ (xs : List ℕ). Every (λ k. is_among (serials_in d.ring.laid) k ≡ true) xs) (sym h.order)
+    (every-filter (λ k. not (is_among (finished d) k)) (λ k. is_among (serials_in d.ring.laid) k ≡ true) (serials_in d.ring.laid) (every-among (serials_in d.ring.laid))))
 
 pub rows_unfinished : (d : DeviceState) → SerialsSound d → Every (λ u. is_among (finished d) u.serial ≡ false) d.unfinished
 rows_unfinished d h =
     every-mapped (λ k. is_among (finished d) k ≡ false) d.unfinished
-      (subst (λ (xs : List ℕ). Every (λ k. is_among (finished d) k ≡ false) xs) (sym h.order)
-        (every-weaker (λ k. not (is_among (finished d) k) ≡ true) (λ k. is_among (finished d) k ≡ false) (filter (λ k. not (is_among (finished d) k)) (serials_in d.ring.laid)) (λ k z. back (is_among (finished d) k) z)
-          (every-passes (λ k. not (is_among (finished d) k)) (serials_in d.ring.laid))))
+    (subst (λ (xs : List ℕ). Every (λ k. is_among (finished d) k ≡ false) xs) (sym h.order)
+    (every-weaker (λ k. not (is_among (finished d) k) ≡ true) (λ k. is_among (finished d) k ≡ false) (filter (λ k. not (is_among (finished d) k)) (serials_in d.ring.laid)) (λ k z. back (is_among (finished d) k) z)
+    (every-passes (λ k. not (is_among (finished d) k)) (serials_in d.ring.laid))))
   where
     back : (b : Bool) → not b ≡ true → b ≡ false
     back true h = absurd (false≢true h)

@@ -1,20 +1,19 @@
 -- The work of a drain falls at each event that it chooses.
-use Rattle.std.proofs.Common.{◌≡◌, ℕ, ◌+◌, ◌-◌, ◌*◌, ◌<◌, ◌≤◌, Bool, true, false, not, cond, List, [], ◌∷◌, ◌++◌, length, take, drop, Option, Some, None, refl, sym, ap, ◌∙◌, arith, suc, zero, ⊎_elim, subst, eqb, ltb, if◌then◌else◌, ◌&&◌, slice_get, length-append}
+use Rattle.std.proofs.Common.{◌≡◌, ℕ, ◌+◌, ◌<◌, ◌≤◌, Bool, true, false, List, [], ◌∷◌, ◌++◌, length, take, Option, Some, None, refl, sym, ap, ◌∙◌, arith, suc, ⊎_elim, eqb, length-append}
 use Rattle.std.specs.List.{list_any, sum_by}
-use Rattle.std.proofs.lemmas.Bool.{cases_Bool, false≢true, true≢false, and_parts, ltb-true}
-use Rattle.std.proofs.lemmas.List.{length-take-le, length-take, length-drop}
-use Rattle.std.proofs.lemmas.List.Sums.{sum_by-cons, sum_by_push}
-use Rattle.tcmu_types.specs.Data.{CommandData, ReplyData}
+use Rattle.std.proofs.lemmas.Bool.{cases_Bool, false≢true, and_parts}
+use Rattle.std.proofs.lemmas.List.{length-take-le}
+use Rattle.std.proofs.lemmas.List.Sums.{sum_by_push}
+use Rattle.tcmu_types.specs.Data.{ReplyData}
 use Rattle.tcmu_model.specs.declared.state.CommandState.{CommandState}
-use Rattle.tcmu_model.specs.declared.state.CommandState.TheVariants.{Waiting, Out, Handled, Parked, Placed, Lost}
-use Rattle.tcmu_model.specs.Lists.{first_of, without_first, with_first}
-use Rattle.tcmu_model.specs.RingState.{RingState, Item, Laid, Pad, Cmd, Tmr, pad, pads, with_item, next_place}
-use Rattle.tcmu_model.specs.Device.{Unfinished, Delayed, DeviceState, has_state, is_at}
-use Rattle.tcmu_model.specs.Events.{entry_length_in, waiting, with_command, is_among, with_placed, run_placed, placed_by, placing, is_handled, with_parked, in_state, turned, Placing, after_respond, command_out, with_reply, after_handle, publishable, after_publish, Books, finish, finish_all, books, answered, cleaned_books, after_clean, after_enter, enter_answer, after_entering, fits_ring, fits_blocks, next_item, passed, after_item, after_dispatch}
+use Rattle.tcmu_model.specs.declared.state.CommandState.TheVariants.{Waiting, Out, Handled, Parked, Placed}
+use Rattle.tcmu_model.specs.Lists.{first_of, with_first}
+use Rattle.tcmu_model.specs.RingState.{Item, Laid, Pad, Cmd, Tmr, pad, pads, with_item, next_place}
+use Rattle.tcmu_model.specs.Device.{Unfinished, Delayed, DeviceState, is_at}
+use Rattle.tcmu_model.specs.Events.{entry_length_in, waiting, with_command, is_among, with_placed, run_placed, placed_by, placing, is_handled, with_parked, in_state, Placing, after_respond, command_out, with_reply, after_handle, publishable, after_publish, Books, finish, finish_all, books, answered, cleaned_books, after_clean, after_enter, enter_answer, fits_ring, fits_blocks, next_item, after_item, after_dispatch}
 use Rattle.tcmu_model.specs.Drain.{can_enter}
-use Rattle.tcmu_model.specs.Sound.{EndsInAnItem, RingSound}
-use Rattle.tcmu_model.specs.Work.{weight, ring_work, work}
-use Rattle.tcmu_model.proofs.Firsts.{any-with_first, without_first_missing}
+use Rattle.tcmu_model.specs.Sound.{RingSound}
+use Rattle.tcmu_model.specs.Work.{weight, work}
 use Rattle.tcmu_model.proofs.Counts.{sum-with_first_less, sum-with_first_same, sum-without_first, state_at}
 use Rattle.tcmu_model.proofs.Fronts.{front_short}
 use Rattle.tcmu_model.proofs.Places.{any_first, next_within, within, get_none}
@@ -28,7 +27,7 @@ pub falls_handle : (d : DeviceState) (s : ℕ) (reply : ReplyData) (u : Unfinish
 unfolding after_handle
 falls_handle d s reply u h =
     let e : sum_by weight (with_first (is_at s Out) (with_reply reply) d.unfinished) + 1 ≡ sum_by weight d.unfinished =
-      sum-with_first_less (is_at s Out) (with_reply reply) weight 1 d.unfinished (λ v k. sym (weighs s Out v k)) (any_first (is_at s Out) d.unfinished u h) in
+    sum-with_first_less (is_at s Out) (with_reply reply) weight 1 d.unfinished (λ v k. sym (weighs s Out v k)) (any_first (is_at s Out) d.unfinished u h) in
     omega (arith, e)
 
 -- ==== respond
@@ -39,10 +38,10 @@ run_weighs p (s ∷ ss) =
     ⊎_elim
     (λ (e : is_among p.placed s ≡ true). rw e (run_weighs p ss))
     (λ (e : is_among p.placed s ≡ false).
-        ⊎_elim
-        (λ (z : list_any (is_at s Parked) p.unfinished ≡ true). rw (e, z) (run_weighs (with_placed p s) ss ∙ placed_weighs p s))
-        (λ (z : list_any (is_at s Parked) p.unfinished ≡ false). rw (e, z) refl)
-        (cases_Bool (list_any (is_at s Parked) p.unfinished)))
+    ⊎_elim
+    (λ (z : list_any (is_at s Parked) p.unfinished ≡ true). rw (e, z) (run_weighs (with_placed p s) ss ∙ placed_weighs p s))
+    (λ (z : list_any (is_at s Parked) p.unfinished ≡ false). rw (e, z) refl)
+    (cases_Bool (list_any (is_at s Parked) p.unfinished)))
     (cases_Bool (is_among p.placed s))
   where
     placed_weighs : (p : Placing) (s : ℕ) → sum_by weight (with_placed p s).unfinished ≡ sum_by weight p.unfinished
@@ -56,9 +55,9 @@ pub falls_respond : (d : DeviceState) (s : ℕ) → is_handled d s ≡ true → 
 unfolding after_respond
 falls_respond d s h =
     let a : sum_by weight (with_parked d s) + 1 ≡ sum_by weight d.unfinished =
-      sum-with_first_less (is_at s Handled) (in_state Parked) weight 1 d.unfinished (λ v k. sym (weighs s Handled v k)) h in
+    sum-with_first_less (is_at s Handled) (in_state Parked) weight 1 d.unfinished (λ v k. sym (weighs s Handled v k)) h in
     let b : sum_by weight (placing d s).unfinished ≡ sum_by weight (with_parked d s) =
-      placing_weighs d.settings.flags.ooo (record { placed = d.placed; unfinished = with_parked d s }) s _ in
+    placing_weighs d.settings.flags.ooo (record { placed = d.placed; unfinished = with_parked d s }) s _ in
     rw h (omega (arith, a, b))
 
 -- ==== publish
@@ -103,7 +102,7 @@ entering_falls d (w ∷ ws) e h =
     let f : (fits_ring d w.command ≡ true) × (fits_blocks d w.command ≡ true) = and_parts _ _ h in
     let i : Item = record { len = entry_length_in d w.command; laid = Cmd w.serial w.command } in
     let l : length (with_item d.ring i).laid ≡ length d.ring.laid + length (pads (pad d.ring i.len)) + 1 =
-      length-append (d.ring.laid ++ pads (pad d.ring i.len)) (i ∷ []) ∙ ap (λ k. k + 1) (length-append d.ring.laid (pads (pad d.ring i.len))) in
+    length-append (d.ring.laid ++ pads (pad d.ring i.len)) (i ∷ []) ∙ ap (λ k. k + 1) (length-append d.ring.laid (pads (pad d.ring i.len))) in
     let s : sum_by weight (d.unfinished ++ waiting d w.serial w.command ∷ []) ≡ sum_by weight d.unfinished + 2 = sum_by_push weight d.unfinished (waiting d w.serial w.command) in
     let n : length d.delayed ≡ suc (length ws) = ap length e in
     rw (e, f.0, f.1) (omega (arith, l, s, n, length_pads (pad d.ring i.len)))

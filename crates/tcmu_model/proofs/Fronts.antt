@@ -1,10 +1,8 @@
 -- The longest front with so many commands.
-use Rattle.std.proofs.Common.{◌≡◌, ℕ, ◌+◌, ◌-◌, ◌≤◌, ◌<◌, Bool, true, false, cond, eqb, List, [], ◌∷◌, length, take, refl, sym, ap, ◌∙◌, arith, ⊎_elim, suc, zero, add-one, subst}
-use Rattle.std.specs.List.{sum_by, count_by}
+use Rattle.std.proofs.Common.{◌≡◌, ℕ, ◌+◌, ◌-◌, ◌≤◌, true, false, cond, eqb, List, [], ◌∷◌, length, take, ap, arith, ⊎_elim, suc, zero, add-one, subst}
 use Rattle.std.proofs.lemmas.List.Sums.{sum_by-cons, sum_by-take-le}
 use Rattle.std.proofs.lemmas.List.{take-take}
 use Rattle.std.proofs.lemmas.Bool.{cases_Bool, eqb-true, eqb-false}
-
 use Rattle.tcmu_model.specs.RingState.{Item, is_command, commands_in, front_with}
 
 commands_cons : (m : ℕ) (x : Item) (xs : List Item) → commands_in (take (m + 1) (x ∷ xs)) ≡ cond (is_command x) 1 0 + commands_in (take m xs)
@@ -16,22 +14,22 @@ front_holds n [] = omega arith
 front_holds n (x ∷ xs) =
     ⊎_elim
     (λ (e : is_command x ≡ true).
-        ⊎_elim
-        (λ (z : eqb n 0 ≡ true). rw (e, z) (omega arith))
-        (λ (z : eqb n 0 ≡ false).
-            let t : commands_in (take (front_with (n - 1) xs + 1) (x ∷ xs)) ≡ cond (is_command x) 1 0 + commands_in (take (front_with (n - 1) xs) xs) = commands_cons (front_with (n - 1) xs) x xs in
-            let one : ◌≡◌ {A = ℕ} (cond (is_command x) 1 0) 1 = ap (λ b. cond b 1 0) e in
-            let ih : commands_in (take (front_with (n - 1) xs) xs) ≤ n - 1 = front_holds (n - 1) xs in
-            let pos : n ≡ 0 → ⊥ = eqb-false n 0 z in
-            let r : commands_in (take (front_with (n - 1) xs + 1) (x ∷ xs)) ≤ n = omega (arith, t, one, ih, pos) in
-            rw (e, z) r)
-        (cases_Bool (eqb n 0)))
+    ⊎_elim
+    (λ (z : eqb n 0 ≡ true). rw (e, z) (omega arith))
+    (λ (z : eqb n 0 ≡ false).
+    let t : commands_in (take (front_with (n - 1) xs + 1) (x ∷ xs)) ≡ cond (is_command x) 1 0 + commands_in (take (front_with (n - 1) xs) xs) = commands_cons (front_with (n - 1) xs) x xs in
+    let one : ◌≡◌ {A = ℕ} (cond (is_command x) 1 0) 1 = ap (λ b. cond b 1 0) e in
+    let ih : commands_in (take (front_with (n - 1) xs) xs) ≤ n - 1 = front_holds (n - 1) xs in
+    let pos : n ≡ 0 → ⊥ = eqb-false n 0 z in
+    let r : commands_in (take (front_with (n - 1) xs + 1) (x ∷ xs)) ≤ n = omega (arith, t, one, ih, pos) in
+    rw (e, z) r)
+    (cases_Bool (eqb n 0)))
     (λ (e : is_command x ≡ false).
-        let t : commands_in (take (front_with n xs + 1) (x ∷ xs)) ≡ cond (is_command x) 1 0 + commands_in (take (front_with n xs) xs) = commands_cons (front_with n xs) x xs in
-        let one : ◌≡◌ {A = ℕ} (cond (is_command x) 1 0) 0 = ap (λ b. cond b 1 0) e in
-        let ih : commands_in (take (front_with n xs) xs) ≤ n = front_holds n xs in
-        let r : commands_in (take (front_with n xs + 1) (x ∷ xs)) ≤ n = omega (arith, t, one, ih) in
-        rw e r)
+    let t : commands_in (take (front_with n xs + 1) (x ∷ xs)) ≡ cond (is_command x) 1 0 + commands_in (take (front_with n xs) xs) = commands_cons (front_with n xs) x xs in
+    let one : ◌≡◌ {A = ℕ} (cond (is_command x) 1 0) 0 = ap (λ b. cond b 1 0) e in
+    let ih : commands_in (take (front_with n xs) xs) ≤ n = front_holds n xs in
+    let r : commands_in (take (front_with n xs + 1) (x ∷ xs)) ≤ n = omega (arith, t, one, ih) in
+    rw e r)
     (cases_Bool (is_command x))
 
 -- every front that holds no more is no longer
@@ -43,17 +41,17 @@ front_longest n (suc k) (x ∷ xs) l h =
     let m : k ≤ length xs = omega (arith, l) in
     ⊎_elim
     (λ (e : is_command x ≡ true).
-        let one : ◌≡◌ {A = ℕ} (cond (is_command x) 1 0) 1 = ap (λ b. cond b 1 0) e in
-        ⊎_elim
-        (λ (z : eqb n 0 ≡ true). absurd (omega (arith, t, one, h, eqb-true n 0 z)))
-        (λ (z : eqb n 0 ≡ false).
-            let ih : k ≤ front_with (n - 1) xs = front_longest (n - 1) k xs m (omega (arith, t, one, h)) in
-            rw (e, z) (omega (arith, ih)))
-        (cases_Bool (eqb n 0)))
+    let one : ◌≡◌ {A = ℕ} (cond (is_command x) 1 0) 1 = ap (λ b. cond b 1 0) e in
+    ⊎_elim
+    (λ (z : eqb n 0 ≡ true). absurd (omega (arith, t, one, h, eqb-true n 0 z)))
+    (λ (z : eqb n 0 ≡ false).
+    let ih : k ≤ front_with (n - 1) xs = front_longest (n - 1) k xs m (omega (arith, t, one, h)) in
+    rw (e, z) (omega (arith, ih)))
+    (cases_Bool (eqb n 0)))
     (λ (e : is_command x ≡ false).
-        let one : ◌≡◌ {A = ℕ} (cond (is_command x) 1 0) 0 = ap (λ b. cond b 1 0) e in
-        let ih : k ≤ front_with n xs = front_longest n k xs m (omega (arith, t, one, h)) in
-        rw e (omega (arith, ih)))
+    let one : ◌≡◌ {A = ℕ} (cond (is_command x) 1 0) 0 = ap (λ b. cond b 1 0) e in
+    let ih : k ≤ front_with n xs = front_longest n k xs m (omega (arith, t, one, h)) in
+    rw e (omega (arith, ih)))
     (cases_Bool (is_command x))
 
 -- a longer front holds at least as many commands
@@ -68,9 +66,9 @@ front_short n [] = omega arith
 front_short n (x ∷ xs) =
     ⊎_elim
     (λ (e : is_command x ≡ true).
-        ⊎_elim
-        (λ (z : eqb n 0 ≡ true). rw (e, z) (omega arith))
-        (λ (z : eqb n 0 ≡ false). rw (e, z) (omega (arith, front_short (n - 1) xs)))
-        (cases_Bool (eqb n 0)))
+    ⊎_elim
+    (λ (z : eqb n 0 ≡ true). rw (e, z) (omega arith))
+    (λ (z : eqb n 0 ≡ false). rw (e, z) (omega (arith, front_short (n - 1) xs)))
+    (cases_Bool (eqb n 0)))
     (λ (e : is_command x ≡ false). rw e (omega (arith, front_short n xs)))
     (cases_Bool (is_command x))

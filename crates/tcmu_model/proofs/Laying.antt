@@ -1,14 +1,13 @@
 -- An item is laid in a sound ring.
-use Rattle.std.proofs.Common.{◌≡◌, ◌≢◌, ℕ, ◌+◌, ◌-◌, ◌*◌, ◌/◌, ◌%◌, ◌<◌, ◌≤◌, ◌⊎◌, inl, inr, Bool, true, false, not, cond, List, [], ◌∷◌, ◌++◌, length, take, drop, refl, sym, ap, ◌∙◌, arith, suc, zero, ⊎_elim, subst, eqb, ltb, leb, if◌then◌else◌, length-append, append_assoc, append-nil}
-use Rattle.std.specs.List.{sum_by, count_by, flat_map, list_any}
-use Rattle.std.proofs.lemmas.Bool.{cases_Bool, eqb-true, eqb-false, ltb-true, ltb-false, leb-true, le-leb, ne_eqb}
+use Rattle.std.proofs.Common.{◌≡◌, ℕ, ◌+◌, ◌-◌, ◌*◌, ◌/◌, ◌%◌, ◌<◌, ◌≤◌, inl, inr, true, false, List, [], ◌∷◌, ◌++◌, length, take, drop, refl, sym, ap, ◌∙◌, arith, ⊎_elim, subst, eqb, ltb, leb, length-append, append-nil}
+use Rattle.std.proofs.lemmas.Bool.{cases_Bool, eqb-true, ltb-true, ltb-false, leb-true, le-leb, ne_eqb}
 use Rattle.std.proofs.lemmas.List.{take-append-le, drop-append-le}
 use Rattle.std.proofs.lemmas.List.Sums.{sum_by-cons, sum_by-append}
 use Rattle.std.proofs.lemmas.Grind.{flat_map-append}
 use Rattle.std.proofs.Math.Nat.{add-mul-mod_self_left}
 use Rattle.tcmu_types.specs.Data.{CommandData, SettingsData}
 use Rattle.tcmu_types.specs.Rules.{IsSettings}
-use Rattle.tcmu_model.specs.RingState.{RingState, Item, Laid, Pad, Cmd, Tmr, lengths, head, used, free, pad, need, fits, pads, with_item, is_pad, is_command, commands_in, serial_in, serials_in}
+use Rattle.tcmu_model.specs.RingState.{RingState, Item, Pad, Cmd, lengths, head, used, free, pad, need, fits, pads, with_item, is_pad, serial_in, serials_in}
 use Rattle.tcmu_model.specs.Sound.{Along, IsItem, HasLength, EndsInAnItem, RingSound, IsLaid}
 
 -- ==== parts of the list
@@ -110,33 +109,35 @@ room_for s r n g h small =
     let hs : lengths r.laid % s.ring ≡ head r = ap (λ k. lengths r.laid % k) (sym sz) in
     ⊎_elim
     (λ (e : ltb (r.size - head r) n ≡ true).
-        let k : r.size - head r < n = ltb-true _ _ e in
-        let p : pad r n ≡ r.size - head r = rw e refl in
-        let some : eqb (pad r n) 0 ≡ false = rw p (not_none (r.size - head r) (omega (arith, hd))) in
-        let one : pads (pad r n) ≡ record { len = pad r n; laid = Pad } ∷ [] = rw some refl in
-        let full : lengths r.laid + pad r n ≡ 0 + r.size * (lengths r.laid / r.size + 1) = omega (arith, p) in
-        let turn : (lengths r.laid + pad r n) % r.size ≡ 0 = ap (λ t. t % r.size) full ∙ (add-mul-mod_self_left 0 r.size (lengths r.laid / r.size + 1) ∙ zero_mod r.size (omega (arith, hd))) in
-        let turn' : (lengths r.laid + lengths (pads (pad r n))) % s.ring ≡ 0 = ap (λ k. (lengths r.laid + k) % s.ring) (lengths-pads (pad r n)) ∙ (ap (λ k. (lengths r.laid + pad r n) % k) (sym sz) ∙ turn) in
-        record {
-          padded = subst (λ (is : List Item). Along (IsItem s) (lengths r.laid) is) (sym one)
-            (record { some = omega (arith, p, eights.0); even = ap (λ k. k % 8) p ∙ eights.1; whole = omega (arith, hs, p, sz, hd); kind = omega (arith, hs, p, sz, hd) }, tt);
-          whole = omega (arith, turn', small, sz);
-        })
+    let k : r.size - head r < n = ltb-true _ _ e in
+    let p : pad r n ≡ r.size - head r = rw e refl in
+    let some : eqb (pad r n) 0 ≡ false = rw p (not_none (r.size - head r) (omega (arith, hd))) in
+    let one : pads (pad r n) ≡ record { len = pad r n; laid = Pad } ∷ [] = rw some refl in
+    let full : lengths r.laid + pad r n ≡ 0 + r.size * (lengths r.laid / r.size + 1) = omega (arith, p) in
+    let turn : (lengths r.laid + pad r n) % r.size ≡ 0 = ap (λ t. t % r.size) full ∙ (add-mul-mod_self_left 0 r.size (lengths r.laid / r.size + 1) ∙ zero_mod r.size (omega (arith, hd))) in
+    let turn' : (lengths r.laid + lengths (pads (pad r n))) % s.ring ≡ 0 = ap (λ k. (lengths r.laid + k) % s.ring) (lengths-pads (pad r n)) ∙ (ap (λ k. (lengths r.laid + pad r n) % k) (sym sz) ∙ turn) in
+    record {
+      padded = subst (λ (is : List Item). Along (IsItem s) (lengths r.laid) is) (sym one)
+          (record { some = omega (arith, p, eights.0); even = ap (λ k. k % 8) p ∙ eights.1; whole = omega (arith, hs, p, sz, hd); kind = omega (arith, hs, p, sz, hd) }, tt);
+      whole = omega (arith, turn', small, sz);
+    })
     (λ (e : ltb (r.size - head r) n ≡ false).
-        let k : n ≤ r.size - head r = ltb-false _ _ e in
-        let p : ◌≡◌ {A = ℕ} (pad r n) 0 = rw e refl in
-        let none : pads (pad r n) ≡ [] = ap pads p in
-        let l : lengths r.laid + lengths (pads (pad r n)) ≡ lengths r.laid = omega (arith, lengths-pads (pad r n), p) in
-        record {
-          padded = subst (λ (is : List Item). Along (IsItem s) (lengths r.laid) is) (sym none) tt;
-          whole = let w : (lengths r.laid + lengths (pads (pad r n))) % s.ring ≡ head r = ap (λ t. t % s.ring) l ∙ hs in omega (arith, w, k, sz, hd);
-        })
+    let k : n ≤ r.size - head r = ltb-false _ _ e in
+    let p : ◌≡◌ {A = ℕ} (pad r n) 0 = rw e refl in
+    let none : pads (pad r n) ≡ [] = ap pads p in
+    let l : lengths r.laid + lengths (pads (pad r n)) ≡ lengths r.laid = omega (arith, lengths-pads (pad r n), p) in
+    record {
+      padded = subst (λ (is : List Item). Along (IsItem s) (lengths r.laid) is) (sym none) tt;
+      whole = let w : (lengths r.laid + lengths (pads (pad r n))) % s.ring ≡ head r = ap (λ t. t % s.ring) l ∙ hs in omega (arith, w, k, sz, hd);
+    })
     (cases_Bool (ltb (r.size - head r) n))
   where
     positive : (k : ℕ) → 0 < k → k ≡ 0 → ⊥
     positive k l q = omega arith
+
     not_none : (k : ℕ) → 0 < k → eqb k 0 ≡ false
     not_none k l = ne_eqb k 0 (λ q. positive k l q)
+
     zero_mod : (k : ℕ) → 0 < k → 0 % k ≡ 0
     zero_mod k l = omega arith
 
@@ -156,10 +157,10 @@ ring_with s r i g h f some even kind other =
     let cl : r.cleared ≤ length r.laid = omega (arith, h.cleared, h.published, h.dispatched) in
     let one : lengths (i ∷ []) ≡ n = let a : lengths (i ∷ []) ≡ n + 0 = sum_by-cons (λ (x : Item). x.len) i [] in omega (arith, a) in
     let u : used (with_item r i) ≡ used r + pad r n + n =
-      ap lengths (drop_laid r i r.cleared cl) ∙ (sum_by-append (λ (x : Item). x.len) (drop r.cleared r.laid ++ p) (i ∷ []) ∙ (let a : lengths (drop r.cleared r.laid ++ p) ≡ used r + lengths p = sum_by-append (λ (x : Item). x.len) (drop r.cleared r.laid) p in omega (arith, a, lengths-pads (pad r n), one))) in
+    ap lengths (drop_laid r i r.cleared cl) ∙ (sum_by-append (λ (x : Item). x.len) (drop r.cleared r.laid ++ p) (i ∷ []) ∙ (let a : lengths (drop r.cleared r.laid ++ p) ≡ used r + lengths p = sum_by-append (λ (x : Item). x.len) (drop r.cleared r.laid) p in omega (arith, a, lengths-pads (pad r n), one))) in
     let la : lengths (r.laid ++ p) ≡ lengths r.laid + lengths p = sum_by-append (λ (x : Item). x.len) r.laid p in
     let last : Along (IsItem s) (0 + lengths (r.laid ++ p)) (i ∷ []) =
-      (record { some = some; even = even; whole = subst (λ (k : ℕ). k % s.ring + n ≤ s.ring) (let e : lengths r.laid + lengths p ≡ 0 + lengths (r.laid ++ p) = omega (arith, la) in e) room.whole; kind = kind (0 + lengths (r.laid ++ p)) }, tt) in
+    (record { some = some; even = even; whole = subst (λ (k : ℕ). k % s.ring + n ≤ s.ring) (let e : lengths r.laid + lengths p ≡ 0 + lengths (r.laid ++ p) = omega (arith, la) in e) room.whole; kind = kind (0 + lengths (r.laid ++ p)) }, tt) in
     record {
       size = h.size;
       cleared = h.cleared;

@@ -1,7 +1,7 @@
 -- Where the first item that passes a test stands, and that the ring's next item is there.
-use Rattle.std.proofs.Common.{◌≡◌, ℕ, ◌+◌, ◌-◌, ◌<◌, ◌≤◌, Bool, true, false, not, cond, List, [], ◌∷◌, length, take, drop, slice_get, Option, Some, None, refl, sym, ap, ◌∙◌, arith, suc, zero, ⊎_elim, subst, eqb, ltb, if◌then◌else◌, ◌&&◌}
+use Rattle.std.proofs.Common.{◌≡◌, ℕ, ◌-◌, ◌<◌, ◌≤◌, Bool, true, false, List, [], ◌∷◌, length, drop, slice_get, Some, None, refl, arith, suc, zero, ⊎_elim, subst, eqb}
 use Rattle.std.specs.List.{list_any, prefix_len}
-use Rattle.std.proofs.lemmas.Bool.{cases_Bool, false≢true, or_right, and_from, eq-eqb}
+use Rattle.std.proofs.lemmas.Bool.{cases_Bool, or_right, and_from, eq-eqb}
 use Rattle.std.proofs.lemmas.List.{length-drop}
 use Rattle.tcmu_model.specs.declared.state.CommandState.{CommandState}
 use Rattle.tcmu_model.specs.States.{same_state}
@@ -32,14 +32,14 @@ first_in_state t [] u h = absurd (cc)
 first_in_state t (v ∷ us) u h =
     ⊎_elim
     (λ (e : has_state t v ≡ true).
-        let k : Some v ≡ Some u = rw e at h in
-        let l : v ≡ u = cc in
-        let m : is_at v.serial t v ≡ true = and_from (eqb v.serial v.serial) (same_state v.state t) (eq-eqb v.serial v.serial refl) e in
-        let n : is_at u.serial t v ≡ true = subst (λ (w : Unfinished). is_at w.serial t v ≡ true) l m in
-        rw n refl)
+    let k : Some v ≡ Some u = rw e at h in
+    let l : v ≡ u = cc in
+    let m : is_at v.serial t v ≡ true = and_from (eqb v.serial v.serial) (same_state v.state t) (eq-eqb v.serial v.serial refl) e in
+    let n : is_at u.serial t v ≡ true = subst (λ (w : Unfinished). is_at w.serial t v ≡ true) l m in
+    rw n refl)
     (λ (e : has_state t v ≡ false).
-        let k : first_of (has_state t) us ≡ Some u = rw e at h in
-        or_right (is_at u.serial t v) (list_any (is_at u.serial t) us) (first_in_state t us u k))
+    let k : first_of (has_state t) us ≡ Some u = rw e at h in
+    or_right (is_at u.serial t v) (list_any (is_at u.serial t) us) (first_in_state t us u k))
     (cases_Bool (has_state t v))
 
 pub ends-drop : (n : ℕ) (is : List Item) → EndsInAnItem is → EndsInAnItem (drop n is)

@@ -1,12 +1,12 @@
 -- Numbers that rise, and numbers that stand in a list.
-use Rattle.std.proofs.Common.{◌≡◌, ℕ, ◌+◌, ◌<◌, ◌≤◌, Bool, true, false, not, cond, List, [], ◌∷◌, ◌++◌, length, take, drop, map, suc, zero, ⊎_elim, refl, sym, ◌∙◌, ap, ◌||◌, ◌&&◌, eqb, arith, subst, append_assoc}
-use Rattle.std.specs.List.{list_any, filter, count_by, sum_by}
-use Rattle.std.proofs.lemmas.Bool.{cases_Bool, false≢true, true≢false, or_parts, or_left, or_right, ne_eqb, eq-eqb, eqb-true, eqb-false}
+use Rattle.std.proofs.Common.{◌≡◌, ℕ, ◌+◌, ◌<◌, ◌≤◌, Bool, true, false, cond, List, [], ◌∷◌, ◌++◌, length, take, suc, zero, ⊎_elim, refl, sym, ◌∙◌, ap, ◌||◌, ◌&&◌, eqb, arith, subst, append_assoc}
+use Rattle.std.specs.List.{filter, count_by}
+use Rattle.std.proofs.lemmas.Bool.{cases_Bool, false≢true, or_parts, or_left, or_right, ne_eqb, eq-eqb, eqb-true, eqb-false}
 use Rattle.std.proofs.lemmas.List.Sums.{sum_by-cons}
 use Rattle.std.proofs.lemmas.List.Folds.{list_any-append}
 use Rattle.tcmu_model.specs.Events.{is_among}
 use Rattle.tcmu_model.specs.Sound.{Every, Rise, Differ}
-use Rattle.tcmu_model.proofs.Everies.{every-weaker, every-filter}
+use Rattle.tcmu_model.proofs.Everies.{every-weaker}
 
 pub rise_order : (low : ℕ) (xs : List ℕ) (high : ℕ) → Rise low xs high → low ≤ high
 rise_order low [] high h = h
@@ -95,16 +95,16 @@ among-filter p [] s = go (p s)
 among-filter p (x ∷ xs) s =
     ⊎_elim
     (λ (z : eqb x s ≡ true).
-        let same : x ≡ s = eqb-true x s z in
-        ⊎_elim
-        (λ (e : p x ≡ true). let f : p s ≡ true = subst (λ (y : ℕ). p y ≡ true) same e in rw (e, f, z) refl)
-        (λ (e : p x ≡ false). let f : p s ≡ false = subst (λ (y : ℕ). p y ≡ false) same e in rw (e, f) (among-filter p xs s ∙ ap (λ b. b && is_among xs s) f))
-        (cases_Bool (p x)))
+    let same : x ≡ s = eqb-true x s z in
+    ⊎_elim
+    (λ (e : p x ≡ true). let f : p s ≡ true = subst (λ (y : ℕ). p y ≡ true) same e in rw (e, f, z) refl)
+    (λ (e : p x ≡ false). let f : p s ≡ false = subst (λ (y : ℕ). p y ≡ false) same e in rw (e, f) (among-filter p xs s ∙ ap (λ b. b && is_among xs s) f))
+    (cases_Bool (p x)))
     (λ (z : eqb x s ≡ false).
-        ⊎_elim
-        (λ (e : p x ≡ true). rw (e, z) (among-filter p xs s))
-        (λ (e : p x ≡ false). rw (e, z) (among-filter p xs s))
-        (cases_Bool (p x)))
+    ⊎_elim
+    (λ (e : p x ≡ true). rw (e, z) (among-filter p xs s))
+    (λ (e : p x ≡ false). rw (e, z) (among-filter p xs s))
+    (cases_Bool (p x)))
     (cases_Bool (eqb x s))
 
 pub every-among : (xs : List ℕ) → Every (λ s. is_among xs s ≡ true) xs
@@ -113,6 +113,7 @@ every-among xs = behind [] xs
     here : (front : List ℕ) (k : ℕ) (back : List ℕ) → is_among (front ++ k ∷ back) k ≡ true
     here [] k back = or_left (eqb k k) (is_among back k) (eq-eqb k k refl)
     here (x ∷ front) k back = or_right (eqb x k) (is_among (front ++ k ∷ back) k) (here front k back)
+
     behind : (front back : List ℕ) → Every (λ k. is_among (front ++ back) k ≡ true) back
     behind front [] = tt
     behind front (k ∷ back) =
@@ -157,26 +158,27 @@ count_differ low xs high (s ∷ ss) r d h = omega (arith, split xs, one low xs r
         weigh y =
             ⊎_elim
             (λ (z : eqb s y ≡ true).
-                let same : s ≡ y = eqb-true s y z in
-                let back : eqb y s ≡ true = eq-eqb y s (sym same) in
-                let no : is_among ss y ≡ false = subst (λ (k : ℕ). is_among ss k ≡ false) same d.0 in
-                rw (z, back, no) refl)
+            let same : s ≡ y = eqb-true s y z in
+            let back : eqb y s ≡ true = eq-eqb y s (sym same) in
+            let no : is_among ss y ≡ false = subst (λ (k : ℕ). is_among ss k ≡ false) same d.0 in
+            rw (z, back, no) refl)
             (λ (z : eqb s y ≡ false).
-                let back : eqb y s ≡ false = ne_eqb y s (λ q. eqb-false s y z (sym q)) in
-                rw (z, back) (omega arith))
+            let back : eqb y s ≡ false = ne_eqb y s (λ q. eqb-false s y z (sym q)) in
+            rw (z, back) (omega arith))
             (cases_Bool (eqb s y))
+
     one : (low : ℕ) (ys : List ℕ) → Rise low ys high → is_among ys s ≡ true → ◌≡◌ {A = ℕ} (count_by (λ x. eqb x s) ys) 1
     one low [] r a = absurd (false≢true a)
     one low (y ∷ ys) r a =
         let b : count_by (λ x. eqb x s) (y ∷ ys) ≡ cond (eqb y s) 1 0 + count_by (λ x. eqb x s) ys = sum_by-cons (λ x. cond (eqb x s) 1 0) y ys in
         ⊎_elim
         (λ (z : eqb y s ≡ true).
-            let same : y ≡ s = eqb-true y s z in
-            let w : cond {A = ℕ} (eqb y s) 1 0 ≡ 1 = ap (λ t. cond t 1 0) z in
-            omega (arith, b, w, zero_of y ys (omega (arith, same)) r.1))
+        let same : y ≡ s = eqb-true y s z in
+        let w : cond {A = ℕ} (eqb y s) 1 0 ≡ 1 = ap (λ t. cond t 1 0) z in
+        omega (arith, b, w, zero_of y ys (omega (arith, same)) r.1))
         (λ (z : eqb y s ≡ false).
-            let w : cond {A = ℕ} (eqb y s) 1 0 ≡ 0 = ap (λ t. cond t 1 0) z in
-            omega (arith, b, w, one y ys r.1 (rw z at a)))
+        let w : cond {A = ℕ} (eqb y s) 1 0 ≡ 0 = ap (λ t. cond t 1 0) z in
+        omega (arith, b, w, one y ys r.1 (rw z at a)))
         (cases_Bool (eqb y s))
       where
         zero_of : (low : ℕ) (ys : List ℕ) → s ≤ low → Rise low ys high → ◌≡◌ {A = ℕ} (count_by (λ x. eqb x s) ys) 0

@@ -1,17 +1,15 @@
 -- Rows that keep their serials, commands and expiry, while states and replies change.
-use Rattle.std.proofs.Common.{◌≡◌, ℕ, ◌+◌, ◌<◌, ◌≤◌, Bool, true, false, not, cond, List, [], ◌∷◌, ◌++◌, length, map, refl, sym, ap, ◌∙◌, arith, ⊎_elim, subst, ◌||◌, ◌&&◌, eqb, if◌then◌else◌, Some, None, Option, suc, zero}
-use Rattle.std.specs.List.{list_any, filter, count_by, sum_by}
-use Rattle.std.specs.Option.{is_some}
-use Rattle.std.proofs.lemmas.Bool.{cases_Bool, true≢false, false≢true, or_parts, and_parts, eqb-true, eqb-false, eq-eqb, ne_eqb}
+use Rattle.std.proofs.Common.{◌≡◌, ℕ, Bool, true, false, not, cond, List, [], ◌∷◌, map, refl, sym, ap, ◌∙◌, arith, ⊎_elim, subst, ◌||◌, ◌&&◌, eqb}
+use Rattle.std.specs.List.{list_any, count_by, sum_by}
+use Rattle.std.proofs.lemmas.Bool.{cases_Bool, false≢true}
 use Rattle.std.proofs.lemmas.List.Sums.{sum_by-cons}
-use Rattle.tcmu_types.specs.Data.{CommandData, ReplyData}
+use Rattle.tcmu_types.specs.Data.{CommandData}
 use Rattle.tcmu_model.specs.declared.state.CommandState.{CommandState}
 use Rattle.tcmu_model.specs.declared.state.CommandState.TheVariants.{Waiting, Out, Handled, Parked, Placed, Lost}
-use Rattle.tcmu_model.specs.Lists.{first_of, with_first}
-use Rattle.tcmu_model.specs.States.{same_state}
-use Rattle.tcmu_model.specs.Device.{Unfinished, DeviceState, has_state, has_serial, is_at}
-use Rattle.tcmu_model.specs.Events.{is_open, is_among, blocks_in, held_blocks}
-use Rattle.tcmu_model.specs.Sound.{Every, Rise, IsLaid, finished, is_open_at, times_open, state_fits, parked_rightly, SerialsSound, RoomSound}
+use Rattle.tcmu_model.specs.Lists.{with_first}
+use Rattle.tcmu_model.specs.Device.{Unfinished, DeviceState, has_state}
+use Rattle.tcmu_model.specs.Events.{is_open, blocks_in, held_blocks}
+use Rattle.tcmu_model.specs.Sound.{Every, IsLaid, is_open_at, state_fits, parked_rightly, SerialsSound, RoomSound}
 use Rattle.tcmu_model.proofs.Turning.{turning}
 
 pub record Same (u v : Unfinished) : Type 0 where
@@ -78,10 +76,10 @@ serials_same d vs s h =
       rise = h.rise;
       order = rows-serials d.unfinished vs s ∙ h.order;
       laid = rows-every (λ u. IsLaid d.ring.laid u.serial u.command) d.unfinished vs
-        (λ u v k l. subst (λ (n : ℕ). IsLaid d.ring.laid n v.command) (sym k.serial) (subst (λ (c : CommandData). IsLaid d.ring.laid u.serial c) (sym k.command) l)) s h.laid;
+          (λ u v k l. subst (λ (n : ℕ). IsLaid d.ring.laid n v.command) (sym k.serial) (subst (λ (c : CommandData). IsLaid d.ring.laid u.serial c) (sym k.command) l)) s h.laid;
       accounted = λ k.
-        let e : count_by (is_open_at k) vs ≡ count_by (is_open_at k) d.unfinished = rows-sum (λ u. cond {A = ℕ} (is_open_at k u) 1 0) d.unfinished vs (open_same k) s in
-        omega (arith, e, h.accounted k);
+          let e : count_by (is_open_at k) vs ≡ count_by (is_open_at k) d.unfinished = rows-sum (λ u. cond {A = ℕ} (is_open_at k u) 1 0) d.unfinished vs (open_same k) s in
+          omega (arith, e, h.accounted k);
     }
 
 pub room_same : (d : DeviceState) (vs : List Unfinished) → SameRows d.unfinished vs → RoomSound d → RoomSound (record d { unfinished = vs })

@@ -1,6 +1,5 @@
 -- Every step, and so every run, keeps a device sound; and a run goes on by one step.
-use Rattle.std.proofs.Common.{◌≡◌, ℕ, ◌+◌, ◌≤◌, Bool, true, false, List, [], ◌∷◌, ◌++◌, length, refl, sym, subst, ap}
-use Rattle.tcmu_types.specs.Data.{CommandData, ReplyData}
+use Rattle.std.proofs.Common.{◌≡◌, ℕ, true, false, List, [], ◌∷◌, ◌++◌, refl, sym, subst}
 use Rattle.tcmu_types.specs.Events.{EventData, AnswerData, EntryData}
 use Rattle.tcmu_types.specs.Events as ev
 use Rattle.tcmu_types.specs.declared.answer.Handle.{Handle}
@@ -8,10 +7,10 @@ use Rattle.tcmu_types.specs.declared.answer.Handle.TheVariants as handle
 use Rattle.tcmu_types.specs.declared.answer.Submit.{Submit}
 use Rattle.tcmu_types.specs.declared.answer.Enter.{Enter}
 use Rattle.tcmu_types.specs.declared.answer.Tmr.{Tmr}
-use Rattle.tcmu_model.specs.Device.{Unfinished, DeviceState, Device}
-use Rattle.tcmu_model.specs.Events.{submit_answer, after_submit, enter_answer, after_enter, after_dispatch, after_handle, after_respond, after_publish, after_clean, after_tick, after_block, after_reset, after_restart, tmr_answer, after_tmr}
+use Rattle.tcmu_model.specs.Device.{DeviceState, Device}
+use Rattle.tcmu_model.specs.Events.{after_submit, after_enter, after_dispatch, after_respond, after_publish, after_clean, after_tick, after_block, after_reset, after_restart, after_tmr}
 use Rattle.tcmu_model.specs.Steps.{HandlerRelation, moved, Makes, Handles, Step, Run}
-use Rattle.tcmu_model.specs.Sound.{IsSound, ReplyFits}
+use Rattle.tcmu_model.specs.Sound.{IsSound}
 use Rattle.tcmu_model.proofs.SoundSubmit.{sound_after_submit, sound_after_enter}
 use Rattle.tcmu_model.proofs.SoundTurning.{sound_after_dispatch, sound_after_handle}
 use Rattle.tcmu_model.proofs.SoundRespond.{sound_after_respond}

@@ -1,25 +1,24 @@
 -- A cleaning leaves the device sound: the answered commands are finished, and logged but where they expired.
-use Rattle.std.proofs.Common.{◌≡◌, ℕ, ◌+◌, ◌-◌, ◌<◌, ◌≤◌, Bool, true, false, not, cond, List, [], ◌∷◌, ◌++◌, length, take, drop, map, refl, sym, ap, ◌∙◌, arith, ⊎_elim, subst, ◌||◌, ◌&&◌, eqb, if◌then◌else◌, Some, None, Option, suc, zero, append-nil}
+use Rattle.std.proofs.Common.{◌≡◌, ℕ, ◌+◌, ◌-◌, ◌<◌, ◌≤◌, Bool, true, false, not, cond, List, [], ◌∷◌, ◌++◌, take, drop, map, refl, sym, ap, ◌∙◌, arith, ⊎_elim, subst, ◌||◌, ◌&&◌, eqb, Some, None, Option, append-nil}
 use Rattle.std.specs.List.{list_any, filter, count_by, sum_by}
 use Rattle.std.specs.Option.{is_some}
 use Rattle.std.specs.Prelude.{IfSome}
-use Rattle.std.proofs.lemmas.Bool.{cases_Bool, true≢false, false≢true, or_parts, or_left, or_right, and_parts, eqb-true, eq-eqb}
+use Rattle.std.proofs.lemmas.Bool.{cases_Bool, true≢false, false≢true, or_left, or_right, eq-eqb}
 use Rattle.std.proofs.lemmas.List.{take-take, drop-drop}
 use Rattle.std.proofs.lemmas.List.Elements.{filter_agree}
 use Rattle.std.proofs.lemmas.List.Sums.{sum_by-cons, sum_by_push, sum_by-take-drop}
-use Rattle.tcmu_types.specs.Data.{CommandData, ReplyData, DoneData}
+use Rattle.tcmu_types.specs.Data.{ReplyData, DoneData}
 use Rattle.tcmu_model.specs.declared.state.CommandState.{CommandState}
 use Rattle.tcmu_model.specs.declared.state.CommandState.TheVariants.{Waiting, Out, Handled, Parked, Placed, Lost}
 use Rattle.tcmu_model.specs.Lists.{first_of, without_first}
 use Rattle.tcmu_model.specs.RingState.{RingState, Item, lengths, used, serials_in, published_commands, cleared_commands}
 use Rattle.tcmu_model.specs.Device.{Unfinished, DeviceState, has_state, is_at}
-use Rattle.tcmu_model.specs.Events.{is_among, is_open, blocks_in, held_blocks, completion, completions, Books, finish, finish_all, answered, books, cleaned_books, after_clean}
-use Rattle.tcmu_model.specs.Sound.{Every, Rise, ReplyFits, IsLaid, finished, dispatched_serials, is_open_at, times_logged, state_fits, is_right, parked_rightly, RingSound, SerialsSound, AnswersSound, RoomSound, IsSound}
-use Rattle.tcmu_model.proofs.Counts.{state_at, serial_at, sum-without_first}
+use Rattle.tcmu_model.specs.Events.{is_among, blocks_in, completion, completions, Books, finish, finish_all, answered, books, cleaned_books, after_clean}
+use Rattle.tcmu_model.specs.Sound.{Every, Rise, ReplyFits, IsLaid, finished, dispatched_serials, is_open_at, times_logged, state_fits, is_right, parked_rightly, AnswersSound, IsSound}
+use Rattle.tcmu_model.proofs.Counts.{serial_at, sum-without_first}
 use Rattle.tcmu_model.proofs.Firsts.{without_first_missing}
-use Rattle.tcmu_model.proofs.Everies.{every-map, every-weaker, every-both, every-filter, every-all, filter_twice, filter_all, map_filter, found}
+use Rattle.tcmu_model.proofs.Everies.{every-weaker, every-filter, every-all, filter_twice, filter_all, map_filter}
 use Rattle.tcmu_model.proofs.Rises.{rise_filter, among-take, among_every}
-use Rattle.tcmu_model.proofs.Places.{any_first}
 use Rattle.tcmu_model.proofs.Turning.{taken_filter}
 use Rattle.tcmu_model.proofs.Basics.{rows_rise, cleared_published}
 
@@ -40,9 +39,9 @@ finish_one : (read_len : Bool) (b : Books) (s : ℕ) (ss : List ℕ) (high : ℕ
 finish_one read_len b s ss high r a =
     finish_taken read_len b s (first_of (is_at s Placed) b.unfinished) refl
     ∙ (taken_filter s Placed 0 b.unfinished high r
-        (every-weaker (λ u. is_among (s ∷ ss) u.serial ≡ true → (u.state ≡ Placed) × (is_some u.reply ≡ true)) (λ u. u.serial ≡ s → u.state ≡ Placed) b.unfinished
-          (λ u k q. (k (or_left (eqb s u.serial) (is_among ss u.serial) (eq-eqb s u.serial (sym q)))).0) a)
-      ∙ filter_agree (λ u. not (eqb s u.serial)) (stays (s ∷ [])) (λ u. one (eqb s u.serial)) b.unfinished)
+    (every-weaker (λ u. is_among (s ∷ ss) u.serial ≡ true → (u.state ≡ Placed) × (is_some u.reply ≡ true)) (λ u. u.serial ≡ s → u.state ≡ Placed) b.unfinished
+    (λ u k q. (k (or_left (eqb s u.serial) (is_among ss u.serial) (eq-eqb s u.serial (sym q)))).0) a)
+    ∙ filter_agree (λ u. not (eqb s u.serial)) (stays (s ∷ [])) (λ u. one (eqb s u.serial)) b.unfinished)
   where
     one : (x : Bool) → not x ≡ not (x || false)
     one true = refl
@@ -54,8 +53,8 @@ left_rise p us high r = subst (λ (xs : List ℕ). Rise 0 xs high) (sym (map_fil
 left_placed : (s : ℕ) (ss : List ℕ) (us : List Unfinished) → ArePlaced (s ∷ ss) us → ArePlaced ss (filter (stays (s ∷ [])) us)
 left_placed s ss us a =
     every-filter (stays (s ∷ [])) (λ u. is_among ss u.serial ≡ true → (u.state ≡ Placed) × (is_some u.reply ≡ true)) us
-      (every-weaker (λ u. is_among (s ∷ ss) u.serial ≡ true → (u.state ≡ Placed) × (is_some u.reply ≡ true)) (λ u. is_among ss u.serial ≡ true → (u.state ≡ Placed) × (is_some u.reply ≡ true)) us
-        (λ u k q. k (or_right (eqb s u.serial) (is_among ss u.serial) q)) a)
+    (every-weaker (λ u. is_among (s ∷ ss) u.serial ≡ true → (u.state ≡ Placed) × (is_some u.reply ≡ true)) (λ u. is_among ss u.serial ≡ true → (u.state ≡ Placed) × (is_some u.reply ≡ true)) us
+    (λ u k q. k (or_right (eqb s u.serial) (is_among ss u.serial) q)) a)
 
 finish_left : (read_len : Bool) (b : Books) (ss : List ℕ) (high : ℕ) → Rise 0 (map (λ u. u.serial) b.unfinished) high → ArePlaced ss b.unfinished → (finish_all read_len b ss).unfinished ≡ filter (stays ss) b.unfinished
 finish_left read_len b [] high r a = sym (filter_all (stays []) b.unfinished (every-all (λ u. stays [] u ≡ true) b.unfinished (λ u. refl)))
@@ -70,6 +69,7 @@ finish_left read_len b (s ∷ ss) high r a =
     out : (x y : Bool) → not (x || false) ≡ false → not (x || y) ≡ false
     out true y h = refl
     out false y h = absurd (true≢false h)
+
     in_ : (x y : Bool) → not (x || false) ≡ true → not (x || y) ≡ not y
     in_ true y h = absurd (false≢true h)
     in_ false y h = refl
@@ -93,9 +93,11 @@ row_tally read_len k log u h =
     never : (b : Bool) → cond {A = ℕ} (b && false) 1 0 ≡ 0
     never true = refl
     never false = refl
+
     always : (b : Bool) → cond {A = ℕ} (b && true) 1 0 ≡ cond b 1 0
     always true = refl
     always false = refl
+
     replied : (o : Option ReplyData) → is_some o ≡ true → times_logged (log ++ (elim o as (λ x. List DoneData) [ None ↦ [] | Some reply ↦ completion read_len u reply ∷ [] ])) k ≡ times_logged log k + cond (eqb u.serial k && true) 1 0
     replied None h = absurd (false≢true h)
     replied (Some reply) h = omega (arith, logged_push k log (completion read_len u reply), always (eqb u.serial k))
@@ -116,10 +118,10 @@ first_replied s ss us (Some u) h a = first us h a
     first (v ∷ us) h a =
         ⊎_elim
         (λ (e : is_at s Placed v ≡ true).
-            let k : Some v ≡ Some u = rw e at h in
-            let q : v ≡ u = cc in
-            let w : is_some v.reply ≡ true = (a.0 (or_left (eqb s v.serial) (is_among ss v.serial) (eq-eqb s v.serial (sym (serial_at s Placed v e))))).1 in
-            subst (λ (x : Unfinished). is_some x.reply ≡ true) q w)
+        let k : Some v ≡ Some u = rw e at h in
+        let q : v ≡ u = cc in
+        let w : is_some v.reply ≡ true = (a.0 (or_left (eqb s v.serial) (is_among ss v.serial) (eq-eqb s v.serial (sym (serial_at s Placed v e))))).1 in
+        subst (λ (x : Unfinished). is_some x.reply ≡ true) q w)
         (λ (e : is_at s Placed v ≡ false). let k : first_of (is_at s Placed) us ≡ Some u = rw e at h in first us k a.1)
         (cases_Bool (is_at s Placed v))
 
@@ -157,11 +159,11 @@ among-all n xs s h =
 pub answered_placed : (d : DeviceState) → AnswersSound d → ArePlaced (answered d) d.unfinished
 answered_placed d h =
     every-weaker (λ u. is_right d u ≡ true) (λ u. is_among (answered d) u.serial ≡ true → (u.state ≡ Placed) × (is_some u.reply ≡ true)) d.unfinished
-      (λ u k q.
-        let p : is_among d.placed u.serial ≡ true = among-all (published_commands d.ring) d.placed u.serial q in
-        let s : is_among (dispatched_serials d.ring) u.serial ≡ true = among_every (λ x. is_among (dispatched_serials d.ring) x ≡ true) d.placed u.serial h.dispatched p in
-        let z : state_fits (is_among (dispatched_serials d.ring) u.serial) true true d.attached u.state (is_some u.reply) ≡ true = rw (p, q) at k in
-        published_placed (is_among (dispatched_serials d.ring) u.serial) d.attached u.state (is_some u.reply) s z) h.states
+    (λ u k q.
+    let p : is_among d.placed u.serial ≡ true = among-all (published_commands d.ring) d.placed u.serial q in
+    let s : is_among (dispatched_serials d.ring) u.serial ≡ true = among_every (λ x. is_among (dispatched_serials d.ring) x ≡ true) d.placed u.serial h.dispatched p in
+    let z : state_fits (is_among (dispatched_serials d.ring) u.serial) true true d.attached u.state (is_some u.reply) ≡ true = rw (p, q) at k in
+    published_placed (is_among (dispatched_serials d.ring) u.serial) d.attached u.state (is_some u.reply) s z) h.states
 
 -- ==== parking
 
@@ -170,10 +172,10 @@ first_left q [] h = refl
 first_left q (u ∷ us) h =
     ⊎_elim
     (λ (e : q u ≡ true).
-        ⊎_elim
-        (λ (z : has_state Placed u ≡ true). rw (e, z) (first_left q us h.1))
-        (λ (z : has_state Placed u ≡ false). rw (e, z) refl)
-        (cases_Bool (has_state Placed u)))
+    ⊎_elim
+    (λ (z : has_state Placed u ≡ true). rw (e, z) (first_left q us h.1))
+    (λ (z : has_state Placed u ≡ false). rw (e, z) refl)
+    (cases_Bool (has_state Placed u)))
     (λ (e : q u ≡ false). let z : has_state Placed u ≡ true = h.0 e in rw (e, z) (first_left q us h.1))
     (cases_Bool (q u))
 
@@ -183,11 +185,11 @@ none_kept p q (u ∷ us) h =
     ⊎_elim
     (λ (e : p u ≡ true). let k : not (true || list_any p us) ≡ true = rw e at h in absurd (false≢true k))
     (λ (e : p u ≡ false).
-        let k : not (list_any p us) ≡ true = rw e at h in
-        ⊎_elim
-        (λ (z : q u ≡ true). rw (z, e) (none_kept p q us k))
-        (λ (z : q u ≡ false). rw z (none_kept p q us k))
-        (cases_Bool (q u)))
+    let k : not (list_any p us) ≡ true = rw e at h in
+    ⊎_elim
+    (λ (z : q u ≡ true). rw (z, e) (none_kept p q us k))
+    (λ (z : q u ≡ false). rw z (none_kept p q us k))
+    (cases_Bool (q u)))
     (cases_Bool (p u))
 
 pub parked_left : (ooo : Bool) (q : Unfinished → Bool) (us : List Unfinished) → Every (λ u. q u ≡ false → has_state Placed u ≡ true) us → parked_rightly ooo us ≡ true → parked_rightly ooo (filter q us) ≡ true
@@ -228,42 +230,52 @@ sound_after_clean d h =
     record {
       settings = h.settings;
       ring = record {
-        size = h.ring.size; cleared = omega arith; published = h.ring.published; dispatched = h.ring.dispatched;
-        room = used_less d.ring h.ring.cleared h.ring.room; items = h.ring.items; ends = h.ring.ends;
+        size = h.ring.size;
+        cleared = omega arith;
+        published = h.ring.published;
+        dispatched = h.ring.dispatched;
+        room = used_less d.ring h.ring.cleared h.ring.room;
+        items = h.ring.items;
+        ends = h.ring.ends;
       };
       serials = record {
         rise = h.serials.rise;
         order = ap (map (λ u. u.serial)) e
-          ∙ (map_filter (λ (u : Unfinished). u.serial) (λ k. not (is_among ps k)) us
-          ∙ (ap (filter (λ k. not (is_among ps k))) h.serials.order
-          ∙ filter_twice (λ k. not (is_among (finished d) k)) (λ k. not (is_among ps k)) (λ k. not (is_among ps k)) (serials_in d.ring.laid)
-              (λ k z. gone k z) (λ k z. refl)));
+            ∙ (map_filter (λ (u : Unfinished). u.serial) (λ k. not (is_among ps k)) us
+            ∙ (ap (filter (λ k. not (is_among ps k))) h.serials.order
+            ∙ filter_twice (λ k. not (is_among (finished d) k)) (λ k. not (is_among ps k)) (λ k. not (is_among ps k)) (serials_in d.ring.laid)
+            (λ k z. gone k z) (λ k z. refl)));
         laid = subst (λ (ws : List Unfinished). Every (λ u. IsLaid d.ring.laid u.serial u.command) ws) (sym e) (every-filter (stays ps) (λ u. IsLaid d.ring.laid u.serial u.command) us h.serials.laid);
         accounted = λ k. omega (arith, all_tally d.settings.flags.read_len (books d) ps d.accepted k r placed, h.serials.accounted k);
       };
       answers = record {
-        published = h.answers.published; differ = h.answers.differ; dispatched = h.answers.dispatched;
+        published = h.answers.published;
+        differ = h.answers.differ;
+        dispatched = h.answers.dispatched;
         states = subst (λ (ws : List Unfinished). Every (λ u. is_right d u ≡ true) ws) (sym e) (every-filter (stays ps) (λ u. is_right d u ≡ true) us h.answers.states);
         replies = subst (λ (ws : List Unfinished). Every (λ u. IfSome u.reply (ReplyFits u.command)) ws) (sym e) (every-filter (stays ps) (λ u. IfSome u.reply (ReplyFits u.command)) us h.answers.replies);
         parked = ap (parked_rightly d.settings.flags.ooo) e
-          ∙ parked_left d.settings.flags.ooo (stays ps) us
-              (every-weaker (λ u. is_among ps u.serial ≡ true → (u.state ≡ Placed) × (is_some u.reply ≡ true)) (λ u. stays ps u ≡ false → has_state Placed u ≡ true) us
-                (λ u k z. let t : u.state ≡ Placed = (k (back (is_among ps u.serial) z)).0 in rw t refl) placed) h.answers.parked;
+            ∙ parked_left d.settings.flags.ooo (stays ps) us
+            (every-weaker (λ u. is_among ps u.serial ≡ true → (u.state ≡ Placed) × (is_some u.reply ≡ true)) (λ u. stays ps u ≡ false → has_state Placed u ≡ true) us
+            (λ u k z. let t : u.state ≡ Placed = (k (back (is_among ps u.serial) z)).0 in rw t refl) placed) h.answers.parked;
       };
       room = record {
         blocks = let b : sum_by (λ u. blocks_in d u.command) vs ≡ sum_by (λ u. blocks_in d u.command) (filter (stays ps) us) = ap (sum_by (λ u. blocks_in d u.command)) e in omega (arith, b, sum-filter_le (λ u. blocks_in d u.command) (stays ps) us, h.room.blocks);
-        delayed = h.room.delayed; none = h.room.none; now = h.room.now;
+        delayed = h.room.delayed;
+        none = h.room.none;
+        now = h.room.now;
       };
     }
   where
     back : (b : Bool) → not b ≡ false → b ≡ true
     back true h = refl
     back false h = absurd (true≢false h)
+
     gone : (k : ℕ) → not (is_among (finished d) k) ≡ false → not (is_among (answered d) k) ≡ false
     gone k z =
         ⊎_elim
         (λ (e : is_among (answered d) k ≡ true). rw e refl)
         (λ (e : is_among (answered d) k ≡ false).
-            let f : is_among (finished d) k ≡ false = among-longer (cleared_commands d.ring) (published_commands d.ring) d.placed k (cleared_published d h.ring) e in
-            absurd (true≢false (let w : not (is_among (finished d) k) ≡ true = rw f refl in sym w ∙ z)))
+        let f : is_among (finished d) k ≡ false = among-longer (cleared_commands d.ring) (published_commands d.ring) d.placed k (cleared_published d h.ring) e in
+        absurd (true≢false (let w : not (is_among (finished d) k) ≡ true = rw f refl in sym w ∙ z)))
         (cases_Bool (is_among (answered d) k))

@@ -1,6 +1,6 @@
 -- The opening, and the events that change little, leave the device sound.
-use Rattle.std.proofs.Common.{◌≡◌, ℕ, ◌+◌, ◌-◌, ◌*◌, ◌^◌, ◌<◌, ◌≤◌, min, Bool, true, false, not, cond, List, [], ◌∷◌, ◌++◌, length, take, drop, map, refl, sym, ap, ◌∙◌, arith, ⊎_elim, subst, ◌||◌, ◌&&◌, eqb, ◌==◌, ltb, leb, if◌then◌else◌, Some, None, Option, suc, zero}
-use Rattle.std.specs.List.{list_any, filter, count_by, sum_by}
+use Rattle.std.proofs.Common.{◌≡◌, ℕ, ◌+◌, ◌≤◌, Bool, true, false, not, cond, List, [], ◌∷◌, ◌++◌, length, take, map, refl, sym, ap, ◌∙◌, arith, ⊎_elim, subst, ◌&&◌, eqb, ◌==◌, ltb, leb, if◌then◌else◌, Some, None, Option}
+use Rattle.std.specs.List.{filter, count_by, sum_by}
 use Rattle.std.specs.Option.{is_some}
 use Rattle.std.specs.Prelude.{IfSome}
 use Rattle.std.proofs.lemmas.Bool.{cases_Bool, true≢false, false≢true, lt-leb, ltb-true}
@@ -12,15 +12,14 @@ use Rattle.tcmu_types.specs.declared.answer.Tmr.{Tmr}
 use Rattle.tcmu_types.specs.declared.answer.Tmr.TheVariants as tmr
 use Rattle.tcmu_model.specs.declared.state.CommandState.{CommandState}
 use Rattle.tcmu_model.specs.declared.state.CommandState.TheVariants.{Waiting, Out, Handled, Parked, Placed, Lost}
-use Rattle.tcmu_model.specs.Lists.{first_of}
 use Rattle.tcmu_model.specs.States.{same_state}
-use Rattle.tcmu_model.specs.RingState.{RingState, Item, need, free, fits, serials_in, commands_in, published_commands, cleared_commands, front_with, empty_ring}
+use Rattle.tcmu_model.specs.RingState.{Item, need, free, fits, serials_in, commands_in, published_commands, front_with}
 use Rattle.tcmu_model.specs.Device.{Unfinished, Delayed, DeviceState, has_state, opening_state}
-use Rattle.tcmu_model.specs.Events.{is_among, is_open, answered, publishable, after_publish, after_block, later, is_due, has_left, expire, expiry, departure, tick_completions, after_tick, is_in_hand, count_in_hand, closing, check_condition, reset_completion, reset_completions, emptied, after_reset, after_clean, is_losing, lose, after_restart, unknown_serial, tmr_length_of, tmr_answer, after_tmr, blocks_in, held_blocks}
-use Rattle.tcmu_model.specs.Sound.{Every, Rise, CanWait, ReplyFits, IsLaid, finished, delayed_serials, is_open_at, is_delayed_at, times_logged, times_open, is_accepted, dispatched_serials, state_fits, is_right, parked_rightly, RingSound, SerialsSound, AnswersSound, RoomSound, IsSound}
+use Rattle.tcmu_model.specs.Events.{is_among, is_open, answered, publishable, after_publish, after_block, later, is_due, has_left, expire, expiry, departure, tick_completions, after_tick, count_in_hand, reset_completion, reset_completions, emptied, after_reset, after_clean, is_losing, lose, after_restart, unknown_serial, tmr_length_of, tmr_answer, after_tmr, blocks_in, held_blocks}
+use Rattle.tcmu_model.specs.Sound.{Rise, CanWait, ReplyFits, IsLaid, delayed_serials, is_open_at, is_delayed_at, times_logged, dispatched_serials, state_fits, is_right, parked_rightly, IsSound}
 use Rattle.tcmu_model.proofs.Counts.{sum-map_same}
-use Rattle.tcmu_model.proofs.Fronts.{front_holds, front_longest, front_short, commands_more}
-use Rattle.tcmu_model.proofs.Everies.{every-map, every-weaker, every-both, every-filter, map_kept, map_filter}
+use Rattle.tcmu_model.proofs.Fronts.{front_holds, front_longest, front_short}
+use Rattle.tcmu_model.proofs.Everies.{every-map, every-weaker, every-filter, map_kept}
 use Rattle.tcmu_model.proofs.Rises.{rise_from, rise_order, among-take}
 use Rattle.tcmu_model.proofs.Rows.{Same, SameRows, rows-map, serials_same, room_same, fits_attached, parked_kept, none_parked}
 use Rattle.tcmu_model.proofs.SoundLaying.{sound_noted}
@@ -41,12 +40,14 @@ sound_opening s h =
     empty : (ooo : Bool) → parked_rightly ooo [] ≡ true
     empty true = refl
     empty false = refl
+
     le-none : (k : ℕ) → (ltb 0 k && leb k 0) ≡ false
     le-none k =
         ⊎_elim
         (λ (e : ltb 0 k ≡ true). let z : leb k 0 ≡ false = lt-leb k 0 (ltb-true 0 k e) in rw (e, z) refl)
         (λ (e : ltb 0 k ≡ false). rw e refl)
         (cases_Bool (ltb 0 k))
+
     none : (k : ℕ) → (ltb 0 k && leb k 0) ≡ false → 0 + (0 + 0) ≡ cond {A = ℕ} (ltb 0 k && leb k 0) 1 0
     none k e = rw e refl
 
@@ -58,8 +59,12 @@ sound_after_block d b h =
       ring = h.ring;
       serials = record { rise = h.serials.rise; order = h.serials.order; laid = h.serials.laid; accounted = h.serials.accounted };
       answers = record {
-        published = h.answers.published; differ = h.answers.differ; dispatched = h.answers.dispatched; states = h.answers.states;
-        replies = h.answers.replies; parked = h.answers.parked;
+        published = h.answers.published;
+        differ = h.answers.differ;
+        dispatched = h.answers.dispatched;
+        states = h.answers.states;
+        replies = h.answers.replies;
+        parked = h.answers.parked;
       };
       room = record { blocks = h.room.blocks; delayed = h.room.delayed; none = h.room.none; now = h.room.now };
     }
@@ -80,21 +85,29 @@ sound_published d a h =
     record {
       settings = h.settings;
       ring = record {
-        size = h.ring.size; cleared = omega (arith, h.ring.cleared, longest); published = omega (arith, len, most); dispatched = h.ring.dispatched;
-        room = h.ring.room; items = h.ring.items; ends = h.ring.ends;
+        size = h.ring.size;
+        cleared = omega (arith, h.ring.cleared, longest);
+        published = omega (arith, len, most);
+        dispatched = h.ring.dispatched;
+        room = h.ring.room;
+        items = h.ring.items;
+        ends = h.ring.ends;
       };
       serials = record { rise = h.serials.rise; order = h.serials.order; laid = h.serials.laid; accounted = h.serials.accounted };
       answers = record {
-        published = omega (arith, holds, ap commands_in cut); differ = h.answers.differ; dispatched = h.answers.dispatched;
+        published = omega (arith, holds, ap commands_in cut);
+        differ = h.answers.differ;
+        dispatched = h.answers.dispatched;
         states = every-weaker (λ u. is_right d u ≡ true) (λ u. state_fits (is_among (dispatched_serials d.ring) u.serial) (is_among d.placed u.serial) (is_among (take (commands_in (take (publishable d) d.ring.laid)) d.placed) u.serial) d.attached u.state (is_some u.reply) ≡ true) d.unfinished
-          (λ u k.
+            (λ u k.
             let D : Bool = is_among (dispatched_serials d.ring) u.serial in
             let P : Bool = is_among d.placed u.serial in
             let A : Bool = is_among (answered d) u.serial in
             let B : Bool = is_among (take (commands_in (take (publishable d) d.ring.laid)) d.placed) u.serial in
             ap (λ (b : Bool). state_fits D P B b u.state (is_some u.reply)) a
             ∙ (fits_attached D P B A u.state (is_some u.reply) ∙ (ap (λ (b : Bool). state_fits D P A b u.state (is_some u.reply)) (sym a) ∙ k))) h.answers.states;
-        replies = h.answers.replies; parked = h.answers.parked;
+        replies = h.answers.replies;
+        parked = h.answers.parked;
       };
       room = record { blocks = h.room.blocks; delayed = h.room.delayed; none = h.room.none; now = h.room.now };
     }
@@ -125,23 +138,25 @@ due_open now k (u ∷ us) =
     let b : count_by (is_open_at k) (map (expire now) (u ∷ us)) ≡ cond (is_open_at k (expire now u)) 1 0 + count_by (is_open_at k) (map (expire now) us) = sum_by-cons (λ (v : Unfinished). cond {A = ℕ} (is_open_at k v) 1 0) (expire now u) (map (expire now) us) in
     ⊎_elim
     (λ (e : is_due now u ≡ true).
-        let x : u.expired ≡ false = open_due u.expired (elim (u.deadline) as (λ o. Bool) [ None ↦ false | Some at ↦ leb at now ]) e in
-        let c : times_logged (map expiry (filter (is_due now) (u ∷ us))) k ≡ cond (eqb u.serial k) 1 0 + times_logged (map expiry (filter (is_due now) us)) k = rw e (sum_by-cons (λ (v : DoneData). cond {A = ℕ} (eqb v.serial k) 1 0) (expiry u) (map expiry (filter (is_due now) us))) in
-        let f : cond {A = ℕ} (is_open_at k (expire now u)) 1 0 ≡ 0 = rw e (never (eqb u.serial k)) in
-        let g : cond {A = ℕ} (is_open_at k u) 1 0 ≡ cond (eqb u.serial k) 1 0 = rw x (always (eqb u.serial k)) in
-        omega (arith, a, b, c, f, g, due_open now k us))
+    let x : u.expired ≡ false = open_due u.expired (elim (u.deadline) as (λ o. Bool) [ None ↦ false | Some at ↦ leb at now ]) e in
+    let c : times_logged (map expiry (filter (is_due now) (u ∷ us))) k ≡ cond (eqb u.serial k) 1 0 + times_logged (map expiry (filter (is_due now) us)) k = rw e (sum_by-cons (λ (v : DoneData). cond {A = ℕ} (eqb v.serial k) 1 0) (expiry u) (map expiry (filter (is_due now) us))) in
+    let f : cond {A = ℕ} (is_open_at k (expire now u)) 1 0 ≡ 0 = rw e (never (eqb u.serial k)) in
+    let g : cond {A = ℕ} (is_open_at k u) 1 0 ≡ cond (eqb u.serial k) 1 0 = rw x (always (eqb u.serial k)) in
+    omega (arith, a, b, c, f, g, due_open now k us))
     (λ (e : is_due now u ≡ false).
-        let c : times_logged (map expiry (filter (is_due now) (u ∷ us))) k ≡ times_logged (map expiry (filter (is_due now) us)) k = rw e refl in
-        let f : cond {A = ℕ} (is_open_at k (expire now u)) 1 0 ≡ cond (is_open_at k u) 1 0 = rw e refl in
-        omega (arith, a, b, c, f, due_open now k us))
+    let c : times_logged (map expiry (filter (is_due now) (u ∷ us))) k ≡ times_logged (map expiry (filter (is_due now) us)) k = rw e refl in
+    let f : cond {A = ℕ} (is_open_at k (expire now u)) 1 0 ≡ cond (is_open_at k u) 1 0 = rw e refl in
+    omega (arith, a, b, c, f, due_open now k us))
     (cases_Bool (is_due now u))
   where
     open_due : (x y : Bool) → (not x && y) ≡ true → x ≡ false
     open_due true y h = absurd (false≢true h)
     open_due false y h = refl
+
     never : (b : Bool) → cond {A = ℕ} (b && false) 1 0 ≡ 0
     never true = refl
     never false = refl
+
     always : (b : Bool) → cond {A = ℕ} (b && true) 1 0 ≡ cond b 1 0
     always true = refl
     always false = refl
@@ -152,13 +167,13 @@ left_delayed now k (w ∷ ws) =
     let a : count_by (is_delayed_at k) (w ∷ ws) ≡ cond (eqb w.serial k) 1 0 + count_by (is_delayed_at k) ws = sum_by-cons (λ (v : Delayed). cond {A = ℕ} (is_delayed_at k v) 1 0) w ws in
     ⊎_elim
     (λ (e : has_left now w ≡ true).
-        let c : times_logged (map departure (filter (has_left now) (w ∷ ws))) k ≡ cond (eqb w.serial k) 1 0 + times_logged (map departure (filter (has_left now) ws)) k = rw e (sum_by-cons (λ (v : DoneData). cond {A = ℕ} (eqb v.serial k) 1 0) (departure w) (map departure (filter (has_left now) ws))) in
-        let f : count_by (is_delayed_at k) (filter (λ w. not (has_left now w)) (w ∷ ws)) ≡ count_by (is_delayed_at k) (filter (λ w. not (has_left now w)) ws) = rw e refl in
-        omega (arith, a, c, f, left_delayed now k ws))
+    let c : times_logged (map departure (filter (has_left now) (w ∷ ws))) k ≡ cond (eqb w.serial k) 1 0 + times_logged (map departure (filter (has_left now) ws)) k = rw e (sum_by-cons (λ (v : DoneData). cond {A = ℕ} (eqb v.serial k) 1 0) (departure w) (map departure (filter (has_left now) ws))) in
+    let f : count_by (is_delayed_at k) (filter (λ w. not (has_left now w)) (w ∷ ws)) ≡ count_by (is_delayed_at k) (filter (λ w. not (has_left now w)) ws) = rw e refl in
+    omega (arith, a, c, f, left_delayed now k ws))
     (λ (e : has_left now w ≡ false).
-        let c : times_logged (map departure (filter (has_left now) (w ∷ ws))) k ≡ times_logged (map departure (filter (has_left now) ws)) k = rw e refl in
-        let f : count_by (is_delayed_at k) (filter (λ w. not (has_left now w)) (w ∷ ws)) ≡ cond (eqb w.serial k) 1 0 + count_by (is_delayed_at k) (filter (λ w. not (has_left now w)) ws) = rw e (sum_by-cons (λ (v : Delayed). cond {A = ℕ} (is_delayed_at k v) 1 0) w (filter (λ w. not (has_left now w)) ws)) in
-        omega (arith, a, c, f, left_delayed now k ws))
+    let c : times_logged (map departure (filter (has_left now) (w ∷ ws))) k ≡ times_logged (map departure (filter (has_left now) ws)) k = rw e refl in
+    let f : count_by (is_delayed_at k) (filter (λ w. not (has_left now w)) (w ∷ ws)) ≡ cond (eqb w.serial k) 1 0 + count_by (is_delayed_at k) (filter (λ w. not (has_left now w)) ws) = rw e (sum_by-cons (λ (v : Delayed). cond {A = ℕ} (is_delayed_at k v) 1 0) w (filter (λ w. not (has_left now w)) ws)) in
+    omega (arith, a, c, f, left_delayed now k ws))
     (cases_Bool (has_left now w))
 
 rise_behind : (low : ℕ) (xs ys zs : List ℕ) (high : ℕ) → ((l : ℕ) → Rise l ys high → Rise l zs high) → Rise low (xs ++ ys) high → Rise low (xs ++ zs) high
@@ -188,18 +203,20 @@ sound_after_tick d n h =
         rise = rise_behind 0 (serials_in d.ring.laid) (delayed_serials d.delayed) (delayed_serials (filter stay d.delayed)) d.accepted (λ low r. delayed_rise stay low d.delayed d.accepted r) h.serials.rise;
         order = map_kept f (λ u. u.serial) us (λ u. (expire_same now u).0) ∙ h.serials.order;
         laid = every-map f (λ u. IsLaid d.ring.laid u.serial u.command) (λ u. IsLaid d.ring.laid u.serial u.command) us
-          (λ u k. subst (λ (s : ℕ). IsLaid d.ring.laid s (f u).command) (sym (expire_same now u).0) (subst (λ (c : CommandData). IsLaid d.ring.laid u.serial c) (sym (expire_same now u).1) k)) h.serials.laid;
+            (λ u k. subst (λ (s : ℕ). IsLaid d.ring.laid s (f u).command) (sym (expire_same now u).0) (subst (λ (c : CommandData). IsLaid d.ring.laid u.serial c) (sym (expire_same now u).1) k)) h.serials.laid;
         accounted = λ k.
-          let a : times_logged (d.log ++ tick_completions d now) k ≡ times_logged d.log k + times_logged (tick_completions d now) k = sum_by-append (λ (v : DoneData). cond {A = ℕ} (eqb v.serial k) 1 0) d.log (tick_completions d now) in
-          let b : times_logged (tick_completions d now) k ≡ times_logged (map expiry (filter (is_due now) us)) k + times_logged (map departure (filter (has_left now) d.delayed)) k = sum_by-append (λ (v : DoneData). cond {A = ℕ} (eqb v.serial k) 1 0) (map expiry (filter (is_due now) us)) (map departure (filter (has_left now) d.delayed)) in
-          omega (arith, a, b, due_open now k us, left_delayed now k d.delayed, h.serials.accounted k);
+            let a : times_logged (d.log ++ tick_completions d now) k ≡ times_logged d.log k + times_logged (tick_completions d now) k = sum_by-append (λ (v : DoneData). cond {A = ℕ} (eqb v.serial k) 1 0) d.log (tick_completions d now) in
+            let b : times_logged (tick_completions d now) k ≡ times_logged (map expiry (filter (is_due now) us)) k + times_logged (map departure (filter (has_left now) d.delayed)) k = sum_by-append (λ (v : DoneData). cond {A = ℕ} (eqb v.serial k) 1 0) (map expiry (filter (is_due now) us)) (map departure (filter (has_left now) d.delayed)) in
+            omega (arith, a, b, due_open now k us, left_delayed now k d.delayed, h.serials.accounted k);
       };
       answers = record {
-        published = h.answers.published; differ = h.answers.differ; dispatched = h.answers.dispatched;
+        published = h.answers.published;
+        differ = h.answers.differ;
+        dispatched = h.answers.dispatched;
         states = every-map f (λ u. is_right d u ≡ true) (λ u. is_right d u ≡ true) us
-          (λ u k. let e = expire_same now u in rw (e.0, e.2, e.3) k) h.answers.states;
+            (λ u k. let e = expire_same now u in rw (e.0, e.2, e.3) k) h.answers.states;
         replies = every-map f (λ u. IfSome u.reply (ReplyFits u.command)) (λ u. IfSome u.reply (ReplyFits u.command)) us
-          (λ u k. let e = expire_same now u in subst (λ (o : Option ReplyData). IfSome o (ReplyFits (f u).command)) (sym e.3) (subst (λ (c : CommandData). IfSome u.reply (ReplyFits c)) (sym e.1) k)) h.answers.replies;
+            (λ u k. let e = expire_same now u in subst (λ (o : Option ReplyData). IfSome o (ReplyFits (f u).command)) (sym e.3) (subst (λ (c : CommandData). IfSome u.reply (ReplyFits c)) (sym e.1) k)) h.answers.replies;
         parked = parked_kept d.settings.flags.ooo f us (λ u. ap (λ t. same_state t Parked) (expire_same now u).2) (λ u. ap (λ t. same_state t Placed) (expire_same now u).2) ∙ h.answers.parked;
       };
       room = record {
@@ -227,19 +244,20 @@ reset_open level k (u ∷ us) =
     let rest : List DoneData = map (λ u. reset_completion level u.serial u.command) (filter is_open us) in
     ⊎_elim
     (λ (e : u.expired ≡ true).
-        let c : times_logged (map (λ u. reset_completion level u.serial u.command) (filter is_open (u ∷ us))) k ≡ times_logged rest k = rw e refl in
-        let f : cond {A = ℕ} (is_open_at k u) 1 0 ≡ 0 = rw e (never (eqb u.serial k)) in
-        omega (arith, a, c, f, reset_open level k us))
+    let c : times_logged (map (λ u. reset_completion level u.serial u.command) (filter is_open (u ∷ us))) k ≡ times_logged rest k = rw e refl in
+    let f : cond {A = ℕ} (is_open_at k u) 1 0 ≡ 0 = rw e (never (eqb u.serial k)) in
+    omega (arith, a, c, f, reset_open level k us))
     (λ (e : u.expired ≡ false).
-        let c : times_logged (map (λ u. reset_completion level u.serial u.command) (filter is_open (u ∷ us))) k ≡ cond (eqb (reset_completion level u.serial u.command).serial k) 1 0 + times_logged rest k = rw e (sum_by-cons (λ (v : DoneData). cond {A = ℕ} (eqb v.serial k) 1 0) (reset_completion level u.serial u.command) rest) in
-        let s : cond {A = ℕ} (eqb (reset_completion level u.serial u.command).serial k) 1 0 ≡ cond (eqb u.serial k) 1 0 = ap (λ n. cond {A = ℕ} (eqb n k) 1 0) (reset_serial level u.serial u.command) in
-        let f : cond {A = ℕ} (is_open_at k u) 1 0 ≡ cond (eqb u.serial k) 1 0 = rw e (always (eqb u.serial k)) in
-        omega (arith, a, c, s, f, reset_open level k us))
+    let c : times_logged (map (λ u. reset_completion level u.serial u.command) (filter is_open (u ∷ us))) k ≡ cond (eqb (reset_completion level u.serial u.command).serial k) 1 0 + times_logged rest k = rw e (sum_by-cons (λ (v : DoneData). cond {A = ℕ} (eqb v.serial k) 1 0) (reset_completion level u.serial u.command) rest) in
+    let s : cond {A = ℕ} (eqb (reset_completion level u.serial u.command).serial k) 1 0 ≡ cond (eqb u.serial k) 1 0 = ap (λ n. cond {A = ℕ} (eqb n k) 1 0) (reset_serial level u.serial u.command) in
+    let f : cond {A = ℕ} (is_open_at k u) 1 0 ≡ cond (eqb u.serial k) 1 0 = rw e (always (eqb u.serial k)) in
+    omega (arith, a, c, s, f, reset_open level k us))
     (cases_Bool u.expired)
   where
     never : (b : Bool) → cond {A = ℕ} (b && false) 1 0 ≡ 0
     never true = refl
     never false = refl
+
     always : (b : Bool) → cond {A = ℕ} (b && true) 1 0 ≡ cond b 1 0
     always true = refl
     always false = refl
@@ -258,18 +276,24 @@ sound_emptied d level h =
     record {
       settings = h.settings;
       ring = record {
-        size = h.ring.size; cleared = omega arith; published = omega arith; dispatched = omega arith; room = omega (arith, h.ring.room); items = tt; ends = tt;
+        size = h.ring.size;
+        cleared = omega arith;
+        published = omega arith;
+        dispatched = omega arith;
+        room = omega (arith, h.ring.room);
+        items = tt;
+        ends = tt;
       };
       serials = record {
         rise = rise_order 0 (serials_in d.ring.laid ++ delayed_serials d.delayed) d.accepted h.serials.rise;
         order = refl;
         laid = tt;
         accounted = λ k.
-          let opened : List DoneData = map (λ u. reset_completion level u.serial u.command) (filter is_open d.unfinished) in
-          let waited : List DoneData = map (λ w. reset_completion level w.serial w.command) d.delayed in
-          let a : times_logged (d.log ++ reset_completions d level) k ≡ times_logged d.log k + times_logged (opened ++ waited) k = sum_by-append (λ (v : DoneData). cond {A = ℕ} (eqb v.serial k) 1 0) d.log (opened ++ waited) in
-          let b : times_logged (opened ++ waited) k ≡ times_logged opened k + times_logged waited k = sum_by-append (λ (v : DoneData). cond {A = ℕ} (eqb v.serial k) 1 0) opened waited in
-          omega (arith, a, b, reset_open level k d.unfinished, reset_delayed level k d.delayed, h.serials.accounted k);
+            let opened : List DoneData = map (λ u. reset_completion level u.serial u.command) (filter is_open d.unfinished) in
+            let waited : List DoneData = map (λ w. reset_completion level w.serial w.command) d.delayed in
+            let a : times_logged (d.log ++ reset_completions d level) k ≡ times_logged d.log k + times_logged (opened ++ waited) k = sum_by-append (λ (v : DoneData). cond {A = ℕ} (eqb v.serial k) 1 0) d.log (opened ++ waited) in
+            let b : times_logged (opened ++ waited) k ≡ times_logged opened k + times_logged waited k = sum_by-append (λ (v : DoneData). cond {A = ℕ} (eqb v.serial k) 1 0) opened waited in
+            omega (arith, a, b, reset_open level k d.unfinished, reset_delayed level k d.delayed, h.serials.accounted k);
       };
       answers = record { published = omega arith; differ = tt; dispatched = tt; states = tt; replies = tt; parked = empty d.settings.flags.ooo };
       room = record { blocks = omega arith; delayed = tt; none = λ q. refl; now = h.room.now };
@@ -390,14 +414,16 @@ sound_after_restart d h =
       ring = h.ring;
       serials = record { rise = ser.rise; order = ser.order; laid = ser.laid; accounted = ser.accounted };
       answers = record {
-        published = h.answers.published; differ = h.answers.differ; dispatched = h.answers.dispatched;
+        published = h.answers.published;
+        differ = h.answers.differ;
+        dispatched = h.answers.dispatched;
         states = every-map (lose A) (λ u. is_right d u ≡ true)
-          (λ u. state_fits (is_among (dispatched_serials d.ring) u.serial) (is_among d.placed u.serial) (is_among A u.serial) false u.state (is_some u.reply) ≡ true) us
-          (λ u k.
+            (λ u. state_fits (is_among (dispatched_serials d.ring) u.serial) (is_among d.placed u.serial) (is_among A u.serial) false u.state (is_some u.reply) ≡ true) us
+            (λ u k.
             let e = lose_tells A u u.state refl in
             rw (((lose_same A u).serial), e.0, e.1)
-              (lost_fits (is_among (dispatched_serials d.ring) u.serial) (is_among d.placed u.serial) (is_among A u.serial) d.attached u.state (is_some u.reply)
-                (λ n. among-take (published_commands d.ring) d.placed u.serial n) k)) h.answers.states;
+            (lost_fits (is_among (dispatched_serials d.ring) u.serial) (is_among d.placed u.serial) (is_among A u.serial) d.attached u.state (is_some u.reply)
+            (λ n. among-take (published_commands d.ring) d.placed u.serial n) k)) h.answers.states;
         replies = every-map (lose A) (λ u. IfSome u.reply (ReplyFits u.command)) (λ u. IfSome u.reply (ReplyFits u.command)) us (λ u k. lose_reply A u k) h.answers.replies;
         parked = none_parked d.settings.flags.ooo (map (lose A) us) (every-map (lose A) (λ u. is_right d u ≡ true) (λ u. has_state Parked u ≡ false) us (λ u k. lose_unparked A u) h.answers.states);
       };
@@ -423,9 +449,9 @@ unfolding tmr_answer after_tmr
 sound_after_tmr d kind ss h =
     ⊎_elim
     (λ (t : d.settings.flags.tmr ≡ true).
-        ⊎_elim
-        (λ (b : d.blocked ≡ true). noted_by d kind ss tmr.Busy (rw (t, b) refl) h)
-        (λ (b : d.blocked ≡ false). asked_for d kind ss (unknown_serial d.unfinished ss) refl t b h)
-        (cases_Bool d.blocked))
+    ⊎_elim
+    (λ (b : d.blocked ≡ true). noted_by d kind ss tmr.Busy (rw (t, b) refl) h)
+    (λ (b : d.blocked ≡ false). asked_for d kind ss (unknown_serial d.unfinished ss) refl t b h)
+    (cases_Bool d.blocked))
     (λ (t : d.settings.flags.tmr ≡ false). noted_by d kind ss tmr.Off (rw t refl) h)
     (cases_Bool d.settings.flags.tmr)

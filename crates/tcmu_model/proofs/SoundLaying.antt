@@ -1,25 +1,24 @@
 -- A command or a note that is laid leaves the device sound.
-use Rattle.std.proofs.Common.{◌≡◌, ℕ, ◌+◌, ◌-◌, ◌*◌, ◌/◌, ◌%◌, ◌<◌, ◌≤◌, Bool, true, false, not, cond, List, [], ◌∷◌, ◌++◌, length, take, drop, map, refl, sym, ap, ◌∙◌, arith, ⊎_elim, subst, ◌||◌, ◌&&◌, eqb, ltb, leb, if◌then◌else◌, Some, None, Option, max, length-append, append_assoc, append-nil}
-use Rattle.std.specs.List.{list_any, filter, count_by, sum_by}
+use Rattle.std.proofs.Common.{◌≡◌, ℕ, ◌+◌, ◌*◌, ◌/◌, ◌%◌, ◌<◌, ◌≤◌, Bool, true, false, not, List, [], ◌∷◌, ◌++◌, length, take, map, refl, sym, ap, ◌∙◌, arith, ⊎_elim, subst, ◌||◌, if◌then◌else◌, max, append_assoc, append-nil}
+use Rattle.std.specs.List.{list_any, filter, sum_by}
 use Rattle.std.specs.Option.{is_some}
 use Rattle.std.specs.Prelude.{IfSome}
-use Rattle.std.proofs.lemmas.Bool.{cases_Bool, leb-true, true≢false, false≢true}
+use Rattle.std.proofs.lemmas.Bool.{cases_Bool, leb-true, false≢true}
 use Rattle.std.proofs.lemmas.List.{map-append}
 use Rattle.std.proofs.lemmas.List.Elements.{filter-append}
-use Rattle.std.proofs.lemmas.List.Sums.{sum_by-cons, sum_by_push}
-use Rattle.tcmu_types.specs.Data.{CommandData, SettingsData}
-use Rattle.tcmu_types.specs.Rules.{IsCommand, IsSettings}
-use Rattle.tcmu_model.specs.declared.state.CommandState.TheVariants.{Waiting, Out, Handled, Parked, Placed, Lost}
-use Rattle.tcmu_model.specs.Lists.{first_of}
+use Rattle.std.proofs.lemmas.List.Sums.{sum_by_push}
+use Rattle.tcmu_types.specs.Data.{CommandData}
+use Rattle.tcmu_types.specs.Rules.{IsCommand}
+use Rattle.tcmu_model.specs.declared.state.CommandState.TheVariants.{Parked, Placed}
 use Rattle.tcmu_model.specs.Lengths.{blocks_of, entry_length, tmr_length, round_up}
-use Rattle.tcmu_model.specs.RingState.{RingState, Item, Laid, Pad, Cmd, Tmr, with_item, fits, commands_in, serials_in, cleared_commands, published_commands, pads, pad}
-use Rattle.tcmu_model.specs.Device.{Unfinished, Delayed, DeviceState, has_state, has_serial}
-use Rattle.tcmu_model.specs.Events.{is_among, answered, held_blocks, free_blocks, blocks_in, entry_length_in, fits_ring, fits_blocks, waiting, with_command, with_note, tmr_length_of}
-use Rattle.tcmu_model.specs.Sound.{Every, Rise, CanWait, ReplyFits, HasLength, IsLaid, finished, delayed_serials, dispatched_serials, times_logged, times_open, is_accepted, is_right, state_fits, parked_rightly, RingSound, SerialsSound, AnswersSound, RoomSound, IsSound}
+use Rattle.tcmu_model.specs.RingState.{Item, Cmd, Tmr, with_item, fits, commands_in, serials_in, cleared_commands, published_commands, pads, pad}
+use Rattle.tcmu_model.specs.Device.{Unfinished, Delayed, DeviceState, has_state}
+use Rattle.tcmu_model.specs.Events.{is_among, held_blocks, free_blocks, blocks_in, entry_length_in, fits_ring, fits_blocks, waiting, with_note, tmr_length_of}
+use Rattle.tcmu_model.specs.Sound.{Every, Rise, CanWait, ReplyFits, IsLaid, finished, delayed_serials, dispatched_serials, times_logged, times_open, is_accepted, is_right, state_fits, parked_rightly, SerialsSound, AnswersSound, IsSound}
 use Rattle.tcmu_model.proofs.Everies.{every-weaker, every-append, every-take}
 use Rattle.tcmu_model.proofs.Rises.{rise_seam, not_among}
-use Rattle.tcmu_model.proofs.Laying.{take_laid, length_laid, serials_laid, laid_more, laid_last, ring_with}
-use Rattle.tcmu_model.proofs.Basics.{laid_rise, dispatched_every, placed_every, cleared_placed}
+use Rattle.tcmu_model.proofs.Laying.{take_laid, serials_laid, laid_more, laid_last, ring_with}
+use Rattle.tcmu_model.proofs.Basics.{dispatched_every, placed_every}
 
 -- ==== lengths
 
@@ -89,14 +88,14 @@ serials_entered d s c ws n h r a =
     record {
       rise = subst (λ (xs : List ℕ). Rise 0 xs n) (sym (append_assoc (serials_in d.ring.laid) (s ∷ []) (delayed_serials ws)) ∙ ap (λ (xs : List ℕ). xs ++ delayed_serials ws) (sym e)) r;
       order = subst (λ (m : ℕ). map (λ u. u.serial) (us ++ waiting d s c ∷ []) ≡ filter (λ x. not (is_among (take m d.placed) x)) (serials_in (with_item d.ring i).laid)) (sym cut)
-        (map-append (λ (u : Unfinished). u.serial) us (waiting d s c ∷ [])
-         ∙ (ap (λ (xs : List ℕ). xs ++ s ∷ []) h.serials.order
-         ∙ (ap (λ (xs : List ℕ). filter keep (serials_in d.ring.laid) ++ xs) (sym last)
-         ∙ (sym (filter-append keep (serials_in d.ring.laid) (s ∷ [])) ∙ ap (filter keep) (sym e)))));
+          (map-append (λ (u : Unfinished). u.serial) us (waiting d s c ∷ [])
+          ∙ (ap (λ (xs : List ℕ). xs ++ s ∷ []) h.serials.order
+          ∙ (ap (λ (xs : List ℕ). filter keep (serials_in d.ring.laid) ++ xs) (sym last)
+          ∙ (sym (filter-append keep (serials_in d.ring.laid) (s ∷ [])) ∙ ap (filter keep) (sym e)))));
       laid = every-append (λ u. IsLaid (with_item d.ring i).laid u.serial u.command) us (waiting d s c ∷ [])
-        (every-weaker (λ u. IsLaid d.ring.laid u.serial u.command) (λ u. IsLaid (with_item d.ring i).laid u.serial u.command) us
+          (every-weaker (λ u. IsLaid d.ring.laid u.serial u.command) (λ u. IsLaid (with_item d.ring i).laid u.serial u.command) us
           (λ u k. laid_more (d.ring.laid ++ pads (pad d.ring i.len)) (i ∷ []) u.serial u.command (laid_more d.ring.laid (pads (pad d.ring i.len)) u.serial u.command k)) h.serials.laid)
-        (laid_last (d.ring.laid ++ pads (pad d.ring i.len)) i.len s c, tt);
+          (laid_last (d.ring.laid ++ pads (pad d.ring i.len)) i.len s c, tt);
       accounted = a;
     }
 
@@ -108,13 +107,13 @@ answers_entered d s c ws n h below =
     let sent : dispatched_serials (with_item d.ring i) ≡ dispatched_serials d.ring = ap serials_in (take_laid d.ring i d.ring.dispatched h.ring.dispatched) in
     let no : is_among (dispatched_serials d.ring) s ≡ false = not_among (dispatched_serials d.ring) s (dispatched_every (λ x. x < s) d.ring below) in
     let old : Every (λ u. state_fits (is_among (dispatched_serials d.ring) u.serial) (is_among d.placed u.serial) (is_among (take (published_commands d.ring) d.placed) u.serial) d.attached u.state (is_some u.reply) ≡ true) (d.unfinished ++ waiting d s c ∷ []) =
-      every-append (λ u. is_right d u ≡ true) d.unfinished (waiting d s c ∷ []) h.answers.states (rw no refl, tt) in
+    every-append (λ u. is_right d u ≡ true) d.unfinished (waiting d s c ∷ []) h.answers.states (rw no refl, tt) in
     record {
       published = omega (arith, cut, h.answers.published);
       differ = h.answers.differ;
       dispatched = subst (λ (xs : List ℕ). Every (λ k. is_among xs k ≡ true) d.placed) (sym sent) h.answers.dispatched;
       states = subst (λ (xs : List ℕ). Every (λ u. state_fits (is_among xs u.serial) (is_among d.placed u.serial) (is_among (take (published_commands (with_item d.ring i)) d.placed) u.serial) d.attached u.state (is_some u.reply) ≡ true) (d.unfinished ++ waiting d s c ∷ [])) (sym sent)
-        (subst (λ (m : ℕ). Every (λ u. state_fits (is_among (dispatched_serials d.ring) u.serial) (is_among d.placed u.serial) (is_among (take m d.placed) u.serial) d.attached u.state (is_some u.reply) ≡ true) (d.unfinished ++ waiting d s c ∷ [])) (sym cut) old);
+          (subst (λ (m : ℕ). Every (λ u. state_fits (is_among (dispatched_serials d.ring) u.serial) (is_among d.placed u.serial) (is_among (take m d.placed) u.serial) d.attached u.state (is_some u.reply) ≡ true) (d.unfinished ++ waiting d s c ∷ [])) (sym cut) old);
       replies = every-append (λ u. IfSome u.reply (ReplyFits u.command)) d.unfinished (waiting d s c ∷ []) h.answers.replies (tt, tt);
       parked = parked-push d.settings.flags.ooo d.unfinished (waiting d s c) refl h.answers.parked;
     }
@@ -131,7 +130,7 @@ sound_entered d s c ws n h isc fr fb r cw none a =
       answers = answers_entered d s c ws n h below;
       room = record {
         blocks = let e : sum_by (λ u. blocks_in d u.command) (d.unfinished ++ waiting d s c ∷ []) ≡ held_blocks d + blocks_in d c = sum_by_push (λ (u : Unfinished). blocks_in d u.command) d.unfinished (waiting d s c) in
-          let f : blocks_in d c ≤ free_blocks d = leb-true _ _ fb in omega (arith, e, f, h.room.blocks);
+            let f : blocks_in d c ≤ free_blocks d = leb-true _ _ fb in omega (arith, e, f, h.room.blocks);
         delayed = cw;
         none = none;
         now = h.room.now;
@@ -160,9 +159,9 @@ sound_noted d kind ss h f =
       serials = record {
         rise = subst (λ (xs : List ℕ). Rise 0 (xs ++ delayed_serials d.delayed) d.accepted) (sym e) h.serials.rise;
         order = subst (λ (m : ℕ). map (λ u. u.serial) d.unfinished ≡ filter (λ x. not (is_among (take m d.placed) x)) (serials_in (with_item d.ring i).laid)) (sym cut_c)
-          (h.serials.order ∙ ap (filter (λ x. not (is_among (finished d) x))) (sym e));
+            (h.serials.order ∙ ap (filter (λ x. not (is_among (finished d) x))) (sym e));
         laid = every-weaker (λ u. IsLaid d.ring.laid u.serial u.command) (λ u. IsLaid (with_item d.ring i).laid u.serial u.command) d.unfinished
-          (λ u k. laid_more (d.ring.laid ++ pads (pad d.ring i.len)) (i ∷ []) u.serial u.command (laid_more d.ring.laid (pads (pad d.ring i.len)) u.serial u.command k)) h.serials.laid;
+            (λ u k. laid_more (d.ring.laid ++ pads (pad d.ring i.len)) (i ∷ []) u.serial u.command (laid_more d.ring.laid (pads (pad d.ring i.len)) u.serial u.command k)) h.serials.laid;
         accounted = h.serials.accounted;
       };
       answers = record {
@@ -170,7 +169,7 @@ sound_noted d kind ss h f =
         differ = h.answers.differ;
         dispatched = subst (λ (xs : List ℕ). Every (λ k. is_among xs k ≡ true) d.placed) (sym sent) h.answers.dispatched;
         states = subst (λ (xs : List ℕ). Every (λ u. state_fits (is_among xs u.serial) (is_among d.placed u.serial) (is_among (take (published_commands (with_item d.ring i)) d.placed) u.serial) d.attached u.state (is_some u.reply) ≡ true) d.unfinished) (sym sent)
-          (subst (λ (m : ℕ). Every (λ u. state_fits (is_among (dispatched_serials d.ring) u.serial) (is_among d.placed u.serial) (is_among (take m d.placed) u.serial) d.attached u.state (is_some u.reply) ≡ true) d.unfinished) (sym cut_p) h.answers.states);
+            (subst (λ (m : ℕ). Every (λ u. state_fits (is_among (dispatched_serials d.ring) u.serial) (is_among d.placed u.serial) (is_among (take m d.placed) u.serial) d.attached u.state (is_some u.reply) ≡ true) d.unfinished) (sym cut_p) h.answers.states);
         replies = h.answers.replies;
         parked = h.answers.parked;
       };

@@ -1,26 +1,24 @@
 -- A response leaves the device sound: answers are placed in the order of laying, or out of it, and none is parked in vain.
-use Rattle.std.proofs.Common.{◌≡◌, ℕ, ◌+◌, ◌-◌, ◌<◌, ◌≤◌, Bool, true, false, not, cond, List, [], ◌∷◌, ◌++◌, length, take, drop, map, refl, sym, ap, ◌∙◌, arith, ⊎_elim, subst, ◌||◌, ◌&&◌, eqb, if◌then◌else◌, Some, None, Option, suc, zero, append_assoc, append-nil, length-append}
+use Rattle.std.proofs.Common.{◌≡◌, ℕ, ◌+◌, ◌<◌, ◌≤◌, Bool, true, false, not, cond, List, [], ◌∷◌, ◌++◌, length, take, map, refl, sym, ap, ◌∙◌, arith, ⊎_elim, subst, ◌||◌, ◌&&◌, eqb, if◌then◌else◌, append_assoc, append-nil, length-append}
 use Rattle.std.specs.List.{list_any, filter}
 use Rattle.std.specs.Option.{is_some}
 use Rattle.std.specs.Prelude.{IfSome}
-use Rattle.std.proofs.lemmas.Bool.{cases_Bool, true≢false, false≢true, or_parts, and_parts, and_from, eqb-true, eqb-false, eq-eqb, ne_eqb, or_left, or_right}
+use Rattle.std.proofs.lemmas.Bool.{cases_Bool, false≢true, or_parts, and_parts, and_from, eqb-true, eqb-false, eq-eqb, ne_eqb, or_right}
 use Rattle.std.proofs.lemmas.List.{take-append-le}
-use Rattle.tcmu_types.specs.Data.{CommandData, ReplyData}
 use Rattle.tcmu_model.specs.declared.state.CommandState.{CommandState}
 use Rattle.tcmu_model.specs.declared.state.CommandState.TheVariants.{Waiting, Out, Handled, Parked, Placed, Lost}
-use Rattle.tcmu_model.specs.Lists.{first_of, with_first}
 use Rattle.tcmu_model.specs.States.{same_state}
-use Rattle.tcmu_model.specs.RingState.{RingState, Item, serials_in, published_commands, cleared_commands}
+use Rattle.tcmu_model.specs.RingState.{serials_in, published_commands, cleared_commands}
 use Rattle.tcmu_model.specs.Device.{Unfinished, DeviceState, has_state, is_at}
 use Rattle.tcmu_model.specs.Events.{is_among, in_state, turned, is_handled, with_parked, Placing, with_placed, run_placed, placed_by, placing, after_respond}
-use Rattle.tcmu_model.specs.Sound.{Every, Rise, Differ, ReplyFits, finished, dispatched_serials, state_fits, is_right, parked_rightly, RingSound, SerialsSound, AnswersSound, RoomSound, IsSound}
+use Rattle.tcmu_model.specs.Sound.{Every, Rise, Differ, ReplyFits, finished, dispatched_serials, state_fits, is_right, parked_rightly, SerialsSound, IsSound}
 use Rattle.tcmu_model.proofs.Counts.{state_at, serial_at}
 use Rattle.tcmu_model.proofs.Firsts.{any-with_first}
 use Rattle.tcmu_model.proofs.Everies.{every-map, every-weaker, every-both, every-append, every-filter, found, none-every}
 use Rattle.tcmu_model.proofs.Rises.{among-append, among-take, among-filter, among_every, differ-push, not_above, every-among}
 use Rattle.tcmu_model.proofs.Turning.{turning, turned_map}
 use Rattle.tcmu_model.proofs.Basics.{laid_rise, rows_rise, cleared_placed}
-use Rattle.tcmu_model.proofs.Rows.{Same, SameRows, rows-refl, rows-trans, rows-turned, rows-serials, serials_same, room_same, fits_attached, placed_stands, none_parked}
+use Rattle.tcmu_model.proofs.Rows.{Same, SameRows, rows-trans, rows-turned, rows-serials, serials_same, room_same, fits_attached, placed_stands, none_parked}
 
 -- ==== rows while answers are placed: the state of each fits what is dispatched and placed so far
 
@@ -34,9 +32,9 @@ parks_row : (D P : List ℕ) (s : ℕ) (u : Unfinished) → fits_in D P u → fi
 parks_row D P s u h =
     ⊎_elim
     (λ (e : is_at s Handled u ≡ true).
-        let t : u.state ≡ Handled = state_at s Handled u e in
-        let h' : state_fits (is_among D u.serial) (is_among P u.serial) false true Handled (is_some u.reply) ≡ true = rw t at h in
-        rw e h')
+    let t : u.state ≡ Handled = state_at s Handled u e in
+    let h' : state_fits (is_among D u.serial) (is_among P u.serial) false true Handled (is_some u.reply) ≡ true = rw t at h in
+    rw e h')
     (λ (e : is_at s Handled u ≡ false). rw e h)
     (cases_Bool (is_at s Handled u))
 
@@ -73,8 +71,8 @@ only_one s t (u ∷ us) low high r h =
     ⊎_elim
     (λ (e : is_at s t u ≡ true). ((λ q. state_at s t u e), only_above s t us u.serial high (omega (arith, serial_at s t u e)) r.1))
     (λ (e : is_at s t u ≡ false).
-        let rest : list_any (is_at s t) us ≡ true = rw e at h in
-        ((λ q. absurd (false≢true (sym (none_above s t us u.serial high (omega (arith, q)) r.1) ∙ rest))), only_one s t us u.serial high r.1 rest))
+    let rest : list_any (is_at s t) us ≡ true = rw e at h in
+    ((λ q. absurd (false≢true (sym (none_above s t us u.serial high (omega (arith, q)) r.1) ∙ rest))), only_one s t us u.serial high r.1 rest))
     (cases_Bool (is_at s t u))
 
 -- one is placed
@@ -82,18 +80,18 @@ places_row : (D P : List ℕ) (s : ℕ) (u : Unfinished) → fits_in D P u → (
 places_row D P s u h k =
     ⊎_elim
     (λ (e : eqb u.serial s ≡ true).
-        let q : u.serial ≡ s = eqb-true u.serial s e in
-        let t : u.state ≡ Parked = k q in
-        let h' : state_fits (is_among D u.serial) (is_among P u.serial) false true Parked (is_some u.reply) ≡ true = rw t at h in
-        let w = parked_tells (is_among D u.serial) (is_among P u.serial) false (is_some u.reply) h' in
-        let at : is_at s Parked u ≡ true = rw (e, t) refl in
-        let p1 : is_among (P ++ s ∷ []) u.serial ≡ true = among-append P (s ∷ []) u.serial ∙ or_right (is_among P u.serial) (is_among (s ∷ []) u.serial) (let z : eqb s u.serial ≡ true = eq-eqb s u.serial (sym q) in rw z refl) in
-        rw (at, p1, w.0, w.2) refl)
+    let q : u.serial ≡ s = eqb-true u.serial s e in
+    let t : u.state ≡ Parked = k q in
+    let h' : state_fits (is_among D u.serial) (is_among P u.serial) false true Parked (is_some u.reply) ≡ true = rw t at h in
+    let w = parked_tells (is_among D u.serial) (is_among P u.serial) false (is_some u.reply) h' in
+    let at : is_at s Parked u ≡ true = rw (e, t) refl in
+    let p1 : is_among (P ++ s ∷ []) u.serial ≡ true = among-append P (s ∷ []) u.serial ∙ or_right (is_among P u.serial) (is_among (s ∷ []) u.serial) (let z : eqb s u.serial ≡ true = eq-eqb s u.serial (sym q) in rw z refl) in
+    rw (at, p1, w.0, w.2) refl)
     (λ (e : eqb u.serial s ≡ false).
-        let at : is_at s Parked u ≡ false = rw e refl in
-        let z : eqb s u.serial ≡ false = ne_eqb s u.serial (λ q. eqb-false u.serial s e (sym q)) in
-        let p1 : is_among (P ++ s ∷ []) u.serial ≡ is_among P u.serial = among-append P (s ∷ []) u.serial ∙ none (is_among P u.serial) z in
-        rw (at, p1) h)
+    let at : is_at s Parked u ≡ false = rw e refl in
+    let z : eqb s u.serial ≡ false = ne_eqb s u.serial (λ q. eqb-false u.serial s e (sym q)) in
+    let p1 : is_among (P ++ s ∷ []) u.serial ≡ is_among P u.serial = among-append P (s ∷ []) u.serial ∙ none (is_among P u.serial) z in
+    rw (at, p1) h)
     (cases_Bool (eqb u.serial s))
   where
     none : (b : Bool) → eqb s u.serial ≡ false → (b || is_among (s ∷ []) u.serial) ≡ b
@@ -135,10 +133,10 @@ one_placed d p s g a h =
       differ = differ-push p.placed s h.differ (subst (λ (k : ℕ). is_among p.placed k ≡ false) q tells.1);
       dispatched = every-append (λ k. is_among D k ≡ true) p.placed (s ∷ []) h.dispatched (subst (λ (k : ℕ). is_among D k ≡ true) q tells.0, tt);
       states = subst (λ (vs : List Unfinished). Every (fits_in D (p.placed ++ s ∷ [])) vs) (sym m)
-        (every-map f (λ u. fits_in D p.placed u × (u.serial ≡ s → u.state ≡ Parked)) (fits_in D (p.placed ++ s ∷ [])) us (λ u k. places_row D p.placed s u k.0 k.1)
+          (every-map f (λ u. fits_in D p.placed u × (u.serial ≡ s → u.state ≡ Parked)) (fits_in D (p.placed ++ s ∷ [])) us (λ u k. places_row D p.placed s u k.0 k.1)
           (every-both (fits_in D p.placed) (λ u. u.serial ≡ s → u.state ≡ Parked) us h.states one));
       replies = subst (λ (vs : List Unfinished). Every (λ u. IfSome u.reply (ReplyFits u.command)) vs) (sym m)
-        (every-map f (λ u. IfSome u.reply (ReplyFits u.command)) (λ u. IfSome u.reply (ReplyFits u.command)) us (λ u k. kept_reply (is_at s Parked u) Placed u k) h.replies);
+          (every-map f (λ u. IfSome u.reply (ReplyFits u.command)) (λ u. IfSome u.reply (ReplyFits u.command)) us (λ u k. kept_reply (is_at s Parked u) Placed u k) h.replies);
       rows = rows-trans d.unfinished us (turned s Parked Placed us) h.rows (rows-turned (is_at s Parked) (in_state Placed) us (out_same Placed));
     }
 
@@ -156,17 +154,17 @@ stops s ss (u ∷ us) low high high' r q b i n k =
     let k' = or_parts (is_at s Parked u) (list_any (is_at s Parked) us) k in
     ⊎_elim
     (λ (e : eqb u.serial s ≡ true).
-        let w : u.serial ≡ s = eqb-true u.serial s e in
-        let no : has_state Placed u ≡ false = n.0 w in
-        let other : has_state Parked u ≡ false = ap (λ t. t && has_state Parked u) (sym e) ∙ k'.0 in
-        rw (no, other) refl)
+    let w : u.serial ≡ s = eqb-true u.serial s e in
+    let no : has_state Placed u ≡ false = n.0 w in
+    let other : has_state Parked u ≡ false = ap (λ t. t && has_state Parked u) (sym e) ∙ k'.0 in
+    rw (no, other) refl)
     (λ (e : eqb u.serial s ≡ false).
-        let rest : is_among (map (λ v. v.serial) us) s ≡ true = rw e at i in
-        let w : u.serial < s = before us u.serial r.1 rest in
-        let not_in : is_among (s ∷ ss) u.serial ≡ false = rw (above u.serial s w) (not_above s ss high' u.serial q (omega (arith, w))) in
-        let t : u.state ≡ Placed = b.0 not_in in
-        let yes : has_state Placed u ≡ true = rw t refl in
-        rw yes (stops s ss us u.serial high high' r.1 q b.1 rest n.1 k'.1))
+    let rest : is_among (map (λ v. v.serial) us) s ≡ true = rw e at i in
+    let w : u.serial < s = before us u.serial r.1 rest in
+    let not_in : is_among (s ∷ ss) u.serial ≡ false = rw (above u.serial s w) (not_above s ss high' u.serial q (omega (arith, w))) in
+    let t : u.state ≡ Placed = b.0 not_in in
+    let yes : has_state Placed u ≡ true = rw t refl in
+    rw yes (stops s ss us u.serial high high' r.1 q b.1 rest n.1 k'.1))
     (cases_Bool (eqb u.serial s))
   where
     before : (us : List Unfinished) (low : ℕ) → Rise low (map (λ v. v.serial) us) high → is_among (map (λ v. v.serial) us) s ≡ true → low < s
@@ -185,35 +183,35 @@ all_placed (u ∷ us) h = let t : u.state ≡ Placed = h.0 refl in let yes : has
 passes_by : (D P : List ℕ) (s : ℕ) (ss : List ℕ) (us : List Unfinished) → is_among D s ≡ true → is_among P s ≡ true → Every (fits_in D P) us → PlacedBut (s ∷ ss) us → PlacedBut ss us
 passes_by D P s ss us d p f b =
     every-weaker (λ u. fits_in D P u × (is_among (s ∷ ss) u.serial ≡ false → u.state ≡ Placed)) (λ u. is_among ss u.serial ≡ false → u.state ≡ Placed) us
-      (λ u k n.
-        ⊎_elim
-        (λ (e : eqb s u.serial ≡ true).
-            let q : s ≡ u.serial = eqb-true s u.serial e in
-            let x : is_among D u.serial ≡ true = ap (is_among D) (sym q) ∙ d in
-            let y : is_among P u.serial ≡ true = ap (is_among P) (sym q) ∙ p in
-            let z : state_fits true true false true u.state (is_some u.reply) ≡ true = rw (x, y) at (k.0) in
-            placed_stands false u.state (is_some u.reply) z)
-        (λ (e : eqb s u.serial ≡ false). k.1 (rw e n))
-        (cases_Bool (eqb s u.serial)))
-      (every-both (fits_in D P) (λ u. is_among (s ∷ ss) u.serial ≡ false → u.state ≡ Placed) us f b)
+    (λ u k n.
+    ⊎_elim
+    (λ (e : eqb s u.serial ≡ true).
+    let q : s ≡ u.serial = eqb-true s u.serial e in
+    let x : is_among D u.serial ≡ true = ap (is_among D) (sym q) ∙ d in
+    let y : is_among P u.serial ≡ true = ap (is_among P) (sym q) ∙ p in
+    let z : state_fits true true false true u.state (is_some u.reply) ≡ true = rw (x, y) at (k.0) in
+    placed_stands false u.state (is_some u.reply) z)
+    (λ (e : eqb s u.serial ≡ false). k.1 (rw e n))
+    (cases_Bool (eqb s u.serial)))
+    (every-both (fits_in D P) (λ u. is_among (s ∷ ss) u.serial ≡ false → u.state ≡ Placed) us f b)
 
 -- placing one places no other anew
 still_placed : (s : ℕ) (ss : List ℕ) (us : List Unfinished) → Every (λ u. u.serial ≡ s → u.state ≡ Parked) us → PlacedBut (s ∷ ss) us → PlacedBut ss (map (turning (is_at s Parked) (in_state Placed)) us)
 still_placed s ss us one b =
     every-map (turning (is_at s Parked) (in_state Placed)) (λ u. (u.serial ≡ s → u.state ≡ Parked) × (is_among (s ∷ ss) u.serial ≡ false → u.state ≡ Placed)) (λ u. is_among ss u.serial ≡ false → u.state ≡ Placed) us
-      (λ u k. turn u k.0 k.1) (every-both (λ u. u.serial ≡ s → u.state ≡ Parked) (λ u. is_among (s ∷ ss) u.serial ≡ false → u.state ≡ Placed) us one b)
+    (λ u k. turn u k.0 k.1) (every-both (λ u. u.serial ≡ s → u.state ≡ Parked) (λ u. is_among (s ∷ ss) u.serial ≡ false → u.state ≡ Placed) us one b)
   where
     turn : (u : Unfinished) → (u.serial ≡ s → u.state ≡ Parked) → (is_among (s ∷ ss) u.serial ≡ false → u.state ≡ Placed) → let v : Unfinished = turning (is_at s Parked) (in_state Placed) u in is_among ss v.serial ≡ false → v.state ≡ Placed
     turn u k b =
         ⊎_elim
         (λ (e : eqb u.serial s ≡ true).
-            let t : u.state ≡ Parked = k (eqb-true u.serial s e) in
-            let at : is_at s Parked u ≡ true = rw (e, t) refl in
-            rw at (λ n. refl))
+        let t : u.state ≡ Parked = k (eqb-true u.serial s e) in
+        let at : is_at s Parked u ≡ true = rw (e, t) refl in
+        rw at (λ n. refl))
         (λ (e : eqb u.serial s ≡ false).
-            let at : is_at s Parked u ≡ false = rw e refl in
-            let z : eqb s u.serial ≡ false = ne_eqb s u.serial (λ q. eqb-false u.serial s e (sym q)) in
-            rw at (λ n. b (rw z n)))
+        let at : is_at s Parked u ≡ false = rw e refl in
+        let z : eqb s u.serial ≡ false = ne_eqb s u.serial (λ q. eqb-false u.serial s e (sym q)) in
+        rw at (λ n. b (rw z n)))
         (cases_Bool (eqb u.serial s))
 
 record RunSound (d : DeviceState) (p : Placing) : Type 0 where
@@ -250,22 +248,22 @@ run_sound d p low (s ∷ ss) g r l b h =
     let D : List ℕ = dispatched_serials d.ring in
     ⊎_elim
     (λ (e : is_among p.placed s ≡ true).
-        let x : is_among D s ≡ true = among_every (λ k. is_among D k ≡ true) p.placed s h.dispatched e in
-        rw e (run_sound d p s ss g r.1 l.1 (passes_by D p.placed s ss p.unfinished x e h.states b) h))
+    let x : is_among D s ≡ true = among_every (λ k. is_among D k ≡ true) p.placed s h.dispatched e in
+    rw e (run_sound d p s ss g r.1 l.1 (passes_by D p.placed s ss p.unfinished x e h.states b) h))
     (λ (e : is_among p.placed s ≡ false).
-        ⊎_elim
-        (λ (z : list_any (is_at s Parked) p.unfinished ≡ true).
-            let rr : Rise 0 (map (λ u. u.serial) p.unfinished) d.accepted = rows_risen d p.unfinished g.serials h.rows in
-            let m : turned s Parked Placed p.unfinished ≡ map (turning (is_at s Parked) (in_state Placed)) p.unfinished = turned_map s Parked (in_state Placed) 0 p.unfinished d.accepted rr in
-            let one : Every (λ u. u.serial ≡ s → u.state ≡ Parked) p.unfinished = only_one s Parked p.unfinished 0 d.accepted rr z in
-            let b' : PlacedBut ss (turned s Parked Placed p.unfinished) = subst (λ (vs : List Unfinished). PlacedBut ss vs) (sym m) (still_placed s ss p.unfinished one b) in
-            rw (e, z) (run_sound d (with_placed p s) s ss g r.1 l.1 b' (one_placed d p s g.serials z h)))
-        (λ (z : list_any (is_at s Parked) p.unfinished ≡ false).
-            let rr : Rise 0 (map (λ u. u.serial) p.unfinished) d.accepted = rows_risen d p.unfinished g.serials h.rows in
-            let x : parked_rightly false p.unfinished ≡ true = stops s ss p.unfinished 0 d.accepted d.accepted rr r.1 b (is_there d p s g h l.0 e)
-              (every-weaker (fits_in D p.placed) (λ u. u.serial ≡ s → has_state Placed u ≡ false) p.unfinished (λ u k q. not_placed D p.placed s u e k q) h.states) z in
-            rw (e, z) (record { sound = h; parked = x }))
-        (cases_Bool (list_any (is_at s Parked) p.unfinished)))
+    ⊎_elim
+    (λ (z : list_any (is_at s Parked) p.unfinished ≡ true).
+    let rr : Rise 0 (map (λ u. u.serial) p.unfinished) d.accepted = rows_risen d p.unfinished g.serials h.rows in
+    let m : turned s Parked Placed p.unfinished ≡ map (turning (is_at s Parked) (in_state Placed)) p.unfinished = turned_map s Parked (in_state Placed) 0 p.unfinished d.accepted rr in
+    let one : Every (λ u. u.serial ≡ s → u.state ≡ Parked) p.unfinished = only_one s Parked p.unfinished 0 d.accepted rr z in
+    let b' : PlacedBut ss (turned s Parked Placed p.unfinished) = subst (λ (vs : List Unfinished). PlacedBut ss vs) (sym m) (still_placed s ss p.unfinished one b) in
+    rw (e, z) (run_sound d (with_placed p s) s ss g r.1 l.1 b' (one_placed d p s g.serials z h)))
+    (λ (z : list_any (is_at s Parked) p.unfinished ≡ false).
+    let rr : Rise 0 (map (λ u. u.serial) p.unfinished) d.accepted = rows_risen d p.unfinished g.serials h.rows in
+    let x : parked_rightly false p.unfinished ≡ true = stops s ss p.unfinished 0 d.accepted d.accepted rr r.1 b (is_there d p s g h l.0 e)
+    (every-weaker (fits_in D p.placed) (λ u. u.serial ≡ s → has_state Placed u ≡ false) p.unfinished (λ u k q. not_placed D p.placed s u e k q) h.states) z in
+    rw (e, z) (record { sound = h; parked = x }))
+    (cases_Bool (list_any (is_at s Parked) p.unfinished)))
     (cases_Bool (is_among p.placed s))
 
 -- ==== the response
@@ -291,8 +289,8 @@ placed_sound d p g a h k =
         differ = h.differ;
         dispatched = h.dispatched;
         states = every-weaker (fits_in (dispatched_serials d.ring) p.placed)
-          (λ u. state_fits (is_among (dispatched_serials d.ring) u.serial) (is_among p.placed u.serial) (is_among (take (published_commands d.ring) p.placed) u.serial) d.attached u.state (is_some u.reply) ≡ true) p.unfinished
-          (λ u z. ap (λ b. state_fits (is_among (dispatched_serials d.ring) u.serial) (is_among p.placed u.serial) (is_among (take (published_commands d.ring) p.placed) u.serial) b u.state (is_some u.reply)) a
+            (λ u. state_fits (is_among (dispatched_serials d.ring) u.serial) (is_among p.placed u.serial) (is_among (take (published_commands d.ring) p.placed) u.serial) d.attached u.state (is_some u.reply) ≡ true) p.unfinished
+            (λ u z. ap (λ b. state_fits (is_among (dispatched_serials d.ring) u.serial) (is_among p.placed u.serial) (is_among (take (published_commands d.ring) p.placed) u.serial) b u.state (is_some u.reply)) a
             ∙ (fits_attached (is_among (dispatched_serials d.ring) u.serial) (is_among p.placed u.serial) (is_among (take (published_commands d.ring) p.placed) u.serial) false u.state (is_some u.reply) ∙ z)) h.states;
         replies = h.replies;
         parked = k;
@@ -315,12 +313,12 @@ begins d s h a =
       differ = h.answers.differ;
       dispatched = h.answers.dispatched;
       states = subst (λ (vs : List Unfinished). Every (fits_in D d.placed) vs) (sym m)
-        (every-map f (λ u. is_right d u ≡ true) (fits_in D d.placed) us
+          (every-map f (λ u. is_right d u ≡ true) (fits_in D d.placed) us
           (λ u k. parks_row D d.placed s u
-            (fits_attached (is_among D u.serial) (is_among d.placed u.serial) false (is_among (take (published_commands d.ring) d.placed) u.serial) u.state (is_some u.reply)
-              ∙ (ap (λ b. state_fits (is_among D u.serial) (is_among d.placed u.serial) (is_among (take (published_commands d.ring) d.placed) u.serial) b u.state (is_some u.reply)) (sym a) ∙ k))) h.answers.states);
+          (fits_attached (is_among D u.serial) (is_among d.placed u.serial) false (is_among (take (published_commands d.ring) d.placed) u.serial) u.state (is_some u.reply)
+          ∙ (ap (λ b. state_fits (is_among D u.serial) (is_among d.placed u.serial) (is_among (take (published_commands d.ring) d.placed) u.serial) b u.state (is_some u.reply)) (sym a) ∙ k))) h.answers.states);
       replies = subst (λ (vs : List Unfinished). Every (λ u. IfSome u.reply (ReplyFits u.command)) vs) (sym m)
-        (every-map f (λ u. IfSome u.reply (ReplyFits u.command)) (λ u. IfSome u.reply (ReplyFits u.command)) us (λ u k. kept_reply (is_at s Handled u) Parked u k) h.answers.replies);
+          (every-map f (λ u. IfSome u.reply (ReplyFits u.command)) (λ u. IfSome u.reply (ReplyFits u.command)) us (λ u k. kept_reply (is_at s Handled u) Parked u k) h.answers.replies);
       rows = rows-turned (is_at s Handled) (in_state Parked) us (out_same Parked);
     }
 
@@ -335,10 +333,10 @@ none_left s (u ∷ us) h = (turn u h.0, none_left s us h.1)
         ⊎_elim
         (λ (e : is_at s Handled u ≡ true). let q : eqb u.serial s ≡ true = (and_parts _ _ e).0 in rw (e, q) refl)
         (λ (e : is_at s Handled u ≡ false).
-            ⊎_elim
-            (λ (z : is_at s Parked u ≡ true). rw (e, z) refl)
-            (λ (z : is_at s Parked u ≡ false). rw (e, z) n)
-            (cases_Bool (is_at s Parked u)))
+        ⊎_elim
+        (λ (z : is_at s Parked u ≡ true). rw (e, z) refl)
+        (λ (z : is_at s Parked u ≡ false). rw (e, z) n)
+        (cases_Bool (is_at s Parked u)))
         (cases_Bool (is_at s Handled u))
 
 out_of_order : (d : DeviceState) (s : ℕ) → IsSound d → parked_rightly true d.unfinished ≡ true → parked_rightly true (turned s Parked Placed (with_parked d s)) ≡ true
@@ -361,22 +359,22 @@ every-mapped P (u ∷ us) h = (h.0, every-mapped P us h.1)
 rows_laid : (d : DeviceState) (us : List Unfinished) → SerialsSound d → SameRows d.unfinished us → Every (λ u. is_among (serials_in d.ring.laid) u.serial ≡ true) us
 rows_laid d us h s =
     every-mapped (λ k. is_among (serials_in d.ring.laid) k ≡ true) us
-      (subst (λ (xs : List ℕ). Every (λ k. is_among (serials_in d.ring.laid) k ≡ true) xs) (sym (rows-serials d.unfinished us s ∙ h.order))
-        (every-filter (λ k. not (is_among (finished d) k)) (λ k. is_among (serials_in d.ring.laid) k ≡ true) (serials_in d.ring.laid) (every-among (serials_in d.ring.laid))))
+    (subst (λ (xs : List ℕ). Every (λ k. is_among (serials_in d.ring.laid) k ≡ true) xs) (sym (rows-serials d.unfinished us s ∙ h.order))
+    (every-filter (λ k. not (is_among (finished d) k)) (λ k. is_among (serials_in d.ring.laid) k ≡ true) (serials_in d.ring.laid) (every-among (serials_in d.ring.laid))))
 
 placing_sound : (ooo : Bool) (d : DeviceState) (s : ℕ) → IsSound d → d.settings.flags.ooo ≡ ooo → d.attached ≡ true → is_handled d s ≡ true → IsSound (record d { unfinished = (placed_by ooo (begun d s) s (serials_in d.ring.laid)).unfinished; placed = (placed_by ooo (begun d s) s (serials_in d.ring.laid)).placed })
 placing_sound true d s h o a z =
     let w : list_any (is_at s Parked) (with_parked d s) ≡ true = any-with_first (is_at s Handled) (is_at s Parked) (in_state Parked) d.unfinished (λ u k. and_from _ _ (and_parts _ _ k).0 refl) z in
     let p : parked_rightly true d.unfinished ≡ true = subst (λ (b : Bool). parked_rightly b d.unfinished ≡ true) o h.answers.parked in
     placed_sound d (with_placed (begun d s) s) h a (one_placed d (begun d s) s h.serials w (begins d s h a))
-      (subst (λ (b : Bool). parked_rightly b (turned s Parked Placed (with_parked d s)) ≡ true) (sym o) (out_of_order d s h p))
+    (subst (λ (b : Bool). parked_rightly b (turned s Parked Placed (with_parked d s)) ≡ true) (sym o) (out_of_order d s h p))
 placing_sound false d s h o a z =
     let b : PlacingSound d (begun d s) = begins d s h a in
     let l : Every (λ u. is_among (serials_in d.ring.laid) u.serial ≡ true) (with_parked d s) = rows_laid d (with_parked d s) h.serials b.rows in
     let r = run_sound d (begun d s) 0 (serials_in d.ring.laid) h (laid_rise d h.serials) (every-among (serials_in d.ring.laid))
-      (every-weaker (λ u. is_among (serials_in d.ring.laid) u.serial ≡ true) (λ u. is_among (serials_in d.ring.laid) u.serial ≡ false → u.state ≡ Placed) (with_parked d s) (λ u k n. absurd (false≢true (sym n ∙ k))) l) b in
+    (every-weaker (λ u. is_among (serials_in d.ring.laid) u.serial ≡ true) (λ u. is_among (serials_in d.ring.laid) u.serial ≡ false → u.state ≡ Placed) (with_parked d s) (λ u k n. absurd (false≢true (sym n ∙ k))) l) b in
     placed_sound d (run_placed (begun d s) (serials_in d.ring.laid)) h a r.sound
-      (subst (λ (t : Bool). parked_rightly t (run_placed (begun d s) (serials_in d.ring.laid)).unfinished ≡ true) (sym o) r.parked)
+    (subst (λ (t : Bool). parked_rightly t (run_placed (begun d s) (serials_in d.ring.laid)).unfinished ≡ true) (sym o) r.parked)
 
 handled_attached : (dispatched placed published attached : Bool) (r : Bool) → state_fits dispatched placed published attached Handled r ≡ true → attached ≡ true
 handled_attached true false p true r h = refl
@@ -390,10 +388,10 @@ sound_after_respond d s h =
     let P : Bool → Type 0 = λ b. IsSound (cond b (record d { unfinished = (placing d s).unfinished; placed = (placing d s).placed }) d) in
     ⊎_elim
     (λ (e : is_handled d s ≡ true).
-        let w = found (is_at s Handled) (λ u. is_right d u ≡ true) d.unfinished h.answers.states e in
-        let t : state_fits (is_among (dispatched_serials d.ring) w.0.serial) (is_among d.placed w.0.serial) (is_among (take (published_commands d.ring) d.placed) w.0.serial) d.attached Handled (is_some w.0.reply) ≡ true =
-          subst (λ (x : CommandState). state_fits (is_among (dispatched_serials d.ring) w.0.serial) (is_among d.placed w.0.serial) (is_among (take (published_commands d.ring) d.placed) w.0.serial) d.attached x (is_some w.0.reply) ≡ true) (state_at s Handled w.0 w.1) w.2 in
-        let a : d.attached ≡ true = handled_attached (is_among (dispatched_serials d.ring) w.0.serial) (is_among d.placed w.0.serial) (is_among (take (published_commands d.ring) d.placed) w.0.serial) d.attached (is_some w.0.reply) t in
-        subst P (sym e) (placing_sound d.settings.flags.ooo d s h refl a e))
+    let w = found (is_at s Handled) (λ u. is_right d u ≡ true) d.unfinished h.answers.states e in
+    let t : state_fits (is_among (dispatched_serials d.ring) w.0.serial) (is_among d.placed w.0.serial) (is_among (take (published_commands d.ring) d.placed) w.0.serial) d.attached Handled (is_some w.0.reply) ≡ true =
+    subst (λ (x : CommandState). state_fits (is_among (dispatched_serials d.ring) w.0.serial) (is_among d.placed w.0.serial) (is_among (take (published_commands d.ring) d.placed) w.0.serial) d.attached x (is_some w.0.reply) ≡ true) (state_at s Handled w.0 w.1) w.2 in
+    let a : d.attached ≡ true = handled_attached (is_among (dispatched_serials d.ring) w.0.serial) (is_among d.placed w.0.serial) (is_among (take (published_commands d.ring) d.placed) w.0.serial) d.attached (is_some w.0.reply) t in
+    subst P (sym e) (placing_sound d.settings.flags.ooo d s h refl a e))
     (λ (e : is_handled d s ≡ false). subst P (sym e) h)
     (cases_Bool (is_handled d s))

@@ -1,7 +1,7 @@
 -- A command that is submitted, or that enters, leaves the device sound.
-use Rattle.std.proofs.Common.{◌≡◌, ◌≢◌, ℕ, ◌+◌, ◌-◌, ◌*◌, ◌/◌, ◌<◌, ◌≤◌, Bool, true, false, not, cond, List, [], ◌∷◌, ◌++◌, length, map, refl, sym, ap, ◌∙◌, arith, ⊎_elim, subst, ◌||◌, ◌&&◌, eqb, ◌==◌, ltb, leb, if◌then◌else◌, append_assoc, append-nil, Some, None, Option, suc, zero}
-use Rattle.std.specs.List.{list_any, filter, count_by, sum_by}
-use Rattle.std.proofs.lemmas.Bool.{cases_Bool, leb-true, ltb-false, leb-false, le-leb, lt-leb, eqb-true, eqb-false, eq-eqb, ne_eqb, and_parts, true≢false, false≢true}
+use Rattle.std.proofs.Common.{◌≡◌, ◌≢◌, ℕ, ◌+◌, ◌*◌, ◌/◌, Bool, true, false, not, cond, List, [], ◌∷◌, ◌++◌, length, refl, sym, ap, ◌∙◌, arith, ⊎_elim, subst, ◌&&◌, eqb, ◌==◌, ltb, leb, append_assoc, append-nil, suc}
+use Rattle.std.specs.List.{count_by}
+use Rattle.std.proofs.lemmas.Bool.{cases_Bool, leb-true, ltb-false, leb-false, le-leb, lt-leb, eqb-true, eqb-false, and_parts}
 use Rattle.std.proofs.lemmas.List.{map-append}
 use Rattle.std.proofs.lemmas.List.Sums.{sum_by-cons, sum_by_push}
 use Rattle.tcmu_types.specs.Data.{CommandData}
@@ -12,10 +12,10 @@ use Rattle.tcmu_types.specs.declared.answer.Enter.{Enter}
 use Rattle.tcmu_types.specs.declared.answer.Enter.TheVariants as enter
 use Rattle.tcmu_model.specs.RingState.{serials_in, need, free}
 use Rattle.tcmu_model.specs.Device.{Unfinished, Delayed, DeviceState}
-use Rattle.tcmu_model.specs.Events.{blocks_in, entry_length_in, fits_ring, fits_blocks, waiting, with_command, with_delayed, one_accepted, queued_or_full, queued_or_delayed, submit_answer, after_submit, enter_answer, after_enter, after_entering, free_blocks, is_open}
-use Rattle.tcmu_model.specs.Sound.{Every, Rise, CanWait, delayed_serials, times_logged, times_open, is_accepted, is_open_at, is_delayed_at, RingSound, SerialsSound, AnswersSound, RoomSound, IsSound}
+use Rattle.tcmu_model.specs.Events.{blocks_in, entry_length_in, fits_ring, fits_blocks, waiting, with_command, with_delayed, one_accepted, queued_or_full, queued_or_delayed, submit_answer, after_submit, enter_answer, after_enter, after_entering, free_blocks}
+use Rattle.tcmu_model.specs.Sound.{Every, Rise, CanWait, delayed_serials, times_open, is_open_at, is_delayed_at, IsSound}
 use Rattle.tcmu_model.proofs.Everies.{every-append}
-use Rattle.tcmu_model.proofs.Rises.{rise_push, rise_order}
+use Rattle.tcmu_model.proofs.Rises.{rise_push}
 use Rattle.tcmu_model.proofs.SoundLaying.{entered, sound_entered}
 
 -- ==== the serials that are accepted
@@ -24,17 +24,17 @@ pub accepted_more : (n k : ℕ) → cond {A = ℕ} (ltb 0 k && leb k (n + 1)) 1 
 accepted_more n k =
     ⊎_elim
     (λ (e : eqb (n + 1) k ≡ true).
-        let q : n + 1 ≡ k = eqb-true (n + 1) k e in
-        let a : ltb 0 k ≡ true = le-leb 1 k (omega (arith, q)) in
-        let b : leb k (n + 1) ≡ true = le-leb k (n + 1) (omega (arith, q)) in
-        let c : leb k n ≡ false = lt-leb k n (omega (arith, q)) in
-        rw (e, a, b, c) refl)
+    let q : n + 1 ≡ k = eqb-true (n + 1) k e in
+    let a : ltb 0 k ≡ true = le-leb 1 k (omega (arith, q)) in
+    let b : leb k (n + 1) ≡ true = le-leb k (n + 1) (omega (arith, q)) in
+    let c : leb k n ≡ false = lt-leb k n (omega (arith, q)) in
+    rw (e, a, b, c) refl)
     (λ (e : eqb (n + 1) k ≡ false).
-        let q : n + 1 ≢ k = eqb-false (n + 1) k e in
-        ⊎_elim
-        (λ (z : leb k n ≡ true). let b : leb k (n + 1) ≡ true = le-leb k (n + 1) (omega (arith, leb-true k n z)) in rw (e, z, b) (plus (ltb 0 k && true)))
-        (λ (z : leb k n ≡ false). let b : leb k (n + 1) ≡ false = lt-leb k (n + 1) (omega (arith, leb-false k n z, q)) in rw (e, z, b) (plus (ltb 0 k && false)))
-        (cases_Bool (leb k n)))
+    let q : n + 1 ≢ k = eqb-false (n + 1) k e in
+    ⊎_elim
+    (λ (z : leb k n ≡ true). let b : leb k (n + 1) ≡ true = le-leb k (n + 1) (omega (arith, leb-true k n z)) in rw (e, z, b) (plus (ltb 0 k && true)))
+    (λ (z : leb k n ≡ false). let b : leb k (n + 1) ≡ false = lt-leb k (n + 1) (omega (arith, leb-false k n z, q)) in rw (e, z, b) (plus (ltb 0 k && false)))
+    (cases_Bool (leb k n)))
     (cases_Bool (eqb (n + 1) k))
   where
     plus : (b : Bool) → cond {A = ℕ} b 1 0 ≡ cond b 1 0 + 0
@@ -66,9 +66,9 @@ sound_queued d c h isc fr fb none =
     let r0 : Rise 0 (serials_in d.ring.laid ++ []) n = subst (λ (ws : List Delayed). Rise 0 (serials_in d.ring.laid ++ delayed_serials ws) n) none h.serials.rise in
     let r1 : Rise 0 (serials_in d.ring.laid) n = subst (λ (xs : List ℕ). Rise 0 xs n) (append-nil (serials_in d.ring.laid)) r0 in
     sound_entered d (n + 1) c d.delayed (n + 1) h isc fr fb
-      (subst (λ (ws : List Delayed). Rise 0 (serials_in d.ring.laid ++ (n + 1) ∷ delayed_serials ws) (n + 1)) (sym none) (rise_push 0 (serials_in d.ring.laid) n (n + 1) (omega arith) r1))
-      h.room.delayed (λ q. none)
-      (λ k. omega (arith, h.serials.accounted k, accepted_more n k, open_push k (n + 1) d.unfinished (waiting d (n + 1) c) refl refl))
+    (subst (λ (ws : List Delayed). Rise 0 (serials_in d.ring.laid ++ (n + 1) ∷ delayed_serials ws) (n + 1)) (sym none) (rise_push 0 (serials_in d.ring.laid) n (n + 1) (omega arith) r1))
+    h.room.delayed (λ q. none)
+    (λ k. omega (arith, h.serials.accounted k, accepted_more n k, open_push k (n + 1) d.unfinished (waiting d (n + 1) c) refl refl))
 
 delayed_push : (k s : ℕ) (ws : List Delayed) (w : Delayed) → w.serial ≡ s → count_by (is_delayed_at k) (ws ++ w ∷ []) ≡ count_by (is_delayed_at k) ws + cond (eqb s k) 1 0
 delayed_push k s ws w e =
@@ -83,7 +83,7 @@ sound_delayed d c h can some =
     let w : Delayed = record { serial = n + 1; command = c; leaves = d.now + d.settings.qfull } in
     let e : delayed_serials (d.delayed ++ w ∷ []) ≡ delayed_serials d.delayed ++ (n + 1) ∷ [] = map-append (λ (v : Delayed). v.serial) d.delayed (w ∷ []) in
     let r : Rise 0 ((serials_in d.ring.laid ++ delayed_serials d.delayed) ++ (n + 1) ∷ []) (n + 1) =
-      rise_push 0 (serials_in d.ring.laid ++ delayed_serials d.delayed) n (n + 1) (omega arith) h.serials.rise in
+    rise_push 0 (serials_in d.ring.laid ++ delayed_serials d.delayed) n (n + 1) (omega arith) h.serials.rise in
     record {
       settings = h.settings;
       ring = h.ring;
@@ -94,8 +94,12 @@ sound_delayed d c h can some =
         accounted = λ k. omega (arith, h.serials.accounted k, accepted_more n k, delayed_push k (n + 1) d.delayed w refl);
       };
       answers = record {
-        published = h.answers.published; differ = h.answers.differ; dispatched = h.answers.dispatched; states = h.answers.states;
-        replies = h.answers.replies; parked = h.answers.parked;
+        published = h.answers.published;
+        differ = h.answers.differ;
+        dispatched = h.answers.dispatched;
+        states = h.answers.states;
+        replies = h.answers.replies;
+        parked = h.answers.parked;
       };
       room = record {
         blocks = h.room.blocks;
@@ -110,10 +114,10 @@ unfolding after_submit queued_or_full
 full_or d c h isc q =
     ⊎_elim
     (λ (e : fits_ring d c ≡ true).
-        ⊎_elim
-        (λ (z : fits_blocks d c ≡ true). rw (e, z) (sound_queued d c h isc e z (h.room.none q)))
-        (λ (z : fits_blocks d c ≡ false). rw (e, z) h)
-        (cases_Bool (fits_blocks d c)))
+    ⊎_elim
+    (λ (z : fits_blocks d c ≡ true). rw (e, z) (sound_queued d c h isc e z (h.room.none q)))
+    (λ (z : fits_blocks d c ≡ false). rw (e, z) h)
+    (cases_Bool (fits_blocks d c)))
     (λ (e : fits_ring d c ≡ false). rw e h)
     (cases_Bool (fits_ring d c))
 
@@ -122,9 +126,9 @@ unfolding after_submit queued_or_delayed
 delayed_or d c h can q =
     ⊎_elim
     (λ (e : (fits_ring d c && fits_blocks d c && (length d.delayed == 0)) ≡ true).
-        let f : ((fits_ring d c && fits_blocks d c) ≡ true) × ((length d.delayed == 0) ≡ true) = and_parts _ _ e in
-        let g : (fits_ring d c ≡ true) × (fits_blocks d c ≡ true) = and_parts _ _ f.0 in
-        rw e (sound_queued d c h can.command g.0 g.1 (none_waits d.delayed f.1)))
+    let f : ((fits_ring d c && fits_blocks d c) ≡ true) × ((length d.delayed == 0) ≡ true) = and_parts _ _ e in
+    let g : (fits_ring d c ≡ true) × (fits_blocks d c ≡ true) = and_parts _ _ f.0 in
+    rw e (sound_queued d c h can.command g.0 g.1 (none_waits d.delayed f.1)))
     (λ (e : (fits_ring d c && fits_blocks d c && (length d.delayed == 0)) ≡ false). rw e (sound_delayed d c h can q))
     (cases_Bool (fits_ring d c && fits_blocks d c && (length d.delayed == 0)))
 
@@ -137,20 +141,20 @@ sound_after_submit d c h isc =
     ⊎_elim
     (λ (b : d.blocked ≡ true). answered_by d c submit.Busy (rw b refl) h)
     (λ (b : d.blocked ≡ false).
-        ⊎_elim
-        (λ (r : ltb d.ring.size (2 * entry_length_in d c) ≡ true). answered_by d c (submit.TooBig (entry_length_in d c) (d.ring.size / 2)) (rw (b, r) refl) h)
-        (λ (r : ltb d.ring.size (2 * entry_length_in d c) ≡ false).
-            ⊎_elim
-            (λ (l : ltb d.settings.blocks (blocks_in d c) ≡ true). answered_by d c (submit.TooBig (blocks_in d c) d.settings.blocks) (rw (b, r, l) refl) h)
-            (λ (l : ltb d.settings.blocks (blocks_in d c) ≡ false).
-                ⊎_elim
-                (λ (q : eqb d.settings.qfull 0 ≡ true). answered_by d c (queued_or_full d c) (rw (b, r, l, q) refl) (full_or d c h isc (eqb-true d.settings.qfull 0 q)))
-                (λ (q : eqb d.settings.qfull 0 ≡ false).
-                    answered_by d c (queued_or_delayed d c) (rw (b, r, l, q) refl)
-                      (delayed_or d c h (record { command = isc; ring = omega (arith, ltb-false _ _ r, h.ring.size); blocks = ltb-false _ _ l }) (eqb-false d.settings.qfull 0 q)))
-                (cases_Bool (eqb d.settings.qfull 0)))
-            (cases_Bool (ltb d.settings.blocks (blocks_in d c))))
-        (cases_Bool (ltb d.ring.size (2 * entry_length_in d c))))
+    ⊎_elim
+    (λ (r : ltb d.ring.size (2 * entry_length_in d c) ≡ true). answered_by d c (submit.TooBig (entry_length_in d c) (d.ring.size / 2)) (rw (b, r) refl) h)
+    (λ (r : ltb d.ring.size (2 * entry_length_in d c) ≡ false).
+    ⊎_elim
+    (λ (l : ltb d.settings.blocks (blocks_in d c) ≡ true). answered_by d c (submit.TooBig (blocks_in d c) d.settings.blocks) (rw (b, r, l) refl) h)
+    (λ (l : ltb d.settings.blocks (blocks_in d c) ≡ false).
+    ⊎_elim
+    (λ (q : eqb d.settings.qfull 0 ≡ true). answered_by d c (queued_or_full d c) (rw (b, r, l, q) refl) (full_or d c h isc (eqb-true d.settings.qfull 0 q)))
+    (λ (q : eqb d.settings.qfull 0 ≡ false).
+    answered_by d c (queued_or_delayed d c) (rw (b, r, l, q) refl)
+    (delayed_or d c h (record { command = isc; ring = omega (arith, ltb-false _ _ r, h.ring.size); blocks = ltb-false _ _ l }) (eqb-false d.settings.qfull 0 q)))
+    (cases_Bool (eqb d.settings.qfull 0)))
+    (cases_Bool (ltb d.settings.blocks (blocks_in d c))))
+    (cases_Bool (ltb d.ring.size (2 * entry_length_in d c))))
     (cases_Bool d.blocked)
 
 -- ==== enter
@@ -167,22 +171,22 @@ entering d (w ∷ ws) h e =
     let can : Every (λ v. CanWait d.settings v.command) (w ∷ ws) = subst (λ (vs : List Delayed). Every (λ v. CanWait d.settings v.command) vs) e h.room.delayed in
     ⊎_elim
     (λ (r : fits_ring d w.command ≡ true).
-        ⊎_elim
-        (λ (b : fits_blocks d w.command ≡ true).
-            let a : enter_answer d ≡ enter.Entered w.serial = rw (e, r, b) refl in
-            let x : after_entering d d.delayed ≡ entered d w.serial w.command ws d.accepted = ap (after_entering d) e in
-            let s : IsSound (entered d w.serial w.command ws d.accepted) = sound_entered d w.serial w.command ws d.accepted h can.0.command r b
-              (subst (λ (vs : List Delayed). Rise 0 (serials_in d.ring.laid ++ delayed_serials vs) d.accepted) e h.serials.rise)
-              can.1 (λ q. absurd (filled w ws (sym e ∙ h.room.none q)))
-              (λ k. omega (arith, h.serials.accounted k, entered_open d w ws k e)) in
-            subst (λ (y : Enter). IsSound (after_enter d y)) (sym a) (subst IsSound (sym x) s))
-        (λ (b : fits_blocks d w.command ≡ false).
-            let a : enter_answer d ≡ enter.FullBlocks (blocks_in d w.command) (free_blocks d) = rw (e, r, b) refl in
-            subst (λ (x : Enter). IsSound (after_enter d x)) (sym a) h)
-        (cases_Bool (fits_blocks d w.command)))
+    ⊎_elim
+    (λ (b : fits_blocks d w.command ≡ true).
+    let a : enter_answer d ≡ enter.Entered w.serial = rw (e, r, b) refl in
+    let x : after_entering d d.delayed ≡ entered d w.serial w.command ws d.accepted = ap (after_entering d) e in
+    let s : IsSound (entered d w.serial w.command ws d.accepted) = sound_entered d w.serial w.command ws d.accepted h can.0.command r b
+    (subst (λ (vs : List Delayed). Rise 0 (serials_in d.ring.laid ++ delayed_serials vs) d.accepted) e h.serials.rise)
+    can.1 (λ q. absurd (filled w ws (sym e ∙ h.room.none q)))
+    (λ k. omega (arith, h.serials.accounted k, entered_open d w ws k e)) in
+    subst (λ (y : Enter). IsSound (after_enter d y)) (sym a) (subst IsSound (sym x) s))
+    (λ (b : fits_blocks d w.command ≡ false).
+    let a : enter_answer d ≡ enter.FullBlocks (blocks_in d w.command) (free_blocks d) = rw (e, r, b) refl in
+    subst (λ (x : Enter). IsSound (after_enter d x)) (sym a) h)
+    (cases_Bool (fits_blocks d w.command)))
     (λ (r : fits_ring d w.command ≡ false).
-        let a : enter_answer d ≡ enter.FullRing (need d.ring (entry_length_in d w.command)) (free d.ring) = rw (e, r) refl in
-        subst (λ (x : Enter). IsSound (after_enter d x)) (sym a) h)
+    let a : enter_answer d ≡ enter.FullRing (need d.ring (entry_length_in d w.command)) (free d.ring) = rw (e, r) refl in
+    subst (λ (x : Enter). IsSound (after_enter d x)) (sym a) h)
     (cases_Bool (fits_ring d w.command))
   where
     filled : (w : Delayed) (ws : List Delayed) → w ∷ ws ≡ [] → ⊥

@@ -1,24 +1,23 @@
 -- A dispatch, and a handler's answer, leave the device sound.
-use Rattle.std.proofs.Common.{◌≡◌, ℕ, ◌+◌, ◌-◌, ◌<◌, ◌≤◌, Bool, true, false, not, cond, List, [], ◌∷◌, ◌++◌, length, take, drop, map, slice_get, refl, sym, ap, ◌∙◌, arith, ⊎_elim, subst, ◌||◌, ◌&&◌, eqb, if◌then◌else◌, Some, None, Option, suc, zero, append_assoc, append-nil}
-use Rattle.std.specs.List.{list_any, filter, prefix_len}
+use Rattle.std.proofs.Common.{◌≡◌, ℕ, ◌+◌, ◌<◌, Bool, true, false, cond, List, [], ◌∷◌, ◌++◌, length, take, drop, map, slice_get, refl, sym, ap, ◌∙◌, arith, ⊎_elim, subst, ◌||◌, eqb, if◌then◌else◌, Some, None, Option, suc, zero, append_assoc, append-nil}
+use Rattle.std.specs.List.{prefix_len}
 use Rattle.std.specs.Option.{is_some}
 use Rattle.std.specs.Prelude.{IfSome}
-use Rattle.std.proofs.lemmas.Bool.{cases_Bool, true≢false, false≢true, or_parts, and_parts, eqb-true, eqb-false, eq-eqb, ne_eqb, or_left, or_right}
+use Rattle.std.proofs.lemmas.Bool.{cases_Bool, false≢true, eqb-true, eqb-false, eq-eqb, ne_eqb, or_left, or_right}
 use Rattle.tcmu_types.specs.Data.{CommandData, ReplyData}
 use Rattle.tcmu_model.specs.declared.state.CommandState.{CommandState}
-use Rattle.tcmu_model.specs.declared.state.CommandState.TheVariants.{Waiting, Out, Handled, Parked, Placed, Lost}
+use Rattle.tcmu_model.specs.declared.state.CommandState.TheVariants.{Waiting, Out, Handled, Parked, Placed}
 use Rattle.tcmu_model.specs.Lists.{first_of, with_first}
 use Rattle.tcmu_model.specs.States.{same_state}
-use Rattle.tcmu_model.specs.RingState.{RingState, Item, Laid, Pad, Cmd, Tmr, is_pad, serial_in, serials_in, next_place, published_commands}
+use Rattle.tcmu_model.specs.RingState.{Item, Laid, Pad, Cmd, Tmr, is_pad, serial_in, serials_in, next_place, published_commands}
 use Rattle.tcmu_model.specs.Device.{Unfinished, DeviceState, has_state, is_at}
 use Rattle.tcmu_model.specs.Events.{is_among, in_state, turned, next_item, passed, after_item, after_dispatch, command_out, with_reply, after_handle}
-use Rattle.tcmu_model.specs.Sound.{Every, Rise, ReplyFits, dispatched_serials, state_fits, is_right, parked_rightly, RingSound, SerialsSound, AnswersSound, IsSound}
-use Rattle.tcmu_model.proofs.Counts.{state_at, serial_at}
-use Rattle.tcmu_model.proofs.Everies.{every-map, every-weaker, every-both, found}
+use Rattle.tcmu_model.specs.Sound.{Every, Rise, ReplyFits, dispatched_serials, state_fits, is_right, parked_rightly, RingSound, IsSound}
+use Rattle.tcmu_model.proofs.Counts.{state_at}
+use Rattle.tcmu_model.proofs.Everies.{every-map, every-weaker}
 use Rattle.tcmu_model.proofs.Rises.{rise_seam, not_among, among-append, among_every}
-use Rattle.tcmu_model.proofs.Places.{within, any_first}
+use Rattle.tcmu_model.proofs.Places.{within}
 use Rattle.tcmu_model.proofs.Turning.{turning, turned_map}
-use Rattle.tcmu_model.proofs.Laying.{serials-append}
 use Rattle.tcmu_model.proofs.Basics.{laid_rise, rows_rise, serials_split}
 use Rattle.tcmu_model.proofs.Rows.{Same, SameRows, rows-turned, serials_same, room_same, undispatched_waits, parked_kept}
 
@@ -40,6 +39,7 @@ pads_sent m (x ∷ is) i e h =
     first : (m : ℕ) → m ≡ 0 → slice_get (x ∷ is) m ≡ Some i → serials_in (take (suc m) (x ∷ is)) ≡ serial_in i
     first zero z h = let same : x ≡ i = cc in append-nil (serial_in x) ∙ ap serial_in same
     first (suc m) z h = absurd (omega (arith, z))
+
     padded : (m : ℕ) → m ≡ 1 + prefix_len is_pad is → slice_get (x ∷ is) m ≡ Some i → serial_in x ≡ [] →
         ((k : ℕ) → k ≡ prefix_len is_pad is → slice_get is k ≡ Some i → serials_in (take (suc k) is) ≡ serial_in i) → serials_in (take (suc m) (x ∷ is)) ≡ serial_in i
     padded zero z h n more = absurd (omega (arith, z))
@@ -62,19 +62,19 @@ sent_row : (D : List ℕ) (P : List ℕ) (A : List ℕ) (at : Bool) (s : ℕ) (u
 sent_row D P A at s u a nd np h =
     ⊎_elim
     (λ (e : eqb u.serial s ≡ true).
-        let q : u.serial ≡ s = eqb-true u.serial s e in
-        let d0 : is_among D u.serial ≡ false = ap (is_among D) q ∙ nd in
-        let p0 : is_among P u.serial ≡ false = ap (is_among P) q ∙ np in
-        let h' : state_fits false (is_among P u.serial) (is_among A u.serial) at u.state (is_some u.reply) ≡ true = rw d0 at h in
-        let w = undispatched_waits (is_among P u.serial) (is_among A u.serial) at u.state (is_some u.reply) h' in
-        let t : is_at s Waiting u ≡ true = rw (e, w.0) refl in
-        let d1 : is_among (D ++ s ∷ []) u.serial ≡ true = among-append D (s ∷ []) u.serial ∙ or_right (is_among D u.serial) (is_among (s ∷ []) u.serial) (let z : eqb s u.serial ≡ true = eq-eqb s u.serial (sym q) in rw z refl) in
-        rw (t, d1, p0, a, w.1) refl)
+    let q : u.serial ≡ s = eqb-true u.serial s e in
+    let d0 : is_among D u.serial ≡ false = ap (is_among D) q ∙ nd in
+    let p0 : is_among P u.serial ≡ false = ap (is_among P) q ∙ np in
+    let h' : state_fits false (is_among P u.serial) (is_among A u.serial) at u.state (is_some u.reply) ≡ true = rw d0 at h in
+    let w = undispatched_waits (is_among P u.serial) (is_among A u.serial) at u.state (is_some u.reply) h' in
+    let t : is_at s Waiting u ≡ true = rw (e, w.0) refl in
+    let d1 : is_among (D ++ s ∷ []) u.serial ≡ true = among-append D (s ∷ []) u.serial ∙ or_right (is_among D u.serial) (is_among (s ∷ []) u.serial) (let z : eqb s u.serial ≡ true = eq-eqb s u.serial (sym q) in rw z refl) in
+    rw (t, d1, p0, a, w.1) refl)
     (λ (e : eqb u.serial s ≡ false).
-        let t : is_at s Waiting u ≡ false = rw e refl in
-        let z : eqb s u.serial ≡ false = ne_eqb s u.serial (λ q. eqb-false u.serial s e (sym q)) in
-        let d1 : is_among (D ++ s ∷ []) u.serial ≡ is_among D u.serial = among-append D (s ∷ []) u.serial ∙ none D z in
-        rw (t, d1) h)
+    let t : is_at s Waiting u ≡ false = rw e refl in
+    let z : eqb s u.serial ≡ false = ne_eqb s u.serial (λ q. eqb-false u.serial s e (sym q)) in
+    let d1 : is_among (D ++ s ∷ []) u.serial ≡ is_among D u.serial = among-append D (s ∷ []) u.serial ∙ none D z in
+    rw (t, d1) h)
     (cases_Bool (eqb u.serial s))
   where
     none : (D : List ℕ) → eqb s u.serial ≡ false → (is_among D u.serial || is_among (s ∷ []) u.serial) ≡ is_among D u.serial
@@ -95,8 +95,13 @@ ring_passed : (d : DeviceState) (i : Item) → next_item d ≡ Some i → RingSo
 ring_passed d i e h =
     let w : next_place d.ring < length d.ring.laid = within d.ring.laid (next_place d.ring) i e in
     record {
-      size = h.size; cleared = h.cleared; published = omega (arith, h.published); dispatched = omega (arith, w);
-      room = h.room; items = h.items; ends = h.ends;
+      size = h.size;
+      cleared = h.cleared;
+      published = omega (arith, h.published);
+      dispatched = omega (arith, w);
+      room = h.room;
+      items = h.items;
+      ends = h.ends;
     }
 
 sent_serials : (d : DeviceState) (i : Item) → next_item d ≡ Some i → dispatched_serials (passed d.ring) ≡ dispatched_serials d.ring ++ serial_in i
@@ -113,10 +118,12 @@ other_sent d i e n h =
       ring = ring_passed d i e h.ring;
       serials = record { rise = h.serials.rise; order = h.serials.order; laid = h.serials.laid; accounted = h.serials.accounted };
       answers = record {
-        published = h.answers.published; differ = h.answers.differ;
+        published = h.answers.published;
+        differ = h.answers.differ;
         dispatched = subst (λ (xs : List ℕ). Every (λ k. is_among xs k ≡ true) d.placed) (sym s) h.answers.dispatched;
         states = subst (λ (xs : List ℕ). Every (λ u. state_fits (is_among xs u.serial) (is_among d.placed u.serial) (is_among (take (published_commands d.ring) d.placed) u.serial) d.attached u.state (is_some u.reply) ≡ true) d.unfinished) (sym s) h.answers.states;
-        replies = h.answers.replies; parked = h.answers.parked;
+        replies = h.answers.replies;
+        parked = h.answers.parked;
       };
       room = record { blocks = h.room.blocks; delayed = h.room.delayed; none = h.room.none; now = h.room.now };
     }
@@ -141,22 +148,23 @@ command_sent d n s c a e h =
     let ser = serials_same d (turned s Waiting Out us) rows h.serials in
     let room = room_same d (turned s Waiting Out us) rows h.room in
     let new : Every (λ u. state_fits (is_among (D ++ s ∷ []) u.serial) (is_among d.placed u.serial) (is_among (take (published_commands d.ring) d.placed) u.serial) d.attached u.state (is_some u.reply) ≡ true) (map f us) =
-      every-map f (λ u. is_right d u ≡ true) (λ u. state_fits (is_among (D ++ s ∷ []) u.serial) (is_among d.placed u.serial) (is_among (take (published_commands d.ring) d.placed) u.serial) d.attached u.state (is_some u.reply) ≡ true) us
-        (λ u k. sent_row D d.placed (take (published_commands d.ring) d.placed) d.attached s u a nd np k) h.answers.states in
+    every-map f (λ u. is_right d u ≡ true) (λ u. state_fits (is_among (D ++ s ∷ []) u.serial) (is_among d.placed u.serial) (is_among (take (published_commands d.ring) d.placed) u.serial) d.attached u.state (is_some u.reply) ≡ true) us
+    (λ u k. sent_row D d.placed (take (published_commands d.ring) d.placed) d.attached s u a nd np k) h.answers.states in
     record {
       settings = h.settings;
       ring = ring_passed d i e h.ring;
       serials = record { rise = ser.rise; order = ser.order; laid = ser.laid; accounted = ser.accounted };
       answers = record {
-        published = h.answers.published; differ = h.answers.differ;
+        published = h.answers.published;
+        differ = h.answers.differ;
         dispatched = subst (λ (xs : List ℕ). Every (λ k. is_among xs k ≡ true) d.placed) (sym sent)
-          (every-weaker (λ k. is_among D k ≡ true) (λ k. is_among (D ++ s ∷ []) k ≡ true) d.placed (λ k z. among-append D (s ∷ []) k ∙ or_left (is_among D k) (is_among (s ∷ []) k) z) h.answers.dispatched);
+            (every-weaker (λ k. is_among D k ≡ true) (λ k. is_among (D ++ s ∷ []) k ≡ true) d.placed (λ k z. among-append D (s ∷ []) k ∙ or_left (is_among D k) (is_among (s ∷ []) k) z) h.answers.dispatched);
         states = subst (λ (xs : List ℕ). Every (λ u. state_fits (is_among xs u.serial) (is_among d.placed u.serial) (is_among (take (published_commands d.ring) d.placed) u.serial) d.attached u.state (is_some u.reply) ≡ true) (turned s Waiting Out us)) (sym sent)
-          (subst (λ (vs : List Unfinished). Every (λ u. state_fits (is_among (D ++ s ∷ []) u.serial) (is_among d.placed u.serial) (is_among (take (published_commands d.ring) d.placed) u.serial) d.attached u.state (is_some u.reply) ≡ true) vs) (sym m) new);
+            (subst (λ (vs : List Unfinished). Every (λ u. state_fits (is_among (D ++ s ∷ []) u.serial) (is_among d.placed u.serial) (is_among (take (published_commands d.ring) d.placed) u.serial) d.attached u.state (is_some u.reply) ≡ true) vs) (sym m) new);
         replies = subst (λ (vs : List Unfinished). Every (λ u. IfSome u.reply (ReplyFits u.command)) vs) (sym m)
-          (every-map f (λ u. IfSome u.reply (ReplyFits u.command)) (λ u. IfSome u.reply (ReplyFits u.command)) us (λ u k. kept_reply (is_at s Waiting u) u k) h.answers.replies);
+            (every-map f (λ u. IfSome u.reply (ReplyFits u.command)) (λ u. IfSome u.reply (ReplyFits u.command)) us (λ u k. kept_reply (is_at s Waiting u) u k) h.answers.replies);
         parked = ap (parked_rightly d.settings.flags.ooo) m
-          ∙ (parked_kept d.settings.flags.ooo f us (λ u. keeps_state Parked s Waiting Out u refl refl) (λ u. keeps_state Placed s Waiting Out u refl refl) ∙ h.answers.parked);
+            ∙ (parked_kept d.settings.flags.ooo f us (λ u. keeps_state Parked s Waiting Out u refl refl) (λ u. keeps_state Placed s Waiting Out u refl refl) ∙ h.answers.parked);
       };
       room = record { blocks = room.blocks; delayed = room.delayed; none = room.none; now = room.now };
     }
@@ -204,9 +212,9 @@ handled_row : (s : ℕ) (reply : ReplyData) (D P A : List ℕ) (at : Bool) (u : 
 handled_row s reply D P A at u h =
     ⊎_elim
     (λ (e : is_at s Out u ≡ true).
-        let t : u.state ≡ Out = state_at s Out u e in
-        let h' : state_fits (is_among D u.serial) (is_among P u.serial) (is_among A u.serial) at Out (is_some u.reply) ≡ true = rw t at h in
-        rw e (handled_fits (is_among D u.serial) (is_among P u.serial) (is_among A u.serial) at (is_some u.reply) h'))
+    let t : u.state ≡ Out = state_at s Out u e in
+    let h' : state_fits (is_among D u.serial) (is_among P u.serial) (is_among A u.serial) at Out (is_some u.reply) ≡ true = rw t at h in
+    rw e (handled_fits (is_among D u.serial) (is_among P u.serial) (is_among A u.serial) at (is_some u.reply) h'))
     (λ (e : is_at s Out u ≡ false). rw e h)
     (cases_Bool (is_at s Out u))
 
@@ -223,10 +231,10 @@ first_replies s reply [] u e fits h = tt
 first_replies s reply (v ∷ us) u e fits h =
     ⊎_elim
     (λ (z : is_at s Out v ≡ true).
-        let k : Some v ≡ Some u = rw z at e in
-        let q : v ≡ u = cc in
-        let w : ReplyFits v.command reply = subst (λ (x : Unfinished). ReplyFits x.command reply) (sym q) fits in
-        rw z (w, h.1))
+    let k : Some v ≡ Some u = rw z at e in
+    let q : v ≡ u = cc in
+    let w : ReplyFits v.command reply = subst (λ (x : Unfinished). ReplyFits x.command reply) (sym q) fits in
+    rw z (w, h.1))
     (λ (z : is_at s Out v ≡ false). let k : first_of (is_at s Out) us ≡ Some u = rw z at e in rw z (h.0, first_replies s reply us u k fits h.1))
     (cases_Bool (is_at s Out v))
 
@@ -243,12 +251,14 @@ sound_after_handle d s reply u h e fits =
       ring = h.ring;
       serials = serials_same d vs rows h.serials;
       answers = record {
-        published = h.answers.published; differ = h.answers.differ; dispatched = h.answers.dispatched;
+        published = h.answers.published;
+        differ = h.answers.differ;
+        dispatched = h.answers.dispatched;
         states = subst (λ (ws : List Unfinished). Every (λ v. is_right d v ≡ true) ws) (sym m)
-          (every-map f (λ v. is_right d v ≡ true) (λ v. is_right d v ≡ true) us (λ v k. handled_row s reply (dispatched_serials d.ring) d.placed (take (published_commands d.ring) d.placed) d.attached v k) h.answers.states);
+            (every-map f (λ v. is_right d v ≡ true) (λ v. is_right d v ≡ true) us (λ v k. handled_row s reply (dispatched_serials d.ring) d.placed (take (published_commands d.ring) d.placed) d.attached v k) h.answers.states);
         replies = first_replies s reply us u e fits h.answers.replies;
         parked = ap (parked_rightly d.settings.flags.ooo) m
-          ∙ (parked_kept d.settings.flags.ooo f us (λ v. keeps_handled Parked s reply v refl refl) (λ v. keeps_handled Placed s reply v refl refl) ∙ h.answers.parked);
+            ∙ (parked_kept d.settings.flags.ooo f us (λ v. keeps_handled Parked s reply v refl refl) (λ v. keeps_handled Placed s reply v refl refl) ∙ h.answers.parked);
       };
       room = room_same d vs rows h.room;
     }

@@ -1,17 +1,15 @@
 -- A change of the first command of a serial in a state is a change of each command that passes: serials differ.
-use Rattle.std.proofs.Common.{◌≡◌, ℕ, ◌+◌, ◌<◌, ◌≤◌, Bool, true, false, not, cond, List, [], ◌∷◌, ◌++◌, length, map, suc, zero, ⊎_elim, refl, sym, ◌∙◌, ap, ◌||◌, ◌&&◌, eqb, arith, subst, if◌then◌else◌}
-use Rattle.std.specs.List.{list_any, filter, count_by, sum_by}
-use Rattle.std.proofs.lemmas.Bool.{cases_Bool, false≢true, true≢false, or_parts, and_parts, ne_eqb, eq-eqb, eqb-true, eqb-false}
-use Rattle.tcmu_types.specs.Data.{CommandData}
+use Rattle.std.proofs.Common.{◌≡◌, ℕ, ◌<◌, Bool, true, false, not, List, [], ◌∷◌, map, ⊎_elim, refl, sym, ap, eqb, arith, subst, if◌then◌else◌}
+use Rattle.std.specs.List.{filter}
+use Rattle.std.proofs.lemmas.Bool.{cases_Bool, ne_eqb, eq-eqb, eqb-true, eqb-false}
 use Rattle.tcmu_model.specs.declared.state.CommandState.{CommandState}
 use Rattle.tcmu_model.specs.declared.state.CommandState.TheVariants.{Waiting, Out, Handled, Parked, Placed, Lost}
 use Rattle.tcmu_model.specs.States.{same_state}
-use Rattle.tcmu_model.specs.Lists.{first_of, without_first, with_first}
-use Rattle.tcmu_model.specs.Device.{Unfinished, has_serial, is_at}
+use Rattle.tcmu_model.specs.Lists.{without_first, with_first}
+use Rattle.tcmu_model.specs.Device.{Unfinished, is_at}
 use Rattle.tcmu_model.specs.Sound.{Every, Rise}
-use Rattle.tcmu_model.proofs.Counts.{state_at, serial_at}
+use Rattle.tcmu_model.proofs.Counts.{serial_at}
 use Rattle.tcmu_model.proofs.Everies.{every-weaker, map_same, filter_all}
-use Rattle.tcmu_model.proofs.Rises.{rise_within}
 
 -- what passes changes
 abbrev pub turning : (Unfinished → Bool) → (Unfinished → Unfinished) → Unfinished → Unfinished
@@ -26,6 +24,7 @@ above_at s t (u ∷ us) high h = go s u.serial us h.0 h.1 (no s u.serial h.0)
       where
         never : (s k : ℕ) → s < k → k ≡ s → ⊥
         never s k l q = omega arith
+
     go : (s k : ℕ) (us : List Unfinished) → s < k → Rise k (map (λ u. u.serial) us) high → eqb u.serial s ≡ false → Every (λ u. is_at s t u ≡ false) (u ∷ us)
     go s k us l r e = (rw e refl, rest us k l r)
       where
@@ -40,9 +39,9 @@ turned_map s t g low [] high h = refl
 turned_map s t g low (u ∷ us) high h =
     ⊎_elim
     (λ (e : is_at s t u ≡ true).
-        let k : u.serial ≡ s = serial_at s t u e in
-        let a : Every (λ v. is_at s t v ≡ false) us = above_at s t us high (subst (λ (x : ℕ). Rise x (map (λ v. v.serial) us) high) k h.1) in
-        rw e (ap (λ vs. g u ∷ vs) (sym (map_same (turning (is_at s t) g) us (every-weaker (λ v. is_at s t v ≡ false) (λ v. turning (is_at s t) g v ≡ v) us (λ v z. rw z refl) a)))))
+    let k : u.serial ≡ s = serial_at s t u e in
+    let a : Every (λ v. is_at s t v ≡ false) us = above_at s t us high (subst (λ (x : ℕ). Rise x (map (λ v. v.serial) us) high) k h.1) in
+    rw e (ap (λ vs. g u ∷ vs) (sym (map_same (turning (is_at s t) g) us (every-weaker (λ v. is_at s t v ≡ false) (λ v. turning (is_at s t) g v ≡ v) us (λ v z. rw z refl) a)))))
     (λ (e : is_at s t u ≡ false). rw e (ap (λ vs. u ∷ vs) (turned_map s t g u.serial us high h.1)))
     (cases_Bool (is_at s t u))
 
@@ -52,15 +51,15 @@ taken_filter s t low [] high h a = refl
 taken_filter s t low (u ∷ us) high h a =
     ⊎_elim
     (λ (e : eqb s u.serial ≡ true).
-        let k : s ≡ u.serial = eqb-true s u.serial e in
-        let st : u.state ≡ t = a.0 (sym k) in
-        let at : is_at s t u ≡ true = rw (eq-eqb u.serial s (sym k), st) (same t) in
-        let n : Every (λ v. eqb s v.serial ≡ false) us = others us u.serial h.1 k in
-        rw (e, at) (sym (filter_all (λ v. not (eqb s v.serial)) us (every-weaker (λ v. eqb s v.serial ≡ false) (λ v. not (eqb s v.serial) ≡ true) us (λ v z. rw z refl) n))))
+    let k : s ≡ u.serial = eqb-true s u.serial e in
+    let st : u.state ≡ t = a.0 (sym k) in
+    let at : is_at s t u ≡ true = rw (eq-eqb u.serial s (sym k), st) (same t) in
+    let n : Every (λ v. eqb s v.serial ≡ false) us = others us u.serial h.1 k in
+    rw (e, at) (sym (filter_all (λ v. not (eqb s v.serial)) us (every-weaker (λ v. eqb s v.serial ≡ false) (λ v. not (eqb s v.serial) ≡ true) us (λ v z. rw z refl) n))))
     (λ (e : eqb s u.serial ≡ false).
-        let no : eqb u.serial s ≡ false = ne_eqb u.serial s (λ q. eqb-false s u.serial e (sym q)) in
-        let at : is_at s t u ≡ false = rw no refl in
-        rw (e, at) (ap (λ vs. u ∷ vs) (taken_filter s t u.serial us high h.1 a.1)))
+    let no : eqb u.serial s ≡ false = ne_eqb u.serial s (λ q. eqb-false s u.serial e (sym q)) in
+    let at : is_at s t u ≡ false = rw no refl in
+    rw (e, at) (ap (λ vs. u ∷ vs) (taken_filter s t u.serial us high h.1 a.1)))
     (cases_Bool (eqb s u.serial))
   where
     same : (t : CommandState) → same_state t t ≡ true
@@ -70,6 +69,7 @@ taken_filter s t low (u ∷ us) high h a =
     same Parked = refl
     same Placed = refl
     same Lost = refl
+
     others : (us : List Unfinished) (k : ℕ) → Rise k (map (λ u. u.serial) us) high → s ≡ k → Every (λ v. eqb s v.serial ≡ false) us
     others [] k r e = tt
     others (v ∷ us) k r e =
@@ -77,6 +77,7 @@ taken_filter s t low (u ∷ us) high h a =
       where
         never : (s k x : ℕ) → k < x → s ≡ k → s ≡ x → ⊥
         never s k x l e q = omega arith
+
         over : (us : List Unfinished) (k : ℕ) → Rise k (map (λ u. u.serial) us) high → s < k → Every (λ v. eqb s v.serial ≡ false) us
         over [] k r l = tt
         over (v ∷ us) k r l = (ne_eqb s v.serial (λ q. apart s k v.serial r.0 l q), over us v.serial r.1 (omega (arith, r.0, l)))

@@ -1,5 +1,5 @@
 -- What holds of every device that its events lead to: the soundness of its ring, of its serials, of its answers and of its room.
-use Rattle.std.specs.Prelude.{◌≡◌, ℕ, ◌+◌, ◌*◌, ◌^◌, ◌%◌, ◌<◌, ◌≤◌, ◌⊎◌, ◌==◌, ◌||◌, ◌&&◌, not, nat_lt, nat_le, Bool, true, false, List, [], ◌∷◌, ◌++◌, length, take, drop, map, IfSome, None, Some, if◌then◌else◌}
+use Rattle.std.specs.Prelude.{◌≡◌, ℕ, ◌+◌, ◌*◌, ◌^◌, ◌%◌, ◌<◌, ◌≤◌, ◌⊎◌, ◌==◌, ◌||◌, ◌&&◌, not, nat_lt, nat_le, Bool, true, false, List, [], ◌∷◌, ◌++◌, length, take, map, IfSome, None, Some, if◌then◌else◌}
 use Rattle.std.specs.List.{list_any, count_by, filter}
 use Rattle.std.specs.Option.{is_some}
 use Rattle.tcmu_types.specs.Data.{CommandData, ReplyData, DoneData, SettingsData}
@@ -9,7 +9,7 @@ use Rattle.tcmu_model.specs.declared.state.CommandState.TheVariants.{Waiting, Ou
 use Rattle.tcmu_model.specs.Lists.{first_of}
 use Rattle.tcmu_model.specs.Lengths.{entry_length, tmr_length, blocks_of}
 use Rattle.tcmu_model.specs.RingState.{RingState, Item, Laid, Pad, Cmd, Tmr, used, is_pad, serials_in, cleared_commands, published_commands}
-use Rattle.tcmu_model.specs.Device.{Unfinished, Delayed, DeviceState, has_serial, has_state}
+use Rattle.tcmu_model.specs.Device.{Unfinished, Delayed, DeviceState, has_state}
 use Rattle.tcmu_model.specs.Events.{is_among, is_open, answered, held_blocks}
 
 -- ==== lists
