@@ -1,0 +1,118 @@
+//! Each public function once on its happy path, and values from the standards.
+use super::*;
+use std::test::Fail;
+
+#[test]
+fn command_blocks_have_the_length_of_their_group(rt: HostRuntime) -> Result<(), Fail> {
+    let bytes = [0x00u8; 17];
+    for (code, want) in [
+        (0x00u8, 6usize),
+        (0x1f, 6),
+        (0x20, 10),
+        (0x5f, 10),
+        (0x60, 16),
+        (0x88, 16),
+        (0xa0, 12),
+        (0xbf, 12),
+        (0xc0, 16),
+        (0xff, 16),
+    ] {
+        let mut block = bytes;
+        block[0] = code;
+        for length in 1..=17usize {
+            assert_eq!(rt;
+                Cdb::new(&block[..length]).is_ok(),
+                length == want,
+                "{code} at {length}"
+            );
+        }
+    }
+    assert_eq!(rt; Cdb::new(&[]).err(), Some(CdbLength { want: 0, have: 0 }));
+    assert_eq!(rt;
+        Cdb::new(&[0x28, 0]).err(),
+        Some(CdbLength { want: 10, have: 2 })
+    );
+    Ok(())
+}
+
+#[test]
+fn names_are_short_and_plain(rt: HostRuntime) -> Result<(), Fail> {
+    for (text, is_name) in [
+        ("a", true),
+        ("disk_0", true),
+        ("a234567890123456", true),
+        ("a2345678901234567", false),
+        ("", false),
+        ("0a", false),
+        ("_a", false),
+        ("aB", false),
+        ("a-b", false),
+    ] {
+        assert_eq!(rt; Name::new(text).is_some(), is_name, "{text}");
+    }
+    let name = Name::new("disk_0").ok_or("a name")?;
+    assert_eq!(rt; name.copy().as_bytes(), b"disk_0".as_slice());
+    Ok(())
+}
+
+#[test]
+fn a_command_is_made_and_copied(rt: HostRuntime) -> Result<(), Fail> {
+    let alloc = rt.alloc();
+    let name = Name::new("a").ok_or("a name")?;
+    let cdb = Cdb::new(&[0x2a, 0, 0, 0, 0, 3, 0, 0, 1, 0]).map_err(|_| "a block")?;
+    assert!(rt; takes_payload(&cdb));
+    let mut sent = Bytes::new(alloc);
+    sent.reserve(512)?;
+    sent.fill(0x5a, 512);
+    let command = Command::new(name, 7, cdb, sent, 0).ok_or("a command")?;
+    let copy = command.try_clone(alloc)?;
+    assert_eq!(rt; copy.tag(), 7);
+    assert_eq!(rt; copy.init().as_bytes(), b"a".as_slice());
+    assert_eq!(rt; copy.cdb().as_bytes().len(), 10);
+    assert_eq!(rt; copy.sent().as_slice(), [0x5a; 512].as_slice());
+    assert_eq!(rt; (copy.in_len(), copy.payload_length()), (0, 512));
+    Ok(())
+}
+
+#[test]
+fn lists_keep_their_items(rt: HostRuntime) -> Result<(), Fail> {
+    let alloc = rt.alloc();
+    let mut serials = Serials::from_slice(alloc, &[3, 5])?;
+    serials.reserve(3)?;
+    serials.push(8);
+    serials.extend(&[13, 21]);
+    assert_eq!(rt; serials.as_slice(), [3, 5, 8, 13, 21].as_slice());
+    assert_eq!(rt; (serials.len(), serials.is_empty()), (5, false));
+    let mut again = Serials::from_vec(serials.into_vec());
+    again.clear();
+    assert!(rt; again.is_empty());
+    let word = Bytes::from_slice(alloc, b"replay")?;
+    let mut words = Words::new(alloc);
+    words.reserve(1)?;
+    words.push(word);
+    let copy = Words::from_words(alloc, words.as_slice())?;
+    assert_eq!(rt; copy.as_slice().len(), 1);
+    assert_eq!(rt; copy.as_slice()[0].as_slice(), b"replay".as_slice());
+    Ok(())
+}
+
+#[test]
+fn sense_data_is_written_and_read(rt: HostRuntime) {
+    let sense = Sense {
+        key: 0x0b,
+        asc: 0x08,
+        ascq: 0x01,
+    };
+    let bytes = sense_bytes(sense);
+    assert_eq!(rt;
+        bytes,
+        [
+            0x70, 0, 0x0b, 0, 0, 0, 0, 0x0a, 0, 0, 0, 0, 0x08, 0x01, 0, 0, 0, 0
+        ]
+    );
+    let mut buffer = [0; 96];
+    buffer[..18].copy_from_slice(&bytes);
+    assert_eq!(rt; sense_of(&buffer), sense);
+    buffer[2] = 0xfb;
+    assert_eq!(rt; sense_of(&buffer), sense);
+}
