@@ -12,3 +12,4 @@ pub mod Layout
 pub mod MailboxReading
 pub mod EntryReading
 pub mod Iovecs
+pub mod Regions
