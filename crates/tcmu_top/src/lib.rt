@@ -1,0 +1,4 @@
+//! The top call: words, reading, running, writing.
+#![tactic(auto)]
+
+mod scenario_text;
