@@ -1,6 +1,7 @@
 -- What is determined: by a request, and the medium before it.
-use Rattle.std.specs.Prelude.{◌≡◌, ℕ, ◌+◌, ◌*◌, ◌<◌, min, true, false, List, is_some, MatchResult}
+use Rattle.std.specs.Prelude.{◌≡◌, ℕ, ◌+◌, ◌*◌, ◌<◌, ◌≤◌, min, length, true, false, List, is_some, MatchResult}
 use Rattle.tcmu_types.specs.Data.{ReplyData}
+use Rattle.tcmu_types.specs.Rules.{IsReply}
 use Rattle.tcmu_model.specs.MediumState.{MediumState}
 use Rattle.tcmu_model.specs.Medium.{lies_in, memory_state}
 use Rattle.tcmu_model.specs.Steps.{Asked}
@@ -48,3 +49,9 @@ OneReplyInMemory =
 -- every request has a reply, over every medium
 abbrev pub SomeReply : Type 0
 SomeReply = (name : List ℕ) (m : MediumState) (r : Asked) → (reply : ReplyData) × (after : MediumState) × Serves name m r reply after
+
+-- whatever a request may have as its reply is a whole one, with no more bytes than may be answered
+abbrev pub WholeReply : Type 0
+WholeReply =
+    (name : List ℕ) (m : MediumState) (r : Asked) (reply : ReplyData) (after : MediumState) → Serves name m r reply after
+    → IsReply reply × (length reply.payload ≤ r.in_len)

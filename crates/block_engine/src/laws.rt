@@ -1,9 +1,14 @@
 //! What follows from the engine's relation.
-ghost use Rattle.block_engine.specs.Determined.{SomeReply, OneReply, StaysTold, OneReplyInMemory};
+ghost use Rattle.block_engine.specs.Determined.{SomeReply, WholeReply, OneReply, StaysTold, OneReplyInMemory};
 
 /// Every request has a reply, over every medium.
 pub fn some_reply()
     ensures { SomeReply }
+{}
+
+/// Each reply that a request may have is whole, and has no more bytes than may be answered.
+pub fn whole_reply()
+    ensures { WholeReply }
 {}
 
 /// Over a medium that tells its bytes and its failing calls a request has one reply and leaves one medium, as long as it reads

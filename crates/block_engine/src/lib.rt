@@ -12,4 +12,4 @@ mod show;
 mod unmap;
 
 pub use engine::Engine;
-pub use laws::{one_reply, one_reply_in_memory, some_reply, stays_told};
+pub use laws::{one_reply, one_reply_in_memory, some_reply, stays_told, whole_reply};

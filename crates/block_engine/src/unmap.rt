@@ -77,6 +77,7 @@ fn unmap_one<M: Medium>(medium: &mut M, extent: Extent) -> Result<(), Failed>
     if extent.count == 0 {
         return Ok(());
     }
+    // It has at most 2^35 blocks, so that the place below fits.
     let _blocks = medium.blocks();
     medium.fill(512 * extent.lba, &[0; 512], u64::from(extent.count))
 }

@@ -3,6 +3,8 @@
 
 mod fields;
 mod table;
+#[cfg(test)]
+mod tests;
 
 pub use fields::{u16_at, u32_at, u64_at};
 pub use table::decode;

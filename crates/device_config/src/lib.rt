@@ -4,6 +4,8 @@
 
 mod config;
 pub mod fields;
+#[cfg(test)]
+mod tests;
 
 pub use config::{Config, MediumKind, config_of_bytes, parse_config};
 pub use tcmu_model::ConfigFault;

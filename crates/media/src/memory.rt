@@ -64,6 +64,7 @@ impl Medium for MemMedium {
     }
 
     fn protected(&self) -> bool {
+        // What is read of it shows that no medium in memory is protected.
         let _calls = self.calls;
         false
     }

@@ -9,6 +9,8 @@ mod reading;
 mod said;
 mod scripts;
 mod so_far;
+#[cfg(test)]
+mod tests;
 
 pub use kinds::{
     Commands, DeviceLine, Devices, Events, InitLine, InitLines, Line, LineKind, Lines, Scenario,

@@ -29,7 +29,7 @@ same old new e = ([], e ∙ sym (append-nil old))
 then : (a b c : List DoneData) → Grows a b → Grows b c → Grows a c
 then a b c g h = (g.0 ++ h.0, h.1 ∙ ap (λ (l : List DoneData). l ++ h.0) g.1 ∙ append_assoc a g.0 h.0)
 
-after_submit_same : (d : DeviceState) (c : CommandData) (a : Submit) → (after_submit d c a).log ≡ d.log
+pub after_submit_same : (d : DeviceState) (c : CommandData) (a : Submit) → (after_submit d c a).log ≡ d.log
 unfolding after_submit with_command with_delayed
 after_submit_same d c (submit.Queued s) = refl
 after_submit_same d c (submit.Delayed s) = refl

@@ -31,3 +31,4 @@ pub mod MailboxReading
 pub mod EntryReading
 pub mod Iovecs
 pub mod Examples
+pub mod Regions

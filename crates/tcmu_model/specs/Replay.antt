@@ -30,10 +30,11 @@ Replays R device d (task ∷ tasks) es d' =
 abbrev pub open_count : DeviceState → ℕ
 open_count d = count_by is_open d.unfinished + length d.delayed
 
--- a device line: the device's name and settings, and the line's one spelling
+-- a device line: the device's name and settings, the logical blocks of its medium, and the line's one spelling
 pub record DeviceLine : Type 0 where
   pub name : List ℕ
   pub settings : SettingsData
+  pub blocks : ℕ
   pub spelling : List ℕ
 
 abbrev pub ready_text : DeviceLine → List ℕ

@@ -1,3 +1,9 @@
 pub mod Fields
-pub mod Lines
+pub mod ReadLines
 pub mod Every
+pub mod Telling
+pub mod RunTexts
+pub mod Whole
+pub mod OpenCounts
+pub mod Playing
+pub mod Outcomes

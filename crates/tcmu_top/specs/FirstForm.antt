@@ -123,6 +123,7 @@ device_line =
     record {
       name = device_name;
       settings = device_settings;
+      blocks = 64;
       spelling = codes "device d0 tcm-user/0/d0/mem/64 ring=4096 blocks=16 flags=ooo timeout=30";
     }
 

@@ -1,3 +1,6 @@
 pub mod FirstForm
 pub mod Forms
 pub mod Tasks
+pub mod Playing
+pub mod Serving
+pub mod Top

@@ -2,20 +2,104 @@
 ghost use Rattle.std.specs.Prelude.{◌≡◌, ℕ, ◌+◌, ◌*◌, ◌^◌, ◌<◌, ◌≤◌, ◌==◌, List, [], ◌∷◌, ◌++◌, length, true, IfOk, IfSome, IfNone, Some, None, bytes_eq, map, count_by};
 ghost use Rattle.std.specs.List.{slice_split, list_all};
 ghost use Rattle.std.specs.Option.{option_map};
-ghost use Rattle.tcmu_top.specs.FirstForm.{is_digit, is_number, number_of, hex_value, hex_pair, bytes_of_hex, after_word, run_of, is_block, read_command, write_command, command_of_fields, line_of, line_of_fields, scenario_of};
+ghost use Rattle.tcmu_top.specs.FirstForm.{is_digit, is_number, number_of, hex_value, hex_pair, bytes_of_hex, after_word, run_of, is_block, read_command, write_command, command_of_fields, line_of, line_of_fields, device_line, scenario_of};
 ghost use Rattle.tcmu_top.specs.Forms.{task_of, read_lines, is_event, scenario_of_form};
 ghost use Rattle.tcmu_types.specs.Rules.{IsCommand, is_sendable};
 ghost use Rattle.tcmu_model.specs.Sound.{Every};
 ghost use Rattle.tcmu_top.specs.Tasks.{IsFit};
 
 use std::alloc::Global;
-use tcmu_types::{Bytes, Cdb, Command, Event, Name, NoMemory};
+use std::marker::Model;
+use tcmu_types::{Bytes, Cdb, Command, Event, Flags, Name, NoMemory, Settings};
 
 /// A line of a scenario.
 #[derive(Debug, Drop)]
 pub enum LineKind {
     Event(Event),
     Drain,
+}
+
+/// The device line of this form.
+const DEVICE_LINE: &[u8] =
+    b"device d0 tcm-user/0/d0/mem/64 ring=4096 blocks=16 flags=ooo timeout=30";
+
+/// A device line: the device's name and settings, the logical blocks of its medium, and how it is spelled.
+#[derive(Debug, Drop)]
+pub struct DeviceLine {
+    name: Name,
+    settings: Settings,
+    blocks: usize,
+    spelling: &'static [u8],
+}
+
+impl Model for DeviceLine {
+    ghost use Rattle.tcmu_model.specs.Replay.{DeviceLine as Spelled};
+
+    ghost Value = { Spelled };
+
+    ghost view = { λ a. record { name = a.name; settings = a.settings; blocks = a.blocks; spelling = a.spelling.now } };
+}
+
+impl DeviceLine {
+    /// The device line of this form.
+    pub fn first() -> DeviceLine
+        ensures { result ≡ device_line }
+    {
+        let Some(name) = Name::new("d0") else {
+            unreachable!();
+        };
+        let flags = Flags {
+            ooo: true,
+            read_len: false,
+            tmr: false,
+        };
+        let settings = Settings {
+            ring: 4096,
+            blocks: 16,
+            flags,
+            timeout: 30,
+            qfull: 0,
+            pages: 1,
+        };
+        DeviceLine {
+            name,
+            settings,
+            blocks: 64,
+            spelling: DEVICE_LINE,
+        }
+    }
+
+    pub fn name(&self) -> &Name
+        ensures { result.now ≡ self.now.name }
+    {
+        &self.name
+    }
+
+    pub fn settings(&self) -> Settings
+        ensures { result ≡ self.now.settings }
+    {
+        self.settings
+    }
+
+    /// The logical blocks of 512 bytes of the device's medium.
+    pub fn blocks(&self) -> usize
+        ensures { result ≡ self.now.blocks }
+    {
+        self.blocks
+    }
+
+    pub fn spelling(&self) -> &[u8]
+        ensures { result.now ≡ self.now.spelling }
+    {
+        self.spelling
+    }
+
+    /// How long a command of the device waits for room, in ticks.
+    pub fn qfull(&self) -> u32
+        ensures { result ≡ self.now.settings.qfull }
+    {
+        self.settings.qfull
+    }
 }
 
 /// What stands before and behind the first such byte.
@@ -350,10 +434,6 @@ fn submits(lines: &[LineKind]) -> usize
 {
     lines.iter().filter(|l| is_submit(l)).count()
 }
-
-/// The device line of this form.
-pub const DEVICE_LINE: &[u8] =
-    b"device d0 tcm-user/0/d0/mem/64 ring=4096 blocks=16 flags=ooo timeout=30";
 
 /// The scenario that the bytes are, and None exactly where they are none of this form.
 #[tactic(auto, unfolding(crate::specs::FirstForm::scenario_of))]

@@ -40,8 +40,10 @@ set_count ws a b c x y e same = ap (λ (l : List ℕ). set l 2 x) e ∙ ap (λ (
 pub same_ticket : (ws : List ℕ) (a a' b c : ℕ) → ws ≡ a ∷ b ∷ c ∷ [] → a ≡ a' → ws ≡ a' ∷ b ∷ c ∷ []
 same_ticket ws a a' b c e same = e ∙ ap (λ (z : ℕ). z ∷ b ∷ c ∷ []) same
 
-module _ {K S E A T : Type 0} {script : K → S} {history : K → List E} {makes_entry : T → Bool} {fits : S → List E → A → T → List E → Type 0} {first : K} {parts : ℕ} where
-  pub draws : (n id : ℕ) (m : Seated K E A T) → IsIdle m → Allows (IsOrderly script history makes_entry fits first parts) n id m 0 (λ y. (y + 1) % 2 ^ 64) (Draws (step n 0 1 0 none) m)
+module _ {K S E A T : Type 0} {script : K → S} {history : K → List E} {makes_entry : T → Bool}
+    {fits : S → List E → A → T → List E → Type 0} {first : K} {parts : ℕ} where
+  pub draws : (n id : ℕ) (m : Seated K E A T) → IsIdle m
+      → Allows (IsOrderly script history makes_entry fits first parts) n id m 0 (λ y. (y + 1) % 2 ^ 64) (Draws (step n 0 1 0 none) m)
   draws n id m idle s o wide me small =
       let t : ℕ = o.serving + total tickets_in s.views in
       let w : View K E A T = record m.0 { ticket = Some t } in
@@ -71,7 +73,8 @@ module _ {K S E A T : Type 0} {script : K → S} {history : K → List E} {makes
         (t, sym found, refl),
       )
     where
-      queue : (s : State (Slot K A T) (View K E A T)) (o : IsOrderly script history makes_entry fits first parts s) (id : ℕ) (m : Seated K E A T) (w : View K E A T) → get_elem? s.views id ≡ some m.0 → m.0.ticket ≡ None → w.ticket ≡ Some (o.serving + total tickets_in s.views)
+      queue : (s : State (Slot K A T) (View K E A T)) (o : IsOrderly script history makes_entry fits first parts s) (id : ℕ) (m : Seated K E A T) (w : View K E A T)
+          → get_elem? s.views id ≡ some m.0 → m.0.ticket ≡ None → w.ticket ≡ Some (o.serving + total tickets_in s.views)
           → EachOnce o.serving (o.serving + total tickets_in (set s.views id w)) (λ x. total (tickets_at x) (set s.views id w))
       queue s o id m w me none_yet is x =
           let t : ℕ = o.serving + total tickets_in s.views in
@@ -89,10 +92,15 @@ module _ {K S E A T : Type 0} {script : K → S} {history : K → List E} {makes
           record { before = λ h. omega (arith, q.before h); among = λ l h. omega (arith, q.among l (omega arith)); after = λ h. omega (arith, q.after (omega arith)) })
 
   -- the table is as it was after a load by a seat that keeps its view
-  unchanged : (s : State (Slot K A T) (View K E A T)) (id i : ℕ) (v : View K E A T) → get_elem? s.views id ≡ some v → IsOrderly script history makes_entry fits first parts s → IsOrderly script history makes_entry fits first parts record { words = set s.words i (get_or s.words i 0); homes = s.homes; views = set s.views id v }
-  unchanged s id i v me o = subst (IsOrderly script history makes_entry fits first parts) (λ k. record { words = sym (set-get_or s.words i 0) k; homes = s.homes; views = sym (set_again s.views id v me) k }) o
+  unchanged : (s : State (Slot K A T) (View K E A T)) (id i : ℕ) (v : View K E A T) → get_elem? s.views id ≡ some v
+      → IsOrderly script history makes_entry fits first parts s
+      → IsOrderly script history makes_entry fits first parts record { words = set s.words i (get_or s.words i 0); homes = s.homes; views = set s.views id v }
+  unchanged s id i v me o =
+      subst (IsOrderly script history makes_entry fits first parts)
+      (λ k. record { words = sym (set-get_or s.words i 0) k; homes = s.homes; views = sym (set_again s.views id v me) k }) o
 
-  pub looks : (n id : ℕ) (m : Seated K E A T) → Allows (IsOrderly script history makes_entry fits first parts) n id m 1 (λ y. y) (Looks makes_entry (step n 1 0 0 none) m)
+  pub looks : (n id : ℕ) (m : Seated K E A T)
+      → Allows (IsOrderly script history makes_entry fits first parts) n id m 1 (λ y. y) (Looks makes_entry (step n 1 0 0 none) m)
   looks n id m s o wide me small = (m.0, keeps, tt, unchanged s id 1 m.0 me o, (refl, none_twice s o id m.0 me))
 
   pub looks_or_takes : (n id : ℕ) (m : Seated K E A T) (t : ℕ) → 0 < m.0.parts → m.0.ticket ≡ Some t → m.0.holds ≡ false → m.1 ≡ []
@@ -164,7 +172,8 @@ module _ {K S E A T : Type 0} {script : K → S} {history : K → List E} {makes
         λ u is. ((λ hit. absurd (miss (hit ∙ ap (λ (k : ℕ). k % 2 ^ 64) (some_same _ _ (sym is ∙ has))))), λ _. refl),
       ))
 
-  pub counts_up : {F : Type 0} (n id : ℕ) (m : Seated K E A T) (k : ℕ) (ask : A) (told : Result T F) (number : ℕ) → IsUncounted script history makes_entry fits m ask told number → m.0.seen + k ≡ number → number < 2 ^ 64
+  pub counts_up : {F : Type 0} (n id : ℕ) (m : Seated K E A T) (k : ℕ) (ask : A) (told : Result T F) (number : ℕ)
+      → IsUncounted script history makes_entry fits m ask told number → m.0.seen + k ≡ number → number < 2 ^ 64
       → Allows (IsOrderly script history makes_entry fits first parts) n id m 2 (λ y. (y + k) % 2 ^ 64) (CountsUp history (step n 2 k 0 none) m)
   counts_up n id m k ask told number u up small_now s o wide me small =
       let value = u.value in
@@ -225,7 +234,8 @@ module _ {K S E A T : Type 0} {script : K → S} {history : K → List E} {makes
         ),
       )
 
-  passes_on_at : (n id : ℕ) (v : View K E A T) (value : K) (note : Option (Note A T)) → 0 < v.parts → v.holds ≡ true → history value ≡ v.kept → length (history value) ≡ v.seen
+  passes_on_at : (n id : ℕ) (v : View K E A T) (value : K) (note : Option (Note A T))
+      → 0 < v.parts → v.holds ≡ true → history value ≡ v.kept → length (history value) ≡ v.seen
       → ((opening : K) → v.opening ≡ Some opening → script value ≡ script opening)
       → Allows (IsOrderly script history makes_entry fits first parts) n id (v, (0, slot_of (Some value) note) ∷ []) 1 (λ y. (y + 1) % 2 ^ 64) (PassesOn makes_entry (step n 1 1 0 none) (v, (0, slot_of (Some value) note) ∷ []))
   passes_on_at n id v value note live holds kept_is long is s o wide me small =
@@ -262,7 +272,8 @@ module _ {K S E A T : Type 0} {script : K → S} {history : K → List E} {makes
         (refl, none_twice s o id v me),
       )
     where
-      queue : (s : State (Slot K A T) (View K E A T)) (o : IsOrderly script history makes_entry fits first parts s) (id : ℕ) (v w : View K E A T) → get_elem? s.views id ≡ some v → v.ticket ≡ Some o.serving → w.ticket ≡ None → total tickets_in (set s.views id w) + 1 ≡ total tickets_in s.views
+      queue : (s : State (Slot K A T) (View K E A T)) (o : IsOrderly script history makes_entry fits first parts s) (id : ℕ) (v w : View K E A T)
+          → get_elem? s.views id ≡ some v → v.ticket ≡ Some o.serving → w.ticket ≡ None → total tickets_in (set s.views id w) + 1 ≡ total tickets_in s.views
           → EachOnce (o.serving + 1) ((o.serving + 1) + total tickets_in (set s.views id w)) (λ x. total (tickets_at x) (set s.views id w))
       queue s o id v w me mine gone fewer x =
           let q = o.queue x in
@@ -276,7 +287,8 @@ module _ {K S E A T : Type 0} {script : K → S} {history : K → List E} {makes
           let z : is_ticket x (Some o.serving) ≡ 0 = is_ticket-other x o.serving ne in
           record { before = λ h. omega (arith, q.before (omega arith)); among = λ l h. omega (arith, q.among (omega arith) (omega arith)); after = λ h. omega (arith, q.after (omega arith)) })
 
-  pub passes_on : (n id : ℕ) (m : Seated K E A T) → HasTurn script history m → Allows (IsOrderly script history makes_entry fits first parts) n id m 1 (λ y. (y + 1) % 2 ^ 64) (PassesOn makes_entry (step n 1 1 0 none) m)
+  pub passes_on : (n id : ℕ) (m : Seated K E A T) → HasTurn script history m
+      → Allows (IsOrderly script history makes_entry fits first parts) n id m 1 (λ y. (y + 1) % 2 ^ 64) (PassesOn makes_entry (step n 1 1 0 none) m)
   passes_on n id m h =
       subst (λ (slots : List (ℕ × Slot K A T)). Allows (IsOrderly script history makes_entry fits first parts) n id (m.0, slots) 1 (λ y. (y + 1) % 2 ^ 64) (PassesOn makes_entry (step n 1 1 0 none) (m.0, slots))) (sym h.slot)
       (passes_on_at n id m.0 h.value h.note h.live h.holds h.kept h.long h.script_is)

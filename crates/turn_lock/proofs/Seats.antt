@@ -15,19 +15,22 @@ use Rattle.turn_lock.specs.History.{one_if}
 use Rattle.turn_lock.specs.Lists.{total, Every, StandsOnce, EachOnce}
 use Rattle.turn_lock.specs.Receipts.{tells_of, times, FitsAt}
 use Rattle.turn_lock.specs.Turns.{is_ticket, tickets_at, tickets_in, turns_in, parts_in, times_in, slot_of, first_view, one_less, one_part, joined_view, spent_view, IsViewOf, IsOrderly}
-use Rattle.turn_lock.proofs.Sums.{total-append, total-set, terms_le, total-zero, total-only, Every-append}
+use Rattle.turn_lock.proofs.Sums.{total-append, total-set, terms_le, total-zero, total-only, Every-append, StandsOnce-same}
 use Rattle.turn_lock.proofs.Views.{no_ticket, one_if-off, some_same, each_set}
 use Rattle.turn_lock.proofs.Asking.{same_ticket}
 
 -- what is known of the history at the end, and of the pass that has all parts
-pub record IsEnd {K S E A T : Type 0} (script : K → S) (history : K → List E) (makes_entry : T → Bool) (fits : S → List E → A → T → List E → Type 0) (first : K) (now : List E) (v : View K E A T) : Type 0 where
+pub record IsEnd {K S E A T : Type 0} (script : K → S) (history : K → List E) (makes_entry : T → Bool)
+    (fits : S → List E → A → T → List E → Type 0) (first : K) (now : List E) (v : View K E A T) : Type 0 where
   pub begun : IsPrefix (history first) now
   pub longer : v.seen ≤ length now
   pub fitting : Every (FitsAt makes_entry fits (script first) now) v.receipts
   pub each_once : EachOnce (length (history first) + 1) (length now + 1) (λ k. times makes_entry k v.receipts)
 
-module _ {K S E A T : Type 0} {script : K → S} {history : K → List E} {makes_entry : T → Bool} {fits : S → List E → A → T → List E → Type 0} {first : K} {parts : ℕ} where
-  pub opens : (ws : List ℕ) (xs : List (Slot K A T)) (n : ℕ) → ws ≡ 0 ∷ 0 ∷ n ∷ [] → xs ≡ slot_of (Some first) None ∷ [] → length (history first) ≡ n → 0 < parts → parts < 2 ^ 32
+module _ {K S E A T : Type 0} {script : K → S} {history : K → List E} {makes_entry : T → Bool}
+    {fits : S → List E → A → T → List E → Type 0} {first : K} {parts : ℕ} where
+  pub opens : (ws : List ℕ) (xs : List (Slot K A T)) (n : ℕ) → ws ≡ 0 ∷ 0 ∷ n ∷ []
+      → xs ≡ slot_of (Some first) None ∷ [] → length (history first) ≡ n → 0 < parts → parts < 2 ^ 32
       → IsOrderly script history makes_entry fits first parts (opening ws xs (first_view first parts (length (history first))))
   opens ws xs n words slots long live few =
       let v : View K E A T = first_view first parts (length (history first)) in
@@ -48,7 +51,8 @@ module _ {K S E A T : Type 0} {script : K → S} {history : K → List E} {makes
         out = λ z. absurd (omega arith);
       }
 
-  pub splits : (id : ℕ) (v : View K E A T) → 1 < v.parts → v.ticket ≡ None → v.holds ≡ false → Splits (IsOrderly script history makes_entry fits first parts) id v (one_less v) (one_part v)
+  pub splits : (id : ℕ) (v : View K E A T) → 1 < v.parts → v.ticket ≡ None → v.holds ≡ false
+      → Splits (IsOrderly script history makes_entry fits first parts) id v (one_less v) (one_part v)
   splits id v parts bare idle s o me =
       let left = one_less v in
       let right = one_part v in
@@ -68,14 +72,10 @@ module _ {K S E A T : Type 0} {script : K → S} {history : K → List E} {makes
             (λ (new : right ≡ u). subst (IsViewOf makes_entry fits first (script first) o.serving o.now) new
             record { live = λ p. f.live (omega arith); spent = λ z. (refl, refl); holder = λ h. absurd (true≢false (sym h)); fitting = tt }) (at_snoc l right u j e);
         queue = λ x.
-            let q = o.queue x in
-            let here : total (tickets_at x) (l ++ right ∷ []) ≡ total (tickets_at x) s.views = omega (arith, sum (tickets_at x)) in
-            record { before = λ h. here ∙ q.before h; among = λ a b. here ∙ q.among a (omega arith); after = λ h. here ∙ q.after (omega arith) };
+            StandsOnce-same x o.serving (omega (arith, sum (tickets_at x))) (omega (arith, many)) (o.queue x);
         since = o.since;
         received = λ x.
-            let q = o.received x in
-            let here : total (times_in makes_entry x) (l ++ right ∷ []) ≡ total (times_in makes_entry x) s.views = omega (arith, sum (times_in makes_entry x)) in
-            record { before = λ h. here ∙ q.before h; among = λ a b. here ∙ q.among a b; after = λ h. here ∙ q.after h };
+            StandsOnce-same x (length (history first) + 1) (omega (arith, sum (times_in makes_entry x))) refl (o.received x);
         one_slot = o.one_slot;
         home = λ z. o.home (sym holders ∙ z);
         out = λ z. o.out (omega arith);
@@ -109,21 +109,19 @@ module _ {K S E A T : Type 0} {script : K → S} {history : K → List E} {makes
             }
             (λ i x _ e'. o.each i x e') j u e);
         queue = λ x.
-            let q = o.queue x in
-            let here : total (tickets_at x) (set l other spent_view) ≡ total (tickets_at x) s.views = omega (arith, sum (tickets_at x), ap (is_ticket x) bare') in
-            record { before = λ h. here ∙ q.before h; among = λ a b. here ∙ q.among a (omega arith); after = λ h. here ∙ q.after (omega arith) };
+            StandsOnce-same x o.serving (omega (arith, sum (tickets_at x), ap (is_ticket x) bare')) (omega (arith, many)) (o.queue x);
         since = o.since;
         received = λ x.
-            let q = o.received x in
-            let here : total (times_in makes_entry x) (set l other spent_view) ≡ total (times_in makes_entry x) s.views = omega (arith, sum (times_in makes_entry x), total-append (tells_of makes_entry x) v.receipts w.receipts) in
-            record { before = λ h. here ∙ q.before h; among = λ a b. here ∙ q.among a b; after = λ h. here ∙ q.after h };
+            StandsOnce-same x (length (history first) + 1)
+            (omega (arith, sum (times_in makes_entry x), total-append (tells_of makes_entry x) v.receipts w.receipts)) refl (o.received x);
         one_slot = o.one_slot;
         home = λ z. o.home (sym holders ∙ z);
         out = λ z. o.out (omega arith);
       }
 
   -- at the end the pass that has all parts is the only one that is not spent, so the slot is at home
-  pub closes : (ws : List ℕ) (xs : List (Slot K A T)) (id : ℕ) (v : View K E A T) → Final (Seen (IsOrderly script history makes_entry fits first parts) id v) ws xs → v.parts ≡ parts → 0 < v.parts → v.holds ≡ false → (slot : Slot K A T) → get_elem? xs 0 ≡ some slot
+  pub closes : (ws : List ℕ) (xs : List (Slot K A T)) (id : ℕ) (v : View K E A T) → Final (Seen (IsOrderly script history makes_entry fits first parts) id v) ws xs
+      → v.parts ≡ parts → 0 < v.parts → v.holds ≡ false → (slot : Slot K A T) → get_elem? xs 0 ≡ some slot
       → (value : K) × (slot.value ≡ Some value) × (script value ≡ script first) × IsEnd script history makes_entry fits first (history value) v
   closes ws xs id v h all live idle slot at =
       let s = h.0 in
@@ -155,9 +153,11 @@ module _ {K S E A T : Type 0} {script : K → S} {history : K → List E} {makes
 pub is_some : {K : Type 0} (slot : Option K) (value : K) → slot ≡ Some value → IsSome slot
 is_some slot value e = subst IsSome (sym e) refl
 
-module _ {K S E A T : Type 0} {script : K → S} {history : K → List E} {makes_entry : T → Bool} {fits : S → List E → A → T → List E → Type 0} {first : K} where
+module _ {K S E A T : Type 0} {script : K → S} {history : K → List E} {makes_entry : T → Bool}
+    {fits : S → List E → A → T → List E → Type 0} {first : K} where
   -- and the value that was taken out of the slot is that one
-  pub closes_with : (slot : Option K) (v : View K E A T) (out : K) → (value : K) × (slot ≡ Some value) × (script value ≡ script first) × IsEnd script history makes_entry fits first (history value) v → slot ≡ Some out
+  pub closes_with : (slot : Option K) (v : View K E A T) (out : K) → (value : K) × (slot ≡ Some value) × (script value ≡ script first) × IsEnd script history makes_entry fits first (history value) v
+      → slot ≡ Some out
       → (script out ≡ script first) × IsEnd script history makes_entry fits first (history out) v
   closes_with slot v out h e =
       subst (λ (x : K). (script x ≡ script first) × IsEnd script history makes_entry fits first (history x) v) (some_same _ _ (sym h.1 ∙ e)) (h.2, h.3)

@@ -44,7 +44,8 @@ module _ {K S E A T : Type 0} {script : K → S} {history : K → List E} where
         ap (λ (l : List (ℕ × Slot K A T)). rest l) h.slot,
       )
 
-module _ {K S E A T F : Type 0} {script : K → S} {history : K → List E} {makes_entry : T → Bool} {fits : S → List E → A → T → List E → Type 0} where
+module _ {K S E A T F : Type 0} {script : K → S} {history : K → List E} {makes_entry : T → Bool}
+    {fits : S → List E → A → T → List E → Type 0} where
   -- after it was asked and moved back the seat has it, with the note
   pub asked : (m m1 m2 : Seated K E A T) (out empty : Slot K A T) (value new : K) (note : Option (Note A T)) (ask : A) (told : Result T F)
       → HasTurn script history m → m.1 ≡ (0, out) ∷ rest m.1 → out.value ≡ Some value → m1 ≡ (m.0, (0, empty) ∷ rest m.1) → m2 ≡ (m1.0, (0, slot_of (Some new) note) ∷ rest m1.1)

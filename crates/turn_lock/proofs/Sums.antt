@@ -1,5 +1,5 @@
 -- Sums over lists that change at one place, and what holds of each of a list.
-use Rattle.std.proofs.Common.{◌≡◌, ℕ, zero, suc, ◌+◌, ◌≤◌, ◌≢◌, List, [], ◌∷◌, ◌++◌, set, sym, refl, ap, arith}
+use Rattle.std.proofs.Common.{◌≡◌, ℕ, zero, suc, ◌+◌, ◌≤◌, ◌≢◌, List, [], ◌∷◌, ◌++◌, set, sym, refl, ap, ◌∙◌, arith}
 use mathlib.Core.Logic.{dite}
 use mathlib.Core.Option.{some, some-injective, some-ne-none}
 use native.Mathlib.Decide.{dec_le}
@@ -49,6 +49,9 @@ module _ {A : Type 0} where
   pub Every-map : (P Q : A → Type 0) (xs : List A) → ((x : A) → P x → Q x) → Every P xs → Every Q xs
   Every-map P Q [] f h = tt
   Every-map P Q (x ∷ xs) f h = (f x h.0, Every-map P Q xs f h.1)
+
+pub StandsOnce-same : (k first : ℕ) {behind behind' n n' : ℕ} → n' ≡ n → behind' ≡ behind → StandsOnce k first behind n → StandsOnce k first behind' n'
+StandsOnce-same k first e b q = record { before = λ h. e ∙ q.before h; among = λ l h. e ∙ q.among l (omega arith); after = λ h. e ∙ q.after (omega arith) }
 
 pub StandsOnce-le : (k first behind n : ℕ) → StandsOnce k first behind n → n ≤ 1
 StandsOnce-le k first behind n q =

@@ -13,7 +13,7 @@ use Rattle.turn_lock.specs.History.{one_if}
 use Rattle.turn_lock.specs.Lists.{total, EachOnce}
 use Rattle.turn_lock.specs.Receipts.{times, NoneTwice}
 use Rattle.turn_lock.specs.Turns.{is_ticket, has_ticket, tickets_at, tickets_in, turns_in, parts_in, times_in, IsViewOf, IsOrderly}
-use Rattle.turn_lock.proofs.Sums.{total-set, term_le, terms_le, total-le, StandsOnce-le}
+use Rattle.turn_lock.proofs.Sums.{total-set, term_le, terms_le, total-le, StandsOnce-same, StandsOnce-le}
 
 pub is_ticket-same : (t : ℕ) → is_ticket t (Some t) ≡ 1
 is_ticket-same t = ap (λ b. cond b 1 0) (eq-eqb t t refl)
@@ -51,7 +51,8 @@ module _ {K S E A T : Type 0} {makes_entry : T → Bool} {fits : S → List E �
   each_set views id w mine others j u e =
       ⊎_elim (λ (t : (j ≡ id) × (w ≡ u)). subst (IsViewOf makes_entry fits opening script serving now) t.1 mine) (λ (t : (j ≢ id) × (get_elem? views j ≡ some u)). others j u t.0 t.1) (at_set views id j w u e)
 
-module _ {K S E A T : Type 0} {script : K → S} {history : K → List E} {makes_entry : T → Bool} {fits : S → List E → A → T → List E → Type 0} {first : K} {parts : ℕ} where
+module _ {K S E A T : Type 0} {script : K → S} {history : K → List E} {makes_entry : T → Bool}
+    {fits : S → List E → A → T → List E → Type 0} {first : K} {parts : ℕ} where
   module _ (s : State (Slot K A T) (View K E A T)) (o : IsOrderly script history makes_entry fits first parts s) where
     -- a spent view has no ticket, so fewer than 2^32 wait
     pub few_wait : total tickets_in s.views < 2 ^ 32
@@ -91,15 +92,11 @@ module _ {K S E A T : Type 0} {script : K → S} {history : K → List E} {makes
       -- the queue is as it was where the view's ticket is
       pub same_queue : w.ticket ≡ v.ticket → EachOnce o.serving (o.serving + total tickets_in (set s.views id w)) (λ t. total (tickets_at t) (set s.views id w))
       same_queue same x =
-          let q = o.queue x in
-          let many : total tickets_in (set s.views id w) ≡ total tickets_in s.views = omega (arith, total-set tickets_in s.views id v w me, ap has_ticket same) in
-          let here : total (tickets_at x) (set s.views id w) ≡ total (tickets_at x) s.views = omega (arith, total-set (tickets_at x) s.views id v w me, ap (is_ticket x) same) in
-          record { before = λ h. here ∙ q.before h; among = λ l h. here ∙ q.among l (omega arith); after = λ h. here ∙ q.after (omega arith) }
+          StandsOnce-same x o.serving (omega (arith, total-set (tickets_at x) s.views id v w me, ap (is_ticket x) same))
+          (omega (arith, total-set tickets_in s.views id v w me, ap has_ticket same)) (o.queue x)
 
       -- and the numbers that were received, where the view's receipts are
       pub same_received : w.receipts ≡ v.receipts → EachOnce (length (history first) + 1) (length o.now + 1) (λ k. total (times_in makes_entry k) (set s.views id w))
       same_received same k =
-          let q = o.received k in
-          let here : total (times_in makes_entry k) (set s.views id w) ≡ total (times_in makes_entry k) s.views =
-          omega (arith, total-set (times_in makes_entry k) s.views id v w me, ap (λ (l : List (Receipt A T)). times makes_entry k l) same) in
-          record { before = λ h. here ∙ q.before h; among = λ a b. here ∙ q.among a b; after = λ h. here ∙ q.after h }
+          StandsOnce-same k (length (history first) + 1)
+          (omega (arith, total-set (times_in makes_entry k) s.views id v w me, ap (λ (l : List (Receipt A T)). times makes_entry k l) same)) refl (o.received k)

@@ -46,4 +46,5 @@ FitsAt {S} {E} makes_entry fits script history r =
 -- a receipt that fits a history fits each history that begins with it
 abbrev pub ReceiptsLast : {S E A T : Type 0} → (T → Bool) → (S → List E → A → T → List E → Type 0) → Type 0
 ReceiptsLast {S} {E} {A} {T} makes_entry fits =
-    (script : S) (history longer : List E) (r : Receipt A T) → IsPrefix history longer → FitsAt makes_entry fits script history r → FitsAt makes_entry fits script longer r
+    (script : S) (history longer : List E) (r : Receipt A T) → IsPrefix history longer
+    → FitsAt makes_entry fits script history r → FitsAt makes_entry fits script longer r

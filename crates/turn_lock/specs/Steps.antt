@@ -1,4 +1,5 @@
--- The steps of a pass that is asking, each with what it tells: draw, look, take, count up, pass on. The first seat, a split and a join stand with the views.
+-- The steps of a pass that is asking, each with what it tells: draw, look, take, count up, pass on. The first seat, a split
+-- and a join stand with the views.
 use Rattle.std.specs.Prelude.{◌≡◌, ◌≢◌, ℕ, ◌+◌, ◌%◌, ◌^◌, ◌<◌, ◌≤◌, Bool, true, false, List, [], ◌∷◌, ◌++◌, length, Option, Some, None, Result, Ok, Err}
 use Rattle.atomic_table.specs.Table.{Step}
 use Rattle.turn_lock.specs.History.{one_if}
@@ -32,7 +33,9 @@ module _ {K E A T : Type 0} where
 
   -- in the queue, with a ticket that the word shows as `mine`
   abbrev pub IsQueued : ℕ → Seated K E A T → Type 0
-  IsQueued mine m = (0 < m.0.parts) × (m.0.holds ≡ false) × (m.1 ≡ []) × ((ticket : ℕ) × (m.0.ticket ≡ Some ticket) × (ticket % 2 ^ 64 ≡ mine))
+  IsQueued mine m =
+      (0 < m.0.parts) × (m.0.holds ≡ false) × (m.1 ≡ [])
+      × ((ticket : ℕ) × (m.0.ticket ≡ Some ticket) × (ticket % 2 ^ 64 ≡ mine))
 
   -- the number of parts and the receipts are as they were
   abbrev pub KeepsReceipts : Seated K E A T → Seated K E A T → Type 0
@@ -57,7 +60,8 @@ module _ {K E A T : Type 0} where
       (n ≡ (record m.0 { ticket = None; holds = false; kept = [] }, [])) × NoneTwice makes_entry m.0.receipts
 
 module _ {K E A T : Type 0} (history : K → List E) where
-  -- count up: the word `count` goes up by the entries appended; the seat keeps the history after the ask, and gets the receipt of the note
+  -- count up: the word `count` goes up by the entries appended, the seat keeps the history after the ask, and it gets the
+  -- receipt of the note. All that it received before is of shorter histories, or of the one before the ask
   abbrev pub CountsUp : Step (Slot K A T) → Seated K E A T → ℕ → Seated K E A T → Type 0
   CountsUp st m found n =
       ((value : K) (note : Option (Note A T)) → m.1 ≡ (0, slot_of (Some value) note) ∷ []
@@ -86,10 +90,13 @@ module _ {K S E A T : Type 0} (script : K → S) (history : K → List E) where
 
   -- a load of the word `serving`: where that is the seat's own ticket the same step takes, else it looks
   abbrev pub LooksOrTakes : Step (Slot K A T) → Seated K E A T → ℕ → Seated K E A T → Type 0
-  LooksOrTakes st m found n = (ticket : ℕ) → m.0.ticket ≡ Some ticket → (found ≡ ticket % 2 ^ 64 → Takes m n) × (found ≢ ticket % 2 ^ 64 → n ≡ m)
+  LooksOrTakes st m found n =
+      (ticket : ℕ) → m.0.ticket ≡ Some ticket → (found ≡ ticket % 2 ^ 64 → Takes m n) × (found ≢ ticket % 2 ^ 64 → n ≡ m)
 
-  -- the seat has the turn, and its value was asked this and told that; the entries added are not counted yet, and the history is now as long as `number` says
-  pub record IsUncounted (makes_entry : T → Bool) (fits : S → List E → A → T → List E → Type 0) {F : Type 0} (m : Seated K E A T) (ask : A) (told : Result T F) (number : ℕ) : Type 0 where
+  -- the seat has the turn, and its value was asked this and told that; the entries added are not counted yet, and the history
+  -- is now as long as `number` says
+  pub record IsUncounted (makes_entry : T → Bool) (fits : S → List E → A → T → List E → Type 0) {F : Type 0}
+      (m : Seated K E A T) (ask : A) (told : Result T F) (number : ℕ) : Type 0 where
     pub live : 0 < m.0.parts
     pub holds : m.0.holds ≡ true
     pub value : K

@@ -1,5 +1,6 @@
 -- The rule of a turn: what its three words, its slot and the views of its passes have in common between any two steps.
--- Word 0 (ticket) is the next ticket to be drawn, word 1 (serving) the ticket that has the turn, both modulo 2^64, and word 2 (count) the length of the history.
+-- Word 0 (ticket) is the next ticket to be drawn and word 1 (serving) the ticket that has the turn, both modulo 2^64.
+-- Word 2 (count) is the length of the history.
 use Rattle.std.specs.Prelude.{◌≡◌, ℕ, ◌+◌, ◌-◌, ◌%◌, ◌^◌, ◌<◌, ◌≤◌, max, ◌==◌, Bool, true, false, cond, List, [], ◌∷◌, ◌++◌, length, Option, Some, None}
 use mathlib.Core.Option.{some, none}
 use mathlib.Core.List.{IsPrefix}
@@ -30,7 +31,8 @@ abbrev pub Seated : Type 0 → Type 0 → Type 0 → Type 0 → Type 0
 Seated K E A T = Me (Slot K A T) (View K E A T)
 
 module _ {K E A T : Type 0} where
-  -- of a view: whether it has ticket t, whether it has a ticket, whether it holds the turn, its parts, and how often it received entry k
+  -- of a view: whether it has ticket t, whether it has a ticket, whether it holds the turn, its parts, and how often it
+  -- received entry k
   abbrev pub tickets_at : ℕ → View K E A T → ℕ
   tickets_at t v = is_ticket t v.ticket
 
@@ -65,14 +67,17 @@ module _ {K E A T : Type 0} where
   abbrev pub spent_view : View K E A T
   spent_view = record { opening = None; parts = 0; seen = 0; ticket = None; holds = false; kept = []; receipts = [] }
 
--- What the rule says of one view, where `serving` is the ticket that has the turn, and `now` the history: of the value at home, or else the one that the holding view keeps
-pub record IsViewOf {K S E A T : Type 0} (makes_entry : T → Bool) (fits : S → List E → A → T → List E → Type 0) (opening : K) (script : S) (serving : ℕ) (now : List E) (v : View K E A T) : Type 0 where
+-- What the rule says of one view, where `serving` is the ticket that has the turn, and `now` the history: that of the value
+-- at home, or else the one that the holding view keeps
+pub record IsViewOf {K S E A T : Type 0} (makes_entry : T → Bool) (fits : S → List E → A → T → List E → Type 0)
+    (opening : K) (script : S) (serving : ℕ) (now : List E) (v : View K E A T) : Type 0 where
   pub live : 0 < v.parts → (v.opening ≡ Some opening) × (v.seen ≤ length now)
   pub spent : v.parts ≡ 0 → (v.ticket ≡ None) × (v.receipts ≡ [])
   pub holder : v.holds ≡ true → (v.ticket ≡ Some serving) × (v.seen ≡ length now) × (v.kept ≡ now)
   pub fitting : Every (FitsAt makes_entry fits script now) v.receipts
 
-module _ {K S E A T : Type 0} (script : K → S) (history : K → List E) (makes_entry : T → Bool) (fits : S → List E → A → T → List E → Type 0) where
+module _ {K S E A T : Type 0} (script : K → S) (history : K → List E) (makes_entry : T → Bool)
+    (fits : S → List E → A → T → List E → Type 0) where
   -- a value with the script of the opening one, and this history
   abbrev pub IsAt : K → List E → K → Type 0
   IsAt opening now value = (script value ≡ script opening) × (history value ≡ now)
@@ -85,7 +90,8 @@ module _ {K S E A T : Type 0} (script : K → S) (history : K → List E) (makes
     -- the views: their parts sum to the turn's, and the tickets held are serving, serving + 1 and so on
     pub few : parts < 2 ^ 32
     pub shares : total parts_in s.views ≡ parts
-    pub each : (id : ℕ) (v : View K E A T) → get_elem? s.views id ≡ some v → IsViewOf makes_entry fits opening (script opening) serving now v
+    pub each : (id : ℕ) (v : View K E A T) → get_elem? s.views id ≡ some v
+        → IsViewOf makes_entry fits opening (script opening) serving now v
     pub queue : EachOnce serving (serving + total tickets_in s.views) (λ t. total (tickets_at t) s.views)
     -- the history: it goes on from the opening one, and each entry since then stands in one receipt
     pub since : IsPrefix (history opening) now

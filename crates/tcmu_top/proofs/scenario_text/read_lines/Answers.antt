@@ -5,7 +5,7 @@ use Rattle.std.proofs.lemmas.Bool.Decides.{nat_tests}
 use Rattle.tcmu_top.specs.Forms.{task_of}
 use Rattle.tcmu_top.specs.Tasks.{IsFit}
 use Rattle.tcmu_top.proofs.Every.{every-push}
-use Rattle.tcmu_top.proofs.Lines.{no_line, bad_line, line_more, lines_done}
+use Rattle.tcmu_top.proofs.ReadLines.{no_line, bad_line, line_more, lines_done}
 use Rattle.tcmu_top.proofs.scenario_text.read_lines.Goals as goal
 
 pub returns-in_default-clause-value : goal.returns-in_default-clause-value
@@ -21,7 +21,7 @@ loop-rest-preserved c =
     let one : IsFit (task_of c.in-Some-2.line) = rw c.in-Some-2.is at c.in_ok-line.ensures.fit in
     record {
       value = line_more (map task_of c.loop-rest.lines.items) c.loop-rest.rest.now _ c.in-Some.after.now (task_of c.in-Some-2.line) _ _ c.in-Some.ensures.found (sym (ap (option_map task_of) c.in-Some-2.is) ∙ c.in_ok-line.ensures.value)
-      pushed c.loop-rest.invariant.value;
+          pushed c.loop-rest.invariant.value;
       fit = rw pushed (every-push IsFit _ _ c.loop-rest.invariant.fit one);
     }
 

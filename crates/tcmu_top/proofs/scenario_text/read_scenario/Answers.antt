@@ -3,7 +3,7 @@ use Rattle.std.specs.Option.{option_map}
 use Rattle.std.proofs.lemmas.List.{length-map}
 use Rattle.tcmu_top.specs.FirstForm.{device_line, is_submit}
 use Rattle.tcmu_top.specs.Forms.{task_of, is_event}
-use Rattle.tcmu_top.proofs.Lines.{no_device, with_lines, count_viewed, too_long, too_many_submits, is_allowed}
+use Rattle.tcmu_top.proofs.ReadLines.{no_device, with_lines, count_viewed, too_long, too_many_submits, is_allowed}
 use Rattle.tcmu_top.proofs.scenario_text.read_scenario.Goals as goal
 
 pub returns-then-not-is_text-clause-value : goal.returns-then-not-is_text-clause-value
