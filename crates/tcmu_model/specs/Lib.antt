@@ -33,3 +33,4 @@ pub mod EntryReading
 pub mod Iovecs
 pub mod Examples
 pub mod Regions
+pub mod Pending

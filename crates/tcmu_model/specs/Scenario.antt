@@ -1,5 +1,5 @@
 -- Which bytes are a scenario, what they say, and why others are none.
-use Rattle.std.specs.Prelude.{ℕ, ◌+◌, ◌*◌, Bool, true, false, ◌&&◌, ◌||◌, not, List, [], ◌∷◌, ◌++◌, length, Some, None, Result, Ok, Err, nat_lt, nat_le, ◌==◌, if◌then◌else◌, bytes_eq, slice_get, slice_index}
+use Rattle.std.specs.Prelude.{ℕ, ◌+◌, ◌*◌, Bool, true, false, ◌&&◌, ◌||◌, not, List, [], ◌∷◌, ◌++◌, length, Some, None, Result, Ok, Err, nat_lt, nat_le, ◌==◌, if◌then◌else◌, bytes_eq, slice_get}
 use Rattle.std.specs.Option.{ok_or}
 use Rattle.std.specs.List.{list_any, list_all, sum_by, count_by}
 use Rattle.tcmu_types.specs.Data.{SettingsData}
