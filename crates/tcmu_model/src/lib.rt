@@ -23,7 +23,7 @@ pub use entry::{EntryFault, EntryRef, Response};
 pub use faults::{ConfigFault, Why};
 pub use laws::{config_law, scenario_law, script_law};
 pub use laws_drain::{drain_empties, drain_ends, drain_goes_on};
-pub use laws_log::{delayed_law, log_law};
+pub use laws_log::{delayed_law, log_law, open_law};
 pub use laws_ring::{answers_law, publish_law, ring_law, room_law};
 pub use laws_sound::{Answering, events_keep_sound, opening_is_sound, runs_keep_sound};
 pub use laws_states::{in_hand_law, placed_law, waiting_law};
