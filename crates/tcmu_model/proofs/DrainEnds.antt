@@ -18,6 +18,7 @@ use Rattle.tcmu_model.specs.Steps.{HandlerRelation, asked, moved, Makes, Step}
 use Rattle.tcmu_model.specs.Drain.{drain_event, Drains}
 use Rattle.tcmu_model.specs.Sound.{Every, IsLaid, Along, IsItem, IsSound, times_logged, times_open, is_open_at, is_delayed_at}
 use Rattle.tcmu_model.specs.Work.{work, Outcome, HasOutcomes, Ends}
+use Rattle.tcmu_model.proofs.Everies.{every-first}
 use Rattle.tcmu_model.proofs.Draining.{Choice, handles, responds, publishes, cleans, enters, dispatches, chosen_attached, work_falls}
 use Rattle.tcmu_model.proofs.Runs.{sound_step}
 use Rattle.tcmu_model.proofs.Drained.{drained}
@@ -151,14 +152,6 @@ clean_logs d = omega (arith, all_logs d.settings.flags.read_len (books d) (answe
 
 -- ==== the handler is asked for a command
 
-first_every : (P : Unfinished → Type 0) (p : Unfinished → Bool) (us : List Unfinished) (u : Unfinished) → Every P us → first_of p us ≡ Some u → P u
-first_every P p [] u h e = absurd (cc)
-first_every P p (v ∷ us) u h e =
-    ⊎_elim
-    (λ (z : p v ≡ true). let k : Some v ≡ Some u = rw z at e in let q : v ≡ u = cc in subst P q h.0)
-    (λ (z : p v ≡ false). let k : first_of p us ≡ Some u = rw z at e in first_every P p us u h.1 k)
-    (cases_Bool (p v))
-
 first_found : (p : Unfinished → Bool) (us : List Unfinished) → list_any p us ≡ true → (u : Unfinished) × (first_of p us ≡ Some u)
 first_found p [] h = absurd (false≢true h)
 first_found p (v ∷ us) h =
@@ -213,7 +206,7 @@ unfolding after_handle
 out_made R device d s o h a =
     let f = first_found (is_at s Out) d.state.unfinished a in
     let u : Unfinished = f.0 in
-    let c : IsCommand u.command = first_every (λ v. IsCommand v.command) (is_at s Out) d.state.unfinished u (rows_commands d.state h) f.1 in
+    let c : IsCommand u.command = every-first (is_at s Out) (λ v. IsCommand v.command) d.state.unfinished u (rows_commands d.state h) f.1 in
     let r : Outcome R d.name d.medium (asked u.command) = o d.name d.medium u.command c in
     record {
       entry = record { device = device; event = ev.Handle s; answer = ev.Answered (handle.Done r.reply); logged = 0 };

@@ -32,3 +32,4 @@ pub mod EntryReading
 pub mod Iovecs
 pub mod Examples
 pub mod Regions
+pub mod Journals
