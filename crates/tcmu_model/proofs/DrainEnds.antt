@@ -1,6 +1,6 @@
 -- A drain keeps its device attached, can always go on where the handler can answer, and ends.
 use Rattle.std.proofs.Common.{◌≡◌, ℕ, ◌+◌, ◌<◌, ◌≤◌, Bool, true, false, List, [], ◌∷◌, length, refl, sym, ap, ◌∙◌, arith, ⊎_elim, subst, if◌then◌else◌, Some, None, Option, suc, zero, inl, inr, length-append}
-use Rattle.std.specs.List.{list_any}
+use Rattle.std.specs.List.{list_any, count_by}
 use Rattle.std.proofs.lemmas.Bool.{cases_Bool, false≢true}
 use Rattle.tcmu_types.specs.Data.{CommandData, DoneData, SettingsData}
 use Rattle.tcmu_types.specs.Rules.{IsCommand}
@@ -16,11 +16,13 @@ use Rattle.tcmu_model.specs.Device.{Unfinished, Delayed, DeviceState, Device, is
 use Rattle.tcmu_model.specs.Events.{is_handled, placing, publishable, next_item, passed, after_item, with_command, after_entering, enter_answer, after_enter, dispatch_answer, after_dispatch, after_handle, respond_answer, after_respond, publish_answer, after_publish, Books, finish, finish_all, completions, books, answered, clean_answer, after_clean}
 use Rattle.tcmu_model.specs.Steps.{HandlerRelation, asked, moved, Makes, Step}
 use Rattle.tcmu_model.specs.Drain.{drain_event, Drains}
-use Rattle.tcmu_model.specs.Sound.{Every, IsLaid, Along, IsItem, IsSound}
+use Rattle.tcmu_model.specs.Sound.{Every, IsLaid, Along, IsItem, IsSound, times_logged, times_open, is_open_at, is_delayed_at}
 use Rattle.tcmu_model.specs.Work.{work, Outcome, HasOutcomes, Ends}
+use Rattle.tcmu_model.proofs.Everies.{every-first}
 use Rattle.tcmu_model.proofs.Draining.{Choice, handles, responds, publishes, cleans, enters, dispatches, chosen_attached, work_falls}
 use Rattle.tcmu_model.proofs.Runs.{sound_step}
 use Rattle.tcmu_model.proofs.Drained.{drained}
+use Rattle.tcmu_model.proofs.Accounts.{each_once}
 
 -- ==== the bit stays
 
@@ -150,14 +152,6 @@ clean_logs d = omega (arith, all_logs d.settings.flags.read_len (books d) (answe
 
 -- ==== the handler is asked for a command
 
-first_every : (P : Unfinished → Type 0) (p : Unfinished → Bool) (us : List Unfinished) (u : Unfinished) → Every P us → first_of p us ≡ Some u → P u
-first_every P p [] u h e = absurd (cc)
-first_every P p (v ∷ us) u h e =
-    ⊎_elim
-    (λ (z : p v ≡ true). let k : Some v ≡ Some u = rw z at e in let q : v ≡ u = cc in subst P q h.0)
-    (λ (z : p v ≡ false). let k : first_of p us ≡ Some u = rw z at e in first_every P p us u h.1 k)
-    (cases_Bool (p v))
-
 first_found : (p : Unfinished → Bool) (us : List Unfinished) → list_any p us ≡ true → (u : Unfinished) × (first_of p us ≡ Some u)
 first_found p [] h = absurd (false≢true h)
 first_found p (v ∷ us) h =
@@ -212,7 +206,7 @@ unfolding after_handle
 out_made R device d s o h a =
     let f = first_found (is_at s Out) d.state.unfinished a in
     let u : Unfinished = f.0 in
-    let c : IsCommand u.command = first_every (λ v. IsCommand v.command) (is_at s Out) d.state.unfinished u (rows_commands d.state h) f.1 in
+    let c : IsCommand u.command = every-first (is_at s Out) (λ v. IsCommand v.command) d.state.unfinished u (rows_commands d.state h) f.1 in
     let r : Outcome R d.name d.medium (asked u.command) = o d.name d.medium u.command c in
     record {
       entry = record { device = device; event = ev.Handle s; answer = ev.Answered (handle.Done r.reply); logged = 0 };
@@ -265,3 +259,17 @@ ends_within (suc fuel) R device d o h l = go (drain_event d.state) refl (λ m k 
 -- from each sound device the drain has an end
 pub drain_ends : (R : HandlerRelation) (device : ℕ) (d : Device) → HasOutcomes R → IsSound d.state → Ends R device d
 drain_ends R device d o h = ends_within (work d.state + 1) R device d o h (omega arith)
+
+-- a drain keeps its device sound
+pub drain_sound : (R : HandlerRelation) (device : ℕ) (d d' : Device) (es : List EntryData) → IsSound d.state → Drains R device d es d' → IsSound d'.state
+drain_sound R device d d' [] h r = subst (λ (x : Device). IsSound x.state) (sym r.1) h
+drain_sound R device d d' (e ∷ es) h r = drain_sound R device r.2 d' es (sound_step R d r.2 e h r.3) r.4
+
+-- each accepted command is then in the log
+pub drain_completes : (R : HandlerRelation) (device : ℕ) (d d' : Device) (es : List EntryData) (s : ℕ) → IsSound d.state → d.state.attached ≡ true → Drains R device d es d' → 1 ≤ s → s ≤ d'.state.accepted → times_logged d'.state.log s ≡ 1
+drain_completes R device d d' es s h a r l m =
+    let e = drain_empties R device d d' es h a r in
+    let once : times_logged d'.state.log s + times_open d'.state s ≡ 1 = each_once d'.state s (drain_sound R device d d' es h r) l m in
+    let u : count_by (is_open_at s) d'.state.unfinished ≡ 0 = ap (count_by (is_open_at s)) e.0 in
+    let w : count_by (is_delayed_at s) d'.state.delayed ≡ 0 = ap (count_by (is_delayed_at s)) e.1 in
+    omega (arith, once, u, w)

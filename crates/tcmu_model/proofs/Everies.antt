@@ -1,7 +1,8 @@
 -- What holds of each item of a list.
-use Rattle.std.proofs.Common.{◌≡◌, ℕ, Bool, true, false, cond, List, [], ◌∷◌, ◌++◌, take, drop, map, suc, zero, ⊎_elim, refl, ap}
+use Rattle.std.proofs.Common.{◌≡◌, ℕ, Bool, true, false, cond, List, [], ◌∷◌, ◌++◌, take, drop, map, suc, zero, ⊎_elim, refl, ap, Some, subst}
 use Rattle.std.specs.List.{list_any, filter}
 use Rattle.std.proofs.lemmas.Bool.{cases_Bool, false≢true, or_parts}
+use Rattle.tcmu_model.specs.Lists.{first_of, with_first, without_first}
 use Rattle.tcmu_model.specs.Sound.{Every}
 
 pub every-weaker : {X : Type 0} (P Q : X → Type 0) (xs : List X) → ((x : X) → P x → Q x) → Every P xs → Every Q xs
@@ -113,3 +114,28 @@ map_filter g p (x ∷ xs) =
 pub every-mapped : {X Y : Type 0} (g : X → Y) (P : Y → Type 0) (xs : List X) → Every P (map g xs) → Every (λ x. P (g x)) xs
 every-mapped g P [] h = tt
 every-mapped g P (x ∷ xs) h = (h.0, every-mapped g P xs h.1)
+
+-- the first that passes is changed, or taken out
+pub every-with_first : {X : Type 0} (p : X → Bool) (g : X → X) (P : X → Type 0) (xs : List X) → ((x : X) → p x ≡ true → P x → P (g x)) → Every P xs → Every P (with_first p g xs)
+every-with_first p g P [] h e = tt
+every-with_first p g P (x ∷ xs) h e =
+    ⊎_elim
+    (λ (z : p x ≡ true). rw z (h x z e.0, e.1))
+    (λ (z : p x ≡ false). rw z (e.0, every-with_first p g P xs h e.1))
+    (cases_Bool (p x))
+
+pub every-without_first : {X : Type 0} (p : X → Bool) (P : X → Type 0) (xs : List X) → Every P xs → Every P (without_first p xs)
+every-without_first p P [] e = tt
+every-without_first p P (x ∷ xs) e =
+    ⊎_elim
+    (λ (z : p x ≡ true). rw z (e.1))
+    (λ (z : p x ≡ false). rw z (e.0, every-without_first p P xs e.1))
+    (cases_Bool (p x))
+
+pub every-first : {X : Type 0} (p : X → Bool) (P : X → Type 0) (xs : List X) (x : X) → Every P xs → first_of p xs ≡ Some x → P x
+every-first p P [] x e h = absurd (cc)
+every-first p P (y ∷ xs) x e h =
+    ⊎_elim
+    (λ (z : p y ≡ true). let k : Some y ≡ Some x = rw z at h in let q : y ≡ x = cc in subst P q e.0)
+    (λ (z : p y ≡ false). let k : first_of p xs ≡ Some x = rw z at h in every-first p P xs x e.1 k)
+    (cases_Bool (p y))

@@ -232,7 +232,7 @@ sound_after_tick d n h =
 
 -- ==== reset
 
-reset_serial : (level s : ℕ) (c : CommandData) → (reset_completion level s c).serial ≡ s
+pub reset_serial : (level s : ℕ) (c : CommandData) → (reset_completion level s c).serial ≡ s
 reset_serial level s c =
     ⊎_elim
     (λ (e : eqb level 1 ≡ true). rw e refl)
@@ -317,7 +317,7 @@ sound_after_reset d level h =
 
 -- ==== restart
 
-lose_same : (A : List ℕ) (u : Unfinished) → Same u (lose A u)
+pub lose_same : (A : List ℕ) (u : Unfinished) → Same u (lose A u)
 lose_same A u =
     ⊎_elim
     (λ (e : is_losing A u ≡ true). rw e (record { serial = refl; command = refl; expired = refl }))

@@ -1,10 +1,10 @@
 //! What soundness says of a drain: that it goes on, that it ends, and what it leaves.
-ghost use Rattle.std.specs.Prelude.{◌≡◌, ℕ, ◌<◌, List, [], ◌∷◌, ◌++◌, Some, None, true};
+ghost use Rattle.std.specs.Prelude.{◌≡◌, ℕ, ◌<◌, ◌≤◌, List, [], ◌∷◌, ◌++◌, Some, None, true};
 ghost use Rattle.tcmu_types.specs.Events.{EntryData};
 ghost use Rattle.tcmu_model.specs.Device.{Device, DeviceState};
 ghost use Rattle.tcmu_model.specs.Steps.{Step, Run};
 ghost use Rattle.tcmu_model.specs.Drain.{drain_event, Drains};
-ghost use Rattle.tcmu_model.specs.Sound.{IsSound};
+ghost use Rattle.tcmu_model.specs.Sound.{IsSound, times_logged};
 ghost use Rattle.tcmu_model.specs.Work.{work, HasOutcomes, GoesOn, Ends};
 
 use crate::Answering;
@@ -23,9 +23,10 @@ pub fn drain_goes_on<H: Answering>()
     ensures run { (device : ℕ) (d d' : Device) (es : List EntryData) → Drains H.relation device d es d' → Run H.relation d es d' }
 {}
 
-/// After the drain of an attached device no command is unfinished or delayed.
+/// After the drain of an attached device no command is unfinished or delayed, and each accepted one is once in the log.
 pub fn drain_empties<H: Answering>()
     ensures unfinished { (device : ℕ) (d d' : Device) (es : List EntryData) → IsSound d.state → d.state.attached ≡ true → Drains H.relation device d es d' → d'.state.unfinished ≡ [] }
     ensures delayed { (device : ℕ) (d d' : Device) (es : List EntryData) → IsSound d.state → d.state.attached ≡ true → Drains H.relation device d es d' → d'.state.delayed ≡ [] }
+    ensures complete { (device : ℕ) (d d' : Device) (es : List EntryData) (s : ℕ) → IsSound d.state → d.state.attached ≡ true → Drains H.relation device d es d' → 1 ≤ s → s ≤ d'.state.accepted → times_logged d'.state.log s ≡ 1 }
     ensures at_rest { (d : DeviceState) → IsSound d → d.attached ≡ true → drain_event d ≡ None → (d.unfinished ≡ []) × (d.delayed ≡ []) }
 {}

@@ -1,7 +1,8 @@
 //! What soundness says of serials and of the log of completions.
-ghost use Rattle.std.specs.Prelude.{◌≡◌, ℕ, ◌+◌, ◌≤◌, ◌<◌, true, map};
+ghost use Rattle.std.specs.Prelude.{◌≡◌, ℕ, ◌+◌, ◌≤◌, ◌<◌, true, length, map};
 ghost use Rattle.tcmu_model.specs.RingState.{serials_in};
 ghost use Rattle.tcmu_model.specs.Device.{DeviceState};
+ghost use Rattle.tcmu_model.specs.Replay.{open_count};
 ghost use Rattle.tcmu_model.specs.Sound.{Every, Differ, times_logged, times_open, IsSound};
 
 /// No serial stands twice in the log, and each that stands there was accepted. Each accepted serial is once in the log or once open,
@@ -16,4 +17,9 @@ pub fn log_law()
 /// A delayed command has a serial above every laid one.
 pub fn delayed_law()
     ensures { (d : DeviceState) → IsSound d → Every (λ w. Every (λ s. s < w.serial) (serials_in d.ring.laid)) d.delayed }
+{}
+
+/// How many accepted commands have no completion.
+pub fn open_law()
+    ensures { (d : DeviceState) → IsSound d → length d.log + open_count d ≡ d.accepted }
 {}

@@ -19,6 +19,7 @@ fn laws_hold_for_a_handler() {
     drain_ends::<Idle>();
     drain_goes_on::<Idle>();
     drain_empties::<Idle>();
+    journal_law::<Idle>();
 }
 
 /// A READ(10) that asks for so many bytes.
