@@ -1,0 +1,10 @@
+//! The places of the command ring: whether an item has room, where it comes to lie, and what cleaning gives back.
+#![tactic(auto)]
+
+mod laws;
+mod ring;
+#[cfg(test)]
+mod tests;
+
+pub use laws::ring_law;
+pub use ring::{Place, Ring, Room};

@@ -1,0 +1,5 @@
+pub mod Bits
+pub mod Search
+pub mod Chosen
+pub mod Sets
+pub mod Several

@@ -1,0 +1,3 @@
+pub mod Bitmap
+pub mod Held
+pub mod Kept

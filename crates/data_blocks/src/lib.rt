@@ -1,0 +1,10 @@
+//! The data blocks that commands hold, as a set of numbers kept in words of bits.
+#![tactic(auto)]
+
+mod bitmap;
+mod blocks;
+pub mod laws;
+#[cfg(test)]
+mod tests;
+
+pub use blocks::{Blocks, BlocksFault};
