@@ -76,12 +76,11 @@ fn write_bytes<M: Medium>(
     medium: &mut M,
     at: u64,
     sent: &[u8],
-    in_len: u32,
 ) -> Result<Reply, NoMemory>
     requires inside { at + length sent.now ≤ 512 * (M.state medium.old).blocks }
     requires start { at % 512 ≡ 0 }
     requires whole { length sent.now % 512 ≡ 0 }
-    ensures { Served (WritesBytes (M.state medium.old) at sent.now) in_len (M.state medium.old) (M.state medium.new) (M.faults medium.old) (M.faults medium.new) result }
+    ensures { Served (WritesBytes (M.state medium.old) at sent.now) 0 (M.state medium.old) (M.state medium.new) (M.faults medium.old) (M.faults medium.new) result }
 {
     if sent.len() == 0 {
         return Ok(good(Bytes::new(alloc)));
@@ -96,13 +95,12 @@ pub fn write<M: Medium>(
     lba: u64,
     count: u32,
     sent: &[u8],
-    in_len: u32,
 ) -> Result<Reply, NoMemory>
-    ensures { Served (ServesWrite (M.state medium.old) lba count sent.now) in_len (M.state medium.old) (M.state medium.new) (M.faults medium.old) (M.faults medium.new) result }
+    ensures { Served (ServesWrite (M.state medium.old) lba count sent.now) 0 (M.state medium.old) (M.state medium.new) (M.faults medium.old) (M.faults medium.new) result }
 {
     match write_fault(medium, sent, 512 * u64::from(count), lba, count) {
         Some(sense) => Ok(refused(alloc, sense)),
-        None => write_bytes(alloc, medium, 512 * lba, sent, in_len),
+        None => write_bytes(alloc, medium, 512 * lba, sent),
     }
 }
 
@@ -111,9 +109,8 @@ pub fn sync<M: Medium>(
     medium: &mut M,
     lba: u64,
     count: u32,
-    in_len: u32,
 ) -> Result<Reply, NoMemory>
-    ensures { Served (ServesSync (M.state medium.old) lba count) in_len (M.state medium.old) (M.state medium.new) (M.faults medium.old) (M.faults medium.new) result }
+    ensures { Served (ServesSync (M.state medium.old) lba count) 0 (M.state medium.old) (M.state medium.new) (M.faults medium.old) (M.faults medium.new) result }
 {
     if let Some(sense) = range_fault(medium.blocks(), lba, count) {
         return Ok(refused(alloc, sense));
@@ -137,13 +134,12 @@ fn fill_blocks<M: Medium>(
     at: u64,
     count: u32,
     sent: &[u8],
-    in_len: u32,
 ) -> Result<Reply, NoMemory>
     requires inside { at + 512 * count ≤ 512 * (M.state medium.old).blocks }
     requires start { at % 512 ≡ 0 }
     requires some { 0 < count }
     requires fits { length sent.now ≡ 512 }
-    ensures { Served (Calls (Fills at sent.now count (M.state medium.old)) write_error []) in_len (M.state medium.old) (M.state medium.new) (M.faults medium.old) (M.faults medium.new) result }
+    ensures { Served (Calls (Fills at sent.now count (M.state medium.old)) write_error []) 0 (M.state medium.old) (M.state medium.new) (M.faults medium.old) (M.faults medium.new) result }
 {
     let block = block_of(sent);
     let outcome = medium.fill(at, &block, u64::from(count));
@@ -156,13 +152,12 @@ pub fn write_same<M: Medium>(
     lba: u64,
     count: u32,
     sent: &[u8],
-    in_len: u32,
 ) -> Result<Reply, NoMemory>
     requires some { 0 < count }
-    ensures { Served (ServesWriteSame (M.state medium.old) lba count sent.now) in_len (M.state medium.old) (M.state medium.new) (M.faults medium.old) (M.faults medium.new) result }
+    ensures { Served (ServesWriteSame (M.state medium.old) lba count sent.now) 0 (M.state medium.old) (M.state medium.new) (M.faults medium.old) (M.faults medium.new) result }
 {
     match write_fault(medium, sent, 512, lba, count) {
         Some(sense) => Ok(refused(alloc, sense)),
-        None => fill_blocks(alloc, medium, 512 * lba, count, sent, in_len),
+        None => fill_blocks(alloc, medium, 512 * lba, count, sent),
     }
 }

@@ -45,14 +45,13 @@ fn compare_bytes<M: Medium>(
     at: u64,
     n: u64,
     sent: &[u8],
-    in_len: u32,
 ) -> Result<Reply, NoMemory>
     requires inside { at + n ≤ 512 * (M.state medium.old).blocks }
     requires start { at % 512 ≡ 0 }
     requires whole { n % 512 ≡ 0 }
     requires some { 0 < n }
     requires both { length sent.now ≡ 2 * n }
-    ensures { Served (ComparesBytes (M.state medium.old) at n sent.now) in_len (M.state medium.old) (M.state medium.new) (M.faults medium.old) (M.faults medium.new) result }
+    ensures { Served (ComparesBytes (M.state medium.old) at n sent.now) 0 (M.state medium.old) (M.state medium.new) (M.faults medium.old) (M.faults medium.new) result }
 {
     let mut bytes = zeros(alloc, n as usize)?;
     match read_into(medium, at, &mut bytes) {
@@ -67,17 +66,16 @@ fn compare_blocks<M: Medium>(
     at: u64,
     count: u32,
     sent: &[u8],
-    in_len: u32,
 ) -> Result<Reply, NoMemory>
     requires inside { at + 512 * count ≤ 512 * (M.state medium.old).blocks }
     requires start { at % 512 ≡ 0 }
     requires both { length sent.now ≡ 2 * (512 * count) }
-    ensures { Served (ComparesBlocks (M.state medium.old) at count sent.now) in_len (M.state medium.old) (M.state medium.new) (M.faults medium.old) (M.faults medium.new) result }
+    ensures { Served (ComparesBlocks (M.state medium.old) at count sent.now) 0 (M.state medium.old) (M.state medium.new) (M.faults medium.old) (M.faults medium.new) result }
 {
     if count == 0 {
         return Ok(good(Bytes::new(alloc)));
     }
-    compare_bytes(alloc, medium, at, 512 * u64::from(count), sent, in_len)
+    compare_bytes(alloc, medium, at, 512 * u64::from(count), sent)
 }
 
 pub fn compare_write<M: Medium>(
@@ -86,13 +84,12 @@ pub fn compare_write<M: Medium>(
     lba: u64,
     count: u32,
     sent: &[u8],
-    in_len: u32,
 ) -> Result<Reply, NoMemory>
-    ensures { Served (ServesCompareWrite (M.state medium.old) lba count sent.now) in_len (M.state medium.old) (M.state medium.new) (M.faults medium.old) (M.faults medium.new) result }
+    ensures { Served (ServesCompareWrite (M.state medium.old) lba count sent.now) 0 (M.state medium.old) (M.state medium.new) (M.faults medium.old) (M.faults medium.new) result }
 {
     let bytes = 2 * (512 * u64::from(count));
     match write_fault(medium, sent, bytes, lba, count) {
         Some(sense) => Ok(refused(alloc, sense)),
-        None => compare_blocks(alloc, medium, 512 * lba, count, sent, in_len),
+        None => compare_blocks(alloc, medium, 512 * lba, count, sent),
     }
 }

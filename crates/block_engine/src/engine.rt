@@ -40,6 +40,7 @@ impl<M: Medium + Drop> Engine<M> {
     }
 }
 
+#[tactic(auto, using(crate::proofs::Choosing::served_within))]
 fn serve<M: Medium>(
     alloc: Global,
     name: &Name,
@@ -53,11 +54,11 @@ fn serve<M: Medium>(
 {
     match op {
         Op::Read { lba, count } => read(alloc, medium, lba, count, in_len),
-        Op::Write { lba, count } => write(alloc, medium, lba, count, sent, in_len),
-        Op::Sync { lba, count } => sync(alloc, medium, lba, count, in_len),
-        Op::WriteSame { lba, count } => write_same(alloc, medium, lba, count, sent, in_len),
-        Op::Unmap { length } => unmap(alloc, medium, length, sent, in_len),
-        Op::CompareWrite { lba, count } => compare_write(alloc, medium, lba, count, sent, in_len),
+        Op::Write { lba, count } => write(alloc, medium, lba, count, sent),
+        Op::Sync { lba, count } => sync(alloc, medium, lba, count),
+        Op::WriteSame { lba, count } => write_same(alloc, medium, lba, count, sent),
+        Op::Unmap { length } => unmap(alloc, medium, length, sent),
+        Op::CompareWrite { lba, count } => compare_write(alloc, medium, lba, count, sent),
         _ => show(alloc, name, medium, op, in_len),
     }
 }

@@ -114,13 +114,8 @@ fn list_fault<M: Medium>(medium: &M, sent: &[u8], extents: &[Extent]) -> Option<
     None
 }
 
-fn unmap_list<M: Medium>(
-    alloc: Global,
-    medium: &mut M,
-    sent: &[u8],
-    in_len: u32,
-) -> Result<Reply, NoMemory>
-    ensures { Served (UnmapsList (M.state medium.old) sent.now) in_len (M.state medium.old) (M.state medium.new) (M.faults medium.old) (M.faults medium.new) result }
+fn unmap_list<M: Medium>(alloc: Global, medium: &mut M, sent: &[u8]) -> Result<Reply, NoMemory>
+    ensures { Served (UnmapsList (M.state medium.old) sent.now) 0 (M.state medium.old) (M.state medium.new) (M.faults medium.old) (M.faults medium.new) result }
 {
     if sent.len() < HEADER {
         return Ok(refused(alloc, PARAMETER_LIST_LENGTH_ERROR));
@@ -140,9 +135,8 @@ pub fn unmap<M: Medium>(
     medium: &mut M,
     length: u32,
     sent: &[u8],
-    in_len: u32,
 ) -> Result<Reply, NoMemory>
-    ensures { Served (ServesUnmap (M.state medium.old) length sent.now) in_len (M.state medium.old) (M.state medium.new) (M.faults medium.old) (M.faults medium.new) result }
+    ensures { Served (ServesUnmap (M.state medium.old) length sent.now) 0 (M.state medium.old) (M.state medium.new) (M.faults medium.old) (M.faults medium.new) result }
 {
     if sent.len() as u64 != u64::from(length) {
         return Ok(refused(alloc, INVALID_FIELD_IN_CDB));
@@ -150,5 +144,5 @@ pub fn unmap<M: Medium>(
     if length == 0 {
         return Ok(good(Bytes::new(alloc)));
     }
-    unmap_list(alloc, medium, sent, in_len)
+    unmap_list(alloc, medium, sent)
 }

@@ -5,4 +5,4 @@ use Rattle.block_engine.proofs.compare.compare_blocks.Goals as goal
 pub returns : goal.returns
 returns g c =
     let e : (c.args.count == 0) ≡ false = search rules in
-    served_else (c.args.count == 0) _ _ c.args.in_len _ _ _ _ _ e (rw c.from.ensures at c.compare_bytes.ensures)
+    served_else (c.args.count == 0) _ _ 0 _ _ _ _ _ e (rw c.from.ensures at c.compare_bytes.ensures)
