@@ -22,6 +22,7 @@ pub mod Fields
 pub mod Config
 pub mod Lines
 pub mod ScenarioData
+pub mod DeviceText
 pub mod Said
 pub mod Scenario
 pub mod Script
