@@ -7,6 +7,7 @@ use std::alloc::AllocFailed;
 use std::marker::Model;
 use tcmu_model::Why;
 use tcmu_types::{Command, Event, Listed, Name, NoMemory, Settings};
+use thiserror::Error;
 
 /// What a device line says.
 #[derive(Debug, Drop)]
@@ -143,8 +144,10 @@ impl<T: Drop> From<AllocFailed<T>> for LineFault {
 }
 
 /// Why a text is no scenario: the first bad line, counted from 1, and why; line 0 where the text is too long.
-#[derive(Clone, Copy, Debug, PartialEq, Eq)]
+#[derive(Clone, Copy, Debug, PartialEq, Eq, Error)]
 pub enum ScenarioFault {
+    #[error("line {line}: {}", .why.text())]
     Bad { line: u32, why: Why },
+    #[error("no memory")]
     NoMemory,
 }
