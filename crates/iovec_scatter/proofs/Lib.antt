@@ -1,2 +1,2 @@
-mod Steps
-mod Covering
+pub mod Steps
+pub mod Covering
