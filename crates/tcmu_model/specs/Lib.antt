@@ -22,7 +22,6 @@ pub mod Fields
 pub mod Config
 pub mod Lines
 pub mod ScenarioData
-pub mod DeviceText
 pub mod Said
 pub mod Scenario
 pub mod Script

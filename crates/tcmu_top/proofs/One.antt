@@ -13,7 +13,7 @@ use Rattle.tcmu_model.specs.Device.{Unfinished, DeviceState, Device}
 use Rattle.tcmu_model.specs.Events.{submit_answer, after_submit, enter_answer, after_enter, dispatch_answer, after_dispatch, command_out, after_handle, respond_answer, after_respond, publish_answer, after_publish, clean_answer, after_clean, tick_answer, after_tick, block_answer, after_block, reset_answer, after_reset, restart_answer, after_restart, tmr_answer, after_tmr, stat_answer}
 use Rattle.tcmu_model.specs.Steps.{Step, Makes, Handles, Asked, asked, moved}
 use Rattle.tcmu_model.specs.Drain.{Drains, drain_event}
-use Rattle.tcmu_model.specs.Replay.{Task, make, drain, DeviceLine, Plays, Replays, IsReplayText, ready_text, open_count}
+use Rattle.tcmu_top.specs.FirstReplay.{Task, make, drain, DeviceLine, Plays, Replays, IsReplayText, ready_text, open_count}
 use Rattle.tcmu_model.specs.Text.{entries_text, end_text}
 use Rattle.std.proofs.Common.{true, false}
 use Rattle.tcmu_top.specs.FirstForm.{ScenarioData, scenario_of}

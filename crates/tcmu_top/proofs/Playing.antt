@@ -16,7 +16,7 @@ use Rattle.tcmu_model.specs.Steps.{HandlerRelation, Step, Run, Makes, moved}
 use Rattle.tcmu_model.specs.Drain.{Drains, drain_event, todo_of, chosen}
 use Rattle.tcmu_model.specs.Sound.{IsSound, Every}
 use Rattle.tcmu_model.specs.Work.{HasOutcomes, GoesOn, work}
-use Rattle.tcmu_model.specs.Replay.{Task, make, drain, DeviceLine, Plays, Replays}
+use Rattle.tcmu_top.specs.FirstReplay.{Task, make, drain, DeviceLine, Plays, Replays}
 use Rattle.tcmu_model.specs.Text.{entry_text}
 use Rattle.tcmu_model.proofs.Draining.{work_falls}
 use Rattle.tcmu_model.proofs.GoesOn.{goes_on_first, goes_on_more, drains_run}

@@ -5,7 +5,7 @@ use Rattle.std.specs.Option.{option_map, option_and_then}
 use Rattle.std.proofs.lemmas.Bool.{cond-false, cond-true, ne_eqb, lt-leb, le-leb, and_left, and_right, and_from}
 use Rattle.std.proofs.lemmas.List.Sums.{sum_by-cons}
 use Rattle.std.proofs.lemmas.List.{length-map, nil_from_length, append-nil}
-use Rattle.tcmu_model.specs.Replay.{Task}
+use Rattle.tcmu_top.specs.FirstReplay.{Task}
 use Rattle.tcmu_top.specs.FirstForm.{ended, lines_of, each_line, line_of, is_submit, allowed, ScenarioData, scenario_of, scenario_of_lines, device_line}
 use Rattle.tcmu_top.specs.declared.scenario_text.LineKind.{LineKind}
 use Rattle.tcmu_top.specs.declared.scenario_text.LineKind.TheVariants.{Event, Drain}

@@ -5,7 +5,7 @@ use Rattle.tcmu_types.specs.Data.{SettingsData}
 use Rattle.tcmu_types.specs.Rules.{IsSettings}
 use Rattle.tcmu_model.specs.Device.{Device, opening}
 use Rattle.tcmu_model.specs.Sound.{IsSound, Every}
-use Rattle.tcmu_model.specs.Replay.{Task, DeviceLine, IsReplayText, ready_text}
+use Rattle.tcmu_top.specs.FirstReplay.{Task, DeviceLine, IsReplayText, ready_text}
 use Rattle.tcmu_model.proofs.SoundEvents.{sound_opening}
 use Rattle.tcmu_top.specs.FirstForm.{ScenarioData, device_line, device_settings}
 use Rattle.tcmu_top.specs.Forms.{devices_if}

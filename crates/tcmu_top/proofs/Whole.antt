@@ -8,7 +8,7 @@ use Rattle.tcmu_model.specs.Device.{Device}
 use Rattle.tcmu_model.specs.Steps.{HandlerRelation, Run}
 use Rattle.tcmu_model.specs.Sound.{IsSound, Every}
 use Rattle.tcmu_model.specs.Work.{HasOutcomes}
-use Rattle.tcmu_model.specs.Replay.{Task, DeviceLine, Replays, IsReplayText, ready_text, open_count}
+use Rattle.tcmu_top.specs.FirstReplay.{Task, DeviceLine, Replays, IsReplayText, ready_text, open_count}
 use Rattle.tcmu_model.specs.Text.{entries_text, end_text}
 use Rattle.tcmu_top.specs.Playing.{run_text, Wrote, WroteFront}
 use Rattle.tcmu_top.specs.Tasks.{IsFit}

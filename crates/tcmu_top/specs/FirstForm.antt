@@ -6,7 +6,7 @@ use Rattle.std.specs.Str.Parse.{digits_value}
 use Rattle.tcmu_types.specs.Data.{CommandData, SettingsData}
 use Rattle.tcmu_types.specs.Naming.{is_name}
 use Rattle.tcmu_types.specs.Events as ev
-use Rattle.tcmu_model.specs.Replay.{Task, make, drain, DeviceLine}
+use Rattle.tcmu_top.specs.FirstReplay.{Task, make, drain, DeviceLine}
 
 -- what a scenario says: its device lines, so far at most one, and what its lines ask of the device
 pub record ScenarioData : Type 0 where

@@ -2,7 +2,7 @@
 use Rattle.std.specs.Prelude.{ℕ, Bool, true, false, List, [], ◌∷◌, map, Option}
 use Rattle.std.specs.Option.{option_and_then}
 use Rattle.tcmu_types.specs.Views.{event_data}
-use Rattle.tcmu_model.specs.Replay.{Task, make, drain, DeviceLine}
+use Rattle.tcmu_top.specs.FirstReplay.{Task, make, drain, DeviceLine}
 use Rattle.tcmu_top.specs.FirstForm.{ScenarioData, device_line, lines_of, each_line}
 use Rattle.tcmu_top.specs.declared.scenario_text.LineKind.{LineKind}
 use Rattle.tcmu_top.specs.declared.scenario_text.LineKind.TheVariants.{Event, Drain}

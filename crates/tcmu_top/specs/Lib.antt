@@ -1,3 +1,4 @@
+pub mod FirstReplay
 pub mod FirstForm
 pub mod Forms
 pub mod Tasks

@@ -4,7 +4,7 @@ use Rattle.tcmu_types.specs.Events.{EventData, EntryData}
 use Rattle.edge.specs.Outside.{Gained, GainedFront}
 use Rattle.tcmu_model.specs.Device.{Device}
 use Rattle.tcmu_model.specs.Steps.{HandlerRelation, Step, Run}
-use Rattle.tcmu_model.specs.Replay.{DeviceLine}
+use Rattle.tcmu_top.specs.FirstReplay.{DeviceLine}
 use Rattle.tcmu_model.specs.Text.{entries_text}
 
 -- the text of the entries that lead from one device to another, with the completions that they logged

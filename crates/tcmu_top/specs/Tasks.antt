@@ -4,7 +4,7 @@ use Rattle.tcmu_types.specs.Rules.{IsCommand}
 use Rattle.tcmu_types.specs.Events.{EventData}
 use Rattle.tcmu_types.specs.Events as ev
 use Rattle.tcmu_model.specs.Lists.{IsRising}
-use Rattle.tcmu_model.specs.Replay.{Task, make, drain}
+use Rattle.tcmu_top.specs.FirstReplay.{Task, make, drain}
 
 -- a reset is of level 1 or 2, and a note of kind 1 to 7 on rising serials
 abbrev pub CanBeMade : EventData → Type 0

@@ -5,7 +5,7 @@ use Rattle.tcmu_types.specs.Events.{EntryData}
 use Rattle.edge.specs.Outside.{Tells, Gained, GainedFront}
 use Rattle.tcmu_model.specs.Device.{Device, opening}
 use Rattle.tcmu_model.specs.Steps.{HandlerRelation, Run}
-use Rattle.tcmu_model.specs.Replay.{Task, DeviceLine, IsReplayText}
+use Rattle.tcmu_top.specs.FirstReplay.{Task, DeviceLine, IsReplayText}
 use Rattle.tcmu_top.specs.FirstForm.{ScenarioData, scenario_of}
 use Rattle.tcmu_top.specs.Serving.{Serves, memory_medium, blank}
 use Rattle.tcmu_top.specs.declared.status.Why.{Why}

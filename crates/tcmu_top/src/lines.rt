@@ -8,7 +8,7 @@ ghost use Rattle.tcmu_model.specs.Steps.{Makes};
 ghost use Rattle.tcmu_model.specs.Drain.{chosen, Drains};
 ghost use Rattle.tcmu_model.specs.Sound.{IsSound, Every};
 ghost use Rattle.tcmu_model.specs.Work.{HasOutcomes};
-ghost use Rattle.tcmu_model.specs.Replay.{Plays, Replays};
+ghost use Rattle.tcmu_top.specs.FirstReplay.{Plays, Replays};
 ghost use Rattle.tcmu_path.specs.Calls.{Accepts};
 ghost use Rattle.tcmu_top.specs.Forms.{task_of};
 ghost use Rattle.tcmu_top.specs.Tasks.{CanBeMade, accepted_by, IsEvent, IsFit};

@@ -33,7 +33,7 @@ pub struct DeviceLine {
 }
 
 impl Model for DeviceLine {
-    ghost use Rattle.tcmu_model.specs.Replay.{DeviceLine as Spelled};
+    ghost use Rattle.tcmu_top.specs.FirstReplay.{DeviceLine as Spelled};
 
     ghost Value = { Spelled };
 

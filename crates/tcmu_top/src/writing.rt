@@ -5,7 +5,7 @@ ghost use Rattle.tcmu_types.specs.Numbered.{Rose};
 ghost use Rattle.tcmu_types.specs.Views.{event_data, answer_data};
 ghost use Rattle.edge.specs.Outside.{Gained, GainedFront};
 ghost use Rattle.tcmu_model.specs.Text as spelled;
-ghost use Rattle.tcmu_model.specs.Replay.{ready_text};
+ghost use Rattle.tcmu_top.specs.FirstReplay.{ready_text};
 ghost use Rattle.tcmu_top.specs.declared.writing.Stop.TheVariants.{NoMemory as Wanting};
 
 use crate::scenario_text::DeviceLine;

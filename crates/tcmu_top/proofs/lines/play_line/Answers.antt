@@ -1,7 +1,7 @@
 use Rattle.std.proofs.Common.{ap, subst}
 use Rattle.std.proofs.lemmas.Result.{on_ok_weaker, on_err_weaker}
 use Rattle.tcmu_types.specs.Views.{event_data}
-use Rattle.tcmu_model.specs.Replay.{Task}
+use Rattle.tcmu_top.specs.FirstReplay.{Task}
 use Rattle.tcmu_top.specs.Forms.{task_of}
 use Rattle.tcmu_top.specs.Tasks.{IsFit}
 use Rattle.tcmu_top.specs.declared.scenario_text.LineKind.{LineKind}
