@@ -22,6 +22,7 @@ pub mod Fields
 pub mod Config
 pub mod Lines
 pub mod ScenarioData
+pub mod DeviceText
 pub mod Said
 pub mod Scenario
 pub mod Script
@@ -33,3 +34,4 @@ pub mod Iovecs
 pub mod Examples
 pub mod Regions
 pub mod Journals
+pub mod Pending

@@ -4,6 +4,8 @@ pub mod Every
 pub mod Telling
 pub mod RunTexts
 pub mod Whole
+pub mod Scenarios
+pub mod One
 pub mod OpenCounts
 pub mod Playing
 pub mod Outcomes

@@ -4,3 +4,4 @@ pub mod Tasks
 pub mod Playing
 pub mod Serving
 pub mod Top
+pub mod Laws

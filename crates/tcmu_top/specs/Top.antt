@@ -43,13 +43,36 @@ abbrev pub IsTextOf : List DeviceLine → List Task → List ℕ → Type 0
 IsTextOf [] tasks text = text ≡ []
 IsTextOf (l ∷ more) tasks text = IsReplayText Serves l (opened l) tasks text
 
--- The source had these bytes, and no more than a scenario has. They are a scenario, and the text is that of its replay.
-pub record IsReplayOf (left : Option (List ℕ)) (bytes text : List ℕ) : Type 0 where
+-- the whole text of a scenario's replay was written
+pub record TextWritten (s : ScenarioData) (old new : Option (List ℕ)) : Type 0 where
+  pub text : List ℕ
+  pub is : IsTextOf s.devices s.tasks text
+  pub gained : Gained old text new
+
+-- a front of such a text was written
+pub record TextWrittenInPart (s : ScenarioData) (old new : Option (List ℕ)) : Type 0 where
+  pub text : List ℕ
+  pub is : IsTextOf s.devices s.tasks text
+  pub gained : GainedFront old text new
+
+-- The source had these bytes, and no more than a scenario has. They are this scenario.
+pub record HadScenario (left : Option (List ℕ)) (s : ScenarioData) : Type 0 where
+  pub bytes : List ℕ
   pub told : Tells left bytes
   pub short : length bytes ≤ 4194304
+  pub reads : scenario_of bytes ≡ Some s
+
+-- all that the source had is a scenario, and the whole text of its replay was written
+pub record Wrote (left : Option (List ℕ)) (old new : Option (List ℕ)) : Type 0 where
   pub scenario : ScenarioData
-  pub reads : scenario_of bytes ≡ Some scenario
-  pub replays : IsTextOf scenario.devices scenario.tasks text
+  pub had : HadScenario left scenario
+  pub wrote : TextWritten scenario old new
+
+-- the same, with a front of such a text
+pub record WroteInPart (left : Option (List ℕ)) (old new : Option (List ℕ)) : Type 0 where
+  pub scenario : ScenarioData
+  pub had : HadScenario left scenario
+  pub wrote : TextWrittenInPart scenario old new
 
 -- the source had too much; or all that it had is no scenario of the form that is served
 abbrev pub IsNoScenario : Why → Option (List ℕ) → Type 0
@@ -66,15 +89,11 @@ code_of status.NoMemory = 3
 code_of (status.BadScenario line why) = 4
 code_of status.BadWords = 5
 
--- what was written is a front of the text of a replay of the scenario that the source had
-abbrev pub WroteInPart : Option (List ℕ) → Option (List ℕ) → Option (List ℕ) → Type 0
-WroteInPart left old new = (bytes text : List ℕ) × IsReplayOf left bytes text × GainedFront old text new
-
 -- How a replay ends, and what it wrote: by what the source had left, the faults of the source before and after, what the sink had
 -- and has, its faults before and after, and the status.
 pub record Ends (left : Option (List ℕ)) (read read' : ℕ) (old new : Option (List ℕ)) (wrote wrote' : ℕ) (ended : Status) : Type 0 where
   -- the whole text of a replay of the scenario that the source had was written
-  pub ok : ended ≡ status.Ok → (bytes text : List ℕ) × IsReplayOf left bytes text × Gained old text new
+  pub ok : ended ≡ status.Ok → Wrote left old new
   -- the source failed, and nothing was written
   pub read_fault : ended ≡ status.ReadFault → Rose read read' × (new ≡ old)
   -- the sink failed
@@ -82,8 +101,17 @@ pub record Ends (left : Option (List ℕ)) (read read' : ℕ) (old new : Option 
   -- memory was wanting: before the scenario was read, and then nothing was written, or while it was replayed
   pub no_memory : ended ≡ status.NoMemory → (new ≡ old) ⊎ WroteInPart left old new
   -- what the source had is no scenario, and nothing was written
-  pub bad_scenario : (line : ℕ) (why : Why) → ended ≡ status.BadScenario line why → (line ≡ 0) × IsNoScenario why left × (new ≡ old)
+  pub bad_scenario : (line : ℕ) (reason : Why) → ended ≡ status.BadScenario line reason → (line ≡ 0) × IsNoScenario reason left × (new ≡ old)
   pub words : ended ≢ status.BadWords
+
+-- the same, where the bytes are at hand
+pub record BytesEnd (bytes : List ℕ) (old new : Option (List ℕ)) (wrote wrote' : ℕ) (ended : Status) : Type 0 where
+  pub ok : ended ≡ status.Ok → (s : ScenarioData) × (scenario_of bytes ≡ Some s) × TextWritten s old new
+  pub write_fault : ended ≡ status.WriteFault → Rose wrote wrote' × ((s : ScenarioData) × (scenario_of bytes ≡ Some s) × TextWrittenInPart s old new)
+  pub no_memory : ended ≡ status.NoMemory → (new ≡ old) ⊎ ((s : ScenarioData) × (scenario_of bytes ≡ Some s) × TextWrittenInPart s old new)
+  pub bad_scenario : (line : ℕ) (reason : Why) → ended ≡ status.BadScenario line reason → (line ≡ 0) × (reason ≡ why.NotYet) × (scenario_of bytes ≡ None) × (new ≡ old)
+  pub words : ended ≢ status.BadWords
+  pub reads : ended ≢ status.ReadFault
 
 -- ==== the words
 

@@ -60,10 +60,10 @@ impl State {
 
     #[tactic(auto, unfolding(tcmu_model::specs::Events::stat_answer))]
     pub fn stat(&self) -> Stat
-        requires { IsSound self.now }
+        requires { length self.now.unfinished ≤ 65536 }
         ensures { result ≡ stat_answer self.entry.now }
     {
-        let rows = self.few();
+        let rows = self.rows.as_slice();
         Stat {
             now: self.now,
             blocked: self.blocked,
