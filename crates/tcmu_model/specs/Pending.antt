@@ -1,5 +1,5 @@
 -- The target's record of a command that is laid and not finished.
-use Rattle.std.specs.Prelude.{◌≡◌, ℕ, Bool, List, Option, length}
+use Rattle.std.specs.Prelude.{ℕ, Bool, List, Option}
 
 -- the command's serial, initiator, tag and data-in length; its data blocks; the moment from which it is due; whether it is
 -- expired; and room for the bytes of its completion

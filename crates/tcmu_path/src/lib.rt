@@ -1,6 +1,16 @@
 //! A device as its events, whichever way it is kept, and one that keeps plain lists.
 #![tactic(auto)]
 
+mod books;
+mod closings;
+mod dispatching;
 mod path;
+mod placing;
+mod plain;
+mod ring;
+mod rows;
+mod state;
+mod waiting;
 
 pub use path::Path;
+pub use plain::PlainPath;

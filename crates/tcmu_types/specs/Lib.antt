@@ -6,3 +6,4 @@ pub mod Events
 pub mod Views
 pub mod Dumps
 pub mod Numbered
+pub mod Overwriting

@@ -33,8 +33,10 @@ impl Model for Cdb {
     ghost invariant = { λ a. IsCdb a.bytes.items };
 }
 
-fn group_length(code: u8) -> u8
-    ensures { result ≡ group_length code }
+/// How many bytes a block has whose first byte is this, by its group.
+pub fn group_length(code: u8) -> u8
+    ensures value { result ≡ group_length code }
+    ensures most { result ≤ 16 }
 {
     if code < 0x20 {
         6

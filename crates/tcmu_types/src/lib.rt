@@ -5,6 +5,7 @@
 mod answer;
 mod cdb;
 mod command;
+mod copies;
 mod dump;
 mod event;
 mod iovec;
@@ -18,8 +19,9 @@ mod stat;
 mod tests;
 
 pub use answer::{Answer, Dispatch, Enter, Handle, Publish, Reset, Respond, Submit, Tmr};
-pub use cdb::{Cdb, CdbLength, takes_payload};
+pub use cdb::{Cdb, CdbLength, group_length, takes_payload};
 pub use command::Command;
+pub use copies::{copy_out, overwrite};
 pub use dump::{Dump, Held, HeldList, Item, ItemKind, Items};
 pub use event::{Entry, Event};
 pub use iovec::{Iov, Iovs};

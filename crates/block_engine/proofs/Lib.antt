@@ -1,0 +1,4 @@
+pub mod Choosing
+pub mod Unmapping
+pub mod Deciding
+pub mod Settling

@@ -1,0 +1,16 @@
+use Rattle.std.proofs.Common.{◌≡◌, ◌≤◌, false, drop}
+use Rattle.std.specs.List.{list_any}
+use Rattle.tcmu_model.specs.Scsi.{is_beyond}
+use Rattle.block_engine.proofs.Unmapping.{GoesOn}
+use Rattle.block_engine.proofs.unmap.unmap_all.Given as goal
+
+abbrev pub invariant-loop-extent : goal.invariant-loop-extent
+invariant-loop-extent g l =
+    let rest = drop l.extent-index l.extents in
+    let old = g.M.Medium.state l.initial.medium in
+    let now = g.M.Medium.state l.medium in
+    record {
+      goes_on : GoesOn l.extents old rest now;
+      inside : list_any (is_beyond now.blocks) rest ≡ false;
+      later : g.M.Medium.faults l.initial.medium ≤ g.M.Medium.faults l.medium;
+    }

@@ -1,0 +1,163 @@
+//! READ, WRITE, SYNCHRONIZE CACHE and WRITE SAME.
+ghost use Rattle.std.specs.Prelude.{◌≡◌, ◌+◌, ◌*◌, ◌%◌, ◌≤◌, ◌<◌, length, is_err, IfOk, replicate, []};
+ghost use Rattle.tcmu_types.specs.Numbered.{HasCause};
+ghost use Rattle.tcmu_model.specs.Medium.{Reads, Fills};
+ghost use Rattle.tcmu_model.specs.Scsi.{ReadsBytes, ServesRead, WritesBytes, ServesWrite, ServesSync, ServesWriteSame, Calls, write_error};
+ghost use Rattle.block_engine.specs.Serving.{Served};
+
+use crate::checks::{range_fault, write_fault};
+use crate::replies::{after_call, good, refused};
+use crate::senses::{UNRECOVERED_READ_ERROR, WRITE_ERROR};
+use edge::Failed;
+use handler_trait::Medium;
+use std::alloc::Global;
+use tcmu_types::{Bytes, NoMemory, Reply};
+
+/// So many bytes to be read into.
+pub fn zeros(alloc: Global, n: usize) -> Result<Vec<u8>, NoMemory>
+    ensures { IfOk result (λ v. v.items ≡ replicate n 0) }
+{
+    let mut bytes = Vec::new(alloc);
+    bytes.resize(n, 0)?;
+    Ok(bytes)
+}
+
+/// Fills a vector with the bytes from `at` on.
+pub fn read_into<M: Medium>(medium: &mut M, at: u64, into: &mut Vec<u8>) -> Result<(), Failed>
+    requires { at + length into.old.items ≤ 512 * (M.state medium.old).blocks }
+    ensures reads { Reads at into.new.items (M.state medium.old) (is_err result) (M.state medium.new) }
+    ensures length { length into.new.items ≡ length into.old.items }
+    ensures blocks { (M.state medium.new).blocks ≡ (M.state medium.old).blocks }
+    ensures cause { HasCause (M.faults medium.old) (M.faults medium.new) result }
+{
+    medium.read(at, into)
+}
+
+fn read_bytes<M: Medium>(
+    alloc: Global,
+    medium: &mut M,
+    at: u64,
+    n: u64,
+    in_len: u32,
+) -> Result<Reply, NoMemory>
+    requires inside { at + n ≤ 512 * (M.state medium.old).blocks }
+    requires fits { n ≤ in_len }
+    ensures { Served (ReadsBytes (M.state medium.old) at n) in_len (M.state medium.old) (M.state medium.new) (M.faults medium.old) (M.faults medium.new) result }
+{
+    if n == 0 {
+        return Ok(good(Bytes::new(alloc)));
+    }
+    let mut bytes = zeros(alloc, n as usize)?;
+    let outcome = read_into(medium, at, &mut bytes);
+    let payload = Bytes::from_vec(bytes);
+    Ok(after_call(alloc, outcome, payload, UNRECOVERED_READ_ERROR))
+}
+
+pub fn read<M: Medium>(
+    alloc: Global,
+    medium: &mut M,
+    lba: u64,
+    count: u32,
+    in_len: u32,
+) -> Result<Reply, NoMemory>
+    ensures { Served (ServesRead (M.state medium.old) lba count in_len) in_len (M.state medium.old) (M.state medium.new) (M.faults medium.old) (M.faults medium.new) result }
+{
+    match range_fault(medium.blocks(), lba, count) {
+        Some(sense) => Ok(refused(alloc, sense)),
+        None => {
+            let n = (512 * u64::from(count)).min(u64::from(in_len));
+            read_bytes(alloc, medium, 512 * lba, n, in_len)
+        }
+    }
+}
+
+fn write_bytes<M: Medium>(
+    alloc: Global,
+    medium: &mut M,
+    at: u64,
+    sent: &[u8],
+) -> Result<Reply, NoMemory>
+    requires inside { at + length sent.now ≤ 512 * (M.state medium.old).blocks }
+    requires start { at % 512 ≡ 0 }
+    requires whole { length sent.now % 512 ≡ 0 }
+    ensures { Served (WritesBytes (M.state medium.old) at sent.now) 0 (M.state medium.old) (M.state medium.new) (M.faults medium.old) (M.faults medium.new) result }
+{
+    if sent.len() == 0 {
+        return Ok(good(Bytes::new(alloc)));
+    }
+    let outcome = medium.write(at, sent);
+    Ok(after_call(alloc, outcome, Bytes::new(alloc), WRITE_ERROR))
+}
+
+pub fn write<M: Medium>(
+    alloc: Global,
+    medium: &mut M,
+    lba: u64,
+    count: u32,
+    sent: &[u8],
+) -> Result<Reply, NoMemory>
+    ensures { Served (ServesWrite (M.state medium.old) lba count sent.now) 0 (M.state medium.old) (M.state medium.new) (M.faults medium.old) (M.faults medium.new) result }
+{
+    match write_fault(medium, sent, 512 * u64::from(count), lba, count) {
+        Some(sense) => Ok(refused(alloc, sense)),
+        None => write_bytes(alloc, medium, 512 * lba, sent),
+    }
+}
+
+pub fn sync<M: Medium>(
+    alloc: Global,
+    medium: &mut M,
+    lba: u64,
+    count: u32,
+) -> Result<Reply, NoMemory>
+    ensures { Served (ServesSync (M.state medium.old) lba count) 0 (M.state medium.old) (M.state medium.new) (M.faults medium.old) (M.faults medium.new) result }
+{
+    if let Some(sense) = range_fault(medium.blocks(), lba, count) {
+        return Ok(refused(alloc, sense));
+    }
+    let outcome = medium.sync();
+    Ok(after_call(alloc, outcome, Bytes::new(alloc), WRITE_ERROR))
+}
+
+fn block_of(sent: &[u8]) -> [u8; 512]
+    requires { length sent.now ≡ 512 }
+    ensures { result ≡ sent.now }
+{
+    let mut block = [0; 512];
+    block.copy_from_slice(sent);
+    block
+}
+
+fn fill_blocks<M: Medium>(
+    alloc: Global,
+    medium: &mut M,
+    at: u64,
+    count: u32,
+    sent: &[u8],
+) -> Result<Reply, NoMemory>
+    requires inside { at + 512 * count ≤ 512 * (M.state medium.old).blocks }
+    requires start { at % 512 ≡ 0 }
+    requires some { 0 < count }
+    requires fits { length sent.now ≡ 512 }
+    ensures { Served (Calls (Fills at sent.now count (M.state medium.old)) write_error []) 0 (M.state medium.old) (M.state medium.new) (M.faults medium.old) (M.faults medium.new) result }
+{
+    let block = block_of(sent);
+    let outcome = medium.fill(at, &block, u64::from(count));
+    Ok(after_call(alloc, outcome, Bytes::new(alloc), WRITE_ERROR))
+}
+
+pub fn write_same<M: Medium>(
+    alloc: Global,
+    medium: &mut M,
+    lba: u64,
+    count: u32,
+    sent: &[u8],
+) -> Result<Reply, NoMemory>
+    requires some { 0 < count }
+    ensures { Served (ServesWriteSame (M.state medium.old) lba count sent.now) 0 (M.state medium.old) (M.state medium.new) (M.faults medium.old) (M.faults medium.new) result }
+{
+    match write_fault(medium, sent, 512, lba, count) {
+        Some(sense) => Ok(refused(alloc, sense)),
+        None => fill_blocks(alloc, medium, 512 * lba, count, sent),
+    }
+}

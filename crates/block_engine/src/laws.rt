@@ -1,0 +1,28 @@
+//! What follows from the engine's relation.
+ghost use Rattle.block_engine.specs.Determined.{SomeReply, WholeReply, OneReply, StaysTold, OneReplyInMemory};
+
+/// Every request has a reply, over every medium.
+pub fn some_reply()
+    ensures { SomeReply }
+{}
+
+/// Each reply that a request may have is whole, and has no more bytes than may be answered.
+pub fn whole_reply()
+    ensures { WholeReply }
+{}
+
+/// Over a medium that tells its bytes and its failing calls a request has one reply and leaves one medium, as long as it reads
+/// and compares nothing that is lost.
+pub fn one_reply()
+    ensures { OneReply }
+{}
+
+/// Such a medium tells its bytes and its failing calls after each request.
+pub fn stays_told()
+    ensures { StaysTold }
+{}
+
+/// Over a medium in memory the meaning of a request is a function: nothing of it is ever lost.
+pub fn one_reply_in_memory()
+    ensures { OneReplyInMemory }
+{}

@@ -1,0 +1,57 @@
+//! Replies.
+ghost use Rattle.std.specs.Prelude.{◌≡◌, is_err, if◌then◌else◌, IfOk, take};
+ghost use Rattle.tcmu_model.specs.Scsi.{good, refused, cut};
+
+use edge::Failed;
+use std::alloc::Global;
+use tcmu_types::{Bytes, NoMemory, Reply, ScsiStatus, Sense};
+
+const GOOD: ScsiStatus = ScsiStatus(0x00);
+
+const CHECK_CONDITION: ScsiStatus = ScsiStatus(0x02);
+
+pub fn good(payload: Bytes) -> Reply
+    ensures { result ≡ good payload.items }
+{
+    Reply {
+        status: GOOD,
+        sense: None,
+        payload,
+    }
+}
+
+pub fn refused(alloc: Global, sense: Sense) -> Reply
+    ensures { result ≡ refused sense }
+{
+    Reply {
+        status: CHECK_CONDITION,
+        sense: Some(sense),
+        payload: Bytes::new(alloc),
+    }
+}
+
+/// The reply behind a call of the medium: good with this payload, or refused with this sense data where the call failed.
+pub fn after_call(alloc: Global, outcome: Result<(), Failed>, payload: Bytes, sense: Sense) -> Reply
+    ensures { result ≡ (if is_err outcome then refused sense else good payload.items) }
+{
+    match outcome {
+        Ok(()) => good(payload),
+        Err(Failed) => refused(alloc, sense),
+    }
+}
+
+/// A good reply of these bytes, cut to an allocation length and then to the length that may be answered.
+pub fn cut(alloc: Global, bytes: &[u8], limit: u32, in_len: u32) -> Result<Reply, NoMemory>
+    ensures { IfOk result (λ r. r ≡ good (cut limit in_len bytes.now)) }
+{
+    let n = bytes.len().min(limit as usize).min(in_len as usize);
+    Ok(good(Bytes::from_slice(alloc, &bytes[..n])?))
+}
+
+/// A good reply of these bytes, cut to the length that may be answered.
+pub fn front(alloc: Global, bytes: &[u8], in_len: u32) -> Result<Reply, NoMemory>
+    ensures { IfOk result (λ r. r ≡ good (take in_len bytes.now)) }
+{
+    let n = bytes.len().min(in_len as usize);
+    Ok(good(Bytes::from_slice(alloc, &bytes[..n])?))
+}

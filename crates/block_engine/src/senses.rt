@@ -1,0 +1,76 @@
+//! Sense data (SPC-4, sense key and additional sense code assignments).
+ghost use Rattle.std.specs.Prelude.{◌≡◌, ◌≢◌};
+ghost use Rattle.tcmu_model.specs.Scsi.{fault_sense};
+
+use tcmu_model::CdbFault;
+use tcmu_types::Sense;
+
+pub const NO_SENSE: Sense = Sense {
+    key: 0x0,
+    asc: 0x00,
+    ascq: 0,
+};
+
+pub const UNRECOVERED_READ_ERROR: Sense = Sense {
+    key: 0x3,
+    asc: 0x11,
+    ascq: 0,
+};
+
+pub const WRITE_ERROR: Sense = Sense {
+    key: 0x3,
+    asc: 0x0c,
+    ascq: 0,
+};
+
+pub const PARAMETER_LIST_LENGTH_ERROR: Sense = Sense {
+    key: 0x5,
+    asc: 0x1a,
+    ascq: 0,
+};
+
+pub const INVALID_OPERATION_CODE: Sense = Sense {
+    key: 0x5,
+    asc: 0x20,
+    ascq: 0,
+};
+
+pub const ADDRESS_OUT_OF_RANGE: Sense = Sense {
+    key: 0x5,
+    asc: 0x21,
+    ascq: 0,
+};
+
+pub const INVALID_FIELD_IN_CDB: Sense = Sense {
+    key: 0x5,
+    asc: 0x24,
+    ascq: 0,
+};
+
+pub const INVALID_FIELD_IN_LIST: Sense = Sense {
+    key: 0x5,
+    asc: 0x26,
+    ascq: 0,
+};
+
+pub const WRITE_PROTECTED: Sense = Sense {
+    key: 0x7,
+    asc: 0x27,
+    ascq: 0,
+};
+
+pub const MISCOMPARE: Sense = Sense {
+    key: 0xe,
+    asc: 0x1d,
+    ascq: 0,
+};
+
+pub fn fault_sense(fault: CdbFault) -> Sense
+    ensures value { result ≡ fault_sense fault }
+    ensures key { result.key ≢ 3 }
+{
+    match fault {
+        CdbFault::Opcode(_) => INVALID_OPERATION_CODE,
+        CdbFault::Field(_) => INVALID_FIELD_IN_CDB,
+    }
+}

@@ -1,0 +1,148 @@
+//! UNMAP.
+ghost use Rattle.std.specs.Prelude.{◌≡◌, ◌≢◌, ◌+◌, ◌*◌, ◌-◌, ◌/◌, ◌^◌, ◌≤◌, ◌<◌, length, is_err, IfOk, IfSome, None, false, []};
+ghost use Rattle.std.specs.List.{sum_by, list_any};
+ghost use Rattle.tcmu_types.specs.Numbered.{HasCause};
+ghost use Rattle.tcmu_model.specs.Scsi.{extents_from, extents_of, Unmaps, UnmapsOne, UnmapsList, ServesUnmap, list_checks, first_failed, is_beyond, is_bad_list, has_bad_lengths};
+ghost use Rattle.block_engine.specs.Serving.{Served};
+
+use crate::checks::is_outside;
+use crate::replies::{after_call, good, refused};
+use crate::senses::{
+    ADDRESS_OUT_OF_RANGE, INVALID_FIELD_IN_CDB, INVALID_FIELD_IN_LIST, PARAMETER_LIST_LENGTH_ERROR,
+    WRITE_ERROR, WRITE_PROTECTED,
+};
+use cdb_decode::{u16_at, u32_at, u64_at};
+use edge::Failed;
+use handler_trait::Medium;
+use std::alloc::Global;
+use tcmu_model::Extent;
+use tcmu_types::{Bytes, NoMemory, Reply, Sense};
+
+/// The bytes before the first block descriptor, and those of each.
+const HEADER: usize = 8;
+
+const DESCRIPTOR: usize = 16;
+
+// The first n descriptors from a place on.
+fn extents(alloc: Global, sent: &[u8], n: usize) -> Result<Vec<Extent>, NoMemory>
+    requires { 8 + 16 * n ≤ length sent.now }
+    ensures { IfOk result (λ list. list.items ≡ extents_from 8 n sent.now) }
+{
+    let mut list = Vec::with_capacity(alloc, n)?;
+    for k in 0..n {
+        let at = HEADER + DESCRIPTOR * k;
+        list.push(Extent {
+            lba: u64_at(sent, at),
+            count: u32_at(sent, at + 8),
+        })?;
+    }
+    Ok(list)
+}
+
+// How many blocks these have together.
+fn total(extents: &[Extent]) -> u64
+    requires { length extents.now ≤ 256 }
+    ensures { result ≡ sum_by (λ e. e.count) extents.now }
+{
+    let mut blocks = 0;
+    for extent in extents {
+        blocks += u64::from(extent.count);
+    }
+    blocks
+}
+
+fn has_outside(blocks: u64, extents: &[Extent]) -> bool
+    ensures { result ≡ list_any (is_beyond blocks) extents.now }
+{
+    extents
+        .iter()
+        .any(|extent| is_outside(blocks, extent.lba, extent.count))
+}
+
+// Whether the lengths in the header are not those of what follows them.
+fn has_bad_lengths(sent: &[u8]) -> bool
+    requires { 8 ≤ length sent.now }
+    ensures { result ≡ has_bad_lengths sent.now }
+{
+    usize::from(u16_at(sent, 0)) != sent.len() - 2 || usize::from(u16_at(sent, 2)) != sent.len() - 8
+}
+
+// One fill with zeros, where the range has blocks.
+fn unmap_one<M: Medium>(medium: &mut M, extent: Extent) -> Result<(), Failed>
+    requires { extent.lba + extent.count ≤ (M.state medium.old).blocks }
+    ensures value { UnmapsOne extent (M.state medium.old) (is_err result) (M.state medium.new) }
+    ensures blocks { (M.state medium.new).blocks ≡ (M.state medium.old).blocks }
+    ensures cause { HasCause (M.faults medium.old) (M.faults medium.new) result }
+{
+    if extent.count == 0 {
+        return Ok(());
+    }
+    // It has at most 2^35 blocks, so that the place below fits.
+    let _blocks = medium.blocks();
+    medium.fill(512 * extent.lba, &[0; 512], u64::from(extent.count))
+}
+
+// One after the other, up to the first that fails.
+fn unmap_all<M: Medium>(medium: &mut M, extents: &[Extent]) -> Result<(), Failed>
+    requires { list_any (is_beyond (M.state medium.old).blocks) extents.now ≡ false }
+    ensures value { Unmaps extents.now (M.state medium.old) (is_err result) (M.state medium.new) }
+    ensures cause { HasCause (M.faults medium.old) (M.faults medium.new) result }
+{
+    for extent in extents {
+        unmap_one(medium, *extent)?;
+    }
+    Ok(())
+}
+
+// Why a parameter list with these descriptors is refused.
+fn list_fault<M: Medium>(medium: &M, sent: &[u8], extents: &[Extent]) -> Option<Sense>
+    requires header { 8 ≤ length sent.now }
+    requires listed { extents.now ≡ extents_of sent.now }
+    ensures value { result ≡ first_failed (list_checks (M.state medium.now) sent.now) }
+    ensures key { IfSome result (λ s. s.key ≢ 3) }
+    ensures inside { result ≡ None → list_any (is_beyond (M.state medium.now).blocks) extents.now ≡ false }
+{
+    if has_bad_lengths(sent) || extents.len() > 256 || total(extents) > 32_768 {
+        return Some(INVALID_FIELD_IN_LIST);
+    }
+    if medium.protected() {
+        return Some(WRITE_PROTECTED);
+    }
+    if has_outside(medium.blocks(), extents) {
+        return Some(ADDRESS_OUT_OF_RANGE);
+    }
+    None
+}
+
+fn unmap_list<M: Medium>(alloc: Global, medium: &mut M, sent: &[u8]) -> Result<Reply, NoMemory>
+    ensures { Served (UnmapsList (M.state medium.old) sent.now) 0 (M.state medium.old) (M.state medium.new) (M.faults medium.old) (M.faults medium.new) result }
+{
+    if sent.len() < HEADER {
+        return Ok(refused(alloc, PARAMETER_LIST_LENGTH_ERROR));
+    }
+    let extents = extents(alloc, sent, (sent.len() - HEADER) / DESCRIPTOR)?;
+    match list_fault(medium, sent, &extents) {
+        Some(sense) => Ok(refused(alloc, sense)),
+        None => {
+            let outcome = unmap_all(medium, &extents);
+            Ok(after_call(alloc, outcome, Bytes::new(alloc), WRITE_ERROR))
+        }
+    }
+}
+
+pub fn unmap<M: Medium>(
+    alloc: Global,
+    medium: &mut M,
+    length: u32,
+    sent: &[u8],
+) -> Result<Reply, NoMemory>
+    ensures { Served (ServesUnmap (M.state medium.old) length sent.now) 0 (M.state medium.old) (M.state medium.new) (M.faults medium.old) (M.faults medium.new) result }
+{
+    if sent.len() as u64 != u64::from(length) {
+        return Ok(refused(alloc, INVALID_FIELD_IN_CDB));
+    }
+    if length == 0 {
+        return Ok(good(Bytes::new(alloc)));
+    }
+    unmap_list(alloc, medium, sent)
+}

@@ -1,0 +1,260 @@
+//! The table of operation codes, by the length of the block.
+ghost use Rattle.std.specs.Prelude.{◌≡◌, ℕ, ◌+◌, ◌*◌, ◌%◌, ◌<◌, ◌≤◌, length, slice_index, [], ◌∷◌, not, ◌||◌, ◌==◌, nat_lt, nat_le, if◌then◌else◌, IfOk};
+ghost use Rattle.byteorder.specs.Endian.{big_from};
+ghost use Rattle.tcmu_model.specs.Decoding.{decoded, ruled, rule, asks_page, asked_page, inquiry_page, is_vpd_page, is_mode_page, no_high_bits, no_low_bit, no_low_bits, same_count, count6, IsDecoded};
+ghost use Rattle.tcmu_model.specs.declared.op.Op.TheVariants.{RequestSense, Inquiry, ModeSense, Capacity16, ReportLuns, Unmap, CompareWrite};
+
+use crate::{u16_at, u32_at, u64_at};
+use tcmu_model::{CdbFault, Op};
+use tcmu_types::Cdb;
+
+/// What a command descriptor block asks, or why it asks nothing: `Opcode` exactly where its operation code is not in the table,
+/// and `Field` with the lowest byte of which a field breaks its rule (SPC-4 and SBC-3, by the names of the commands).
+#[tactic(auto, unfolding(tcmu_model::specs::Decoding::decoded))]
+pub fn decode(cdb: &Cdb) -> Result<Op, CdbFault>
+    ensures value { result ≡ decoded cdb.now }
+    ensures sound { IfOk result IsDecoded }
+{
+    let bytes = cdb.as_bytes();
+    match bytes[0] {
+        0x00..0x20 => six(bytes),
+        0x20..0x60 => ten(bytes),
+        0x80..0xa0 => sixteen(bytes),
+        0xa0..0xc0 => twelve(bytes),
+        code => Err(CdbFault::Opcode(code)),
+    }
+}
+
+#[tactic(auto, unfolding(tcmu_model::specs::Decoding::decoded))]
+fn six(bytes: &[u8]) -> Result<Op, CdbFault>
+    requires length { length bytes.now ≡ 6 }
+    requires code { slice_index bytes.now 0 < 0x20 }
+    ensures value { result ≡ decoded bytes.now }
+    ensures sound { IfOk result IsDecoded }
+{
+    match bytes[0] {
+        0x00 => Ok(Op::TestUnitReady),
+        0x03 => request_sense(bytes),
+        0x08 => Ok(Op::Read {
+            lba: short_lba(bytes),
+            count: short_count(bytes),
+        }),
+        0x0a => Ok(Op::Write {
+            lba: short_lba(bytes),
+            count: short_count(bytes),
+        }),
+        0x12 => inquiry(bytes),
+        0x1a => mode_sense(bytes),
+        code => Err(CdbFault::Opcode(code)),
+    }
+}
+
+#[tactic(auto, unfolding(tcmu_model::specs::Decoding::decoded))]
+fn ten(bytes: &[u8]) -> Result<Op, CdbFault>
+    requires length { length bytes.now ≡ 10 }
+    requires low { 0x20 ≤ slice_index bytes.now 0 }
+    requires high { slice_index bytes.now 0 < 0x60 }
+    ensures value { result ≡ decoded bytes.now }
+    ensures sound { IfOk result IsDecoded }
+{
+    let lba = u64::from(u32_at(bytes, 2));
+    let count = u32::from(u16_at(bytes, 7));
+    match bytes[0] {
+        0x25 => Ok(Op::Capacity10),
+        0x28 => without_high_bits(bytes, Op::Read { lba, count }),
+        0x2a => without_high_bits(bytes, Op::Write { lba, count }),
+        0x35 => Ok(Op::Sync { lba, count }),
+        0x41 => same(bytes, 7, count, Op::WriteSame { lba, count }),
+        0x42 => unmap(bytes),
+        code => Err(CdbFault::Opcode(code)),
+    }
+}
+
+#[tactic(auto, unfolding(tcmu_model::specs::Decoding::decoded))]
+fn twelve(bytes: &[u8]) -> Result<Op, CdbFault>
+    requires length { length bytes.now ≡ 12 }
+    requires low { 0xa0 ≤ slice_index bytes.now 0 }
+    requires high { slice_index bytes.now 0 < 0xc0 }
+    ensures value { result ≡ decoded bytes.now }
+    ensures sound { IfOk result IsDecoded }
+{
+    let lba = u64::from(u32_at(bytes, 2));
+    let count = u32_at(bytes, 6);
+    match bytes[0] {
+        0xa0 => report_luns(bytes),
+        0xa8 => without_high_bits(bytes, Op::Read { lba, count }),
+        0xaa => without_high_bits(bytes, Op::Write { lba, count }),
+        code => Err(CdbFault::Opcode(code)),
+    }
+}
+
+#[tactic(auto, unfolding(tcmu_model::specs::Decoding::decoded))]
+fn sixteen(bytes: &[u8]) -> Result<Op, CdbFault>
+    requires length { length bytes.now ≡ 16 }
+    requires low { 0x80 ≤ slice_index bytes.now 0 }
+    requires high { slice_index bytes.now 0 < 0xa0 }
+    ensures value { result ≡ decoded bytes.now }
+    ensures sound { IfOk result IsDecoded }
+{
+    let lba = u64_at(bytes, 2);
+    let count = u32_at(bytes, 10);
+    match bytes[0] {
+        0x88 => without_high_bits(bytes, Op::Read { lba, count }),
+        0x89 => {
+            let count = u32::from(bytes[13]);
+            without_high_bits(bytes, Op::CompareWrite { lba, count })
+        }
+        0x8a => without_high_bits(bytes, Op::Write { lba, count }),
+        0x91 => Ok(Op::Sync { lba, count }),
+        0x93 => same(bytes, 10, count, Op::WriteSame { lba, count }),
+        0x9e => capacity(bytes),
+        code => Err(CdbFault::Opcode(code)),
+    }
+}
+
+fn short_lba(bytes: &[u8]) -> u64
+    requires { length bytes.now ≡ 6 }
+    ensures { result ≡ 65536 * (slice_index bytes.now 1 % 32) + big_from 2 2 bytes.now }
+{
+    65536 * u64::from(bytes[1] % 32) + u64::from(u16_at(bytes, 2))
+}
+
+fn short_count(bytes: &[u8]) -> u32
+    requires { length bytes.now ≡ 6 }
+    ensures { result ≡ count6 bytes.now }
+{
+    match bytes[4] {
+        0 => 256,
+        count => u32::from(count),
+    }
+}
+
+fn without_high_bits(bytes: &[u8], op: Op) -> Result<Op, CdbFault>
+    requires { 6 ≤ length bytes.now }
+    ensures value { result ≡ ruled (no_high_bits bytes.now ∷ []) op }
+    ensures sound { IsDecoded op → IfOk result IsDecoded }
+{
+    if bytes[1] >= 0x20 {
+        return Err(CdbFault::Field(1));
+    }
+    Ok(op)
+}
+
+// WRITE SAME, whose count stands in the block from a byte on.
+fn same(bytes: &[u8], at: u8, count: u32, op: Op) -> Result<Op, CdbFault>
+    requires { 6 ≤ length bytes.now }
+    ensures value { result ≡ ruled (no_low_bits bytes.now ∷ same_count at count ∷ []) op }
+    ensures sound { (0 < count → IsDecoded op) → IfOk result IsDecoded }
+{
+    if bytes[1] % 32 != 0 {
+        return Err(CdbFault::Field(1));
+    }
+    if count == 0 || count > 2048 {
+        return Err(CdbFault::Field(at));
+    }
+    Ok(op)
+}
+
+fn unmap(bytes: &[u8]) -> Result<Op, CdbFault>
+    requires { length bytes.now ≡ 10 }
+    ensures value { result ≡ ruled (no_low_bit bytes.now ∷ []) (Unmap (big_from 7 2 bytes.now)) }
+    ensures sound { IfOk result IsDecoded }
+{
+    if bytes[1] % 2 == 1 {
+        return Err(CdbFault::Field(1));
+    }
+    Ok(Op::Unmap {
+        length: u32::from(u16_at(bytes, 7)),
+    })
+}
+
+fn request_sense(bytes: &[u8]) -> Result<Op, CdbFault>
+    requires { length bytes.now ≡ 6 }
+    ensures value { result ≡ ruled (no_low_bit bytes.now ∷ []) (RequestSense (slice_index bytes.now 4)) }
+    ensures sound { IfOk result IsDecoded }
+{
+    if bytes[1] % 2 == 1 {
+        return Err(CdbFault::Field(1));
+    }
+    Ok(Op::RequestSense {
+        limit: u32::from(bytes[4]),
+    })
+}
+
+fn is_vpd_page(page: u8) -> bool
+    ensures { result ≡ is_vpd_page page }
+{
+    matches!(page, 0x00 | 0x80 | 0x83 | 0xb0)
+}
+
+fn is_mode_page(page: u8) -> bool
+    ensures { result ≡ is_mode_page page }
+{
+    matches!(page, 0x08 | 0x0a | 0x3f)
+}
+
+fn inquiry(bytes: &[u8]) -> Result<Op, CdbFault>
+    requires { length bytes.now ≡ 6 }
+    ensures value { result ≡ ruled (inquiry_page bytes.now ∷ []) (Inquiry (asked_page bytes.now) (big_from 3 2 bytes.now)) }
+    ensures sound { IfOk result IsDecoded }
+{
+    let limit = u32::from(u16_at(bytes, 3));
+    let code = bytes[2];
+    if bytes[1] % 2 == 1 {
+        if !is_vpd_page(code) {
+            return Err(CdbFault::Field(2));
+        }
+        let page = Some(code);
+        Ok(Op::Inquiry { page, limit })
+    } else {
+        if code != 0 {
+            return Err(CdbFault::Field(2));
+        }
+        Ok(Op::Inquiry { page: None, limit })
+    }
+}
+
+fn mode_sense(bytes: &[u8]) -> Result<Op, CdbFault>
+    requires { length bytes.now ≡ 6 }
+    ensures value { result ≡ ruled (rule 2 (not (is_mode_page (slice_index bytes.now 2))) ∷ rule 3 (not (slice_index bytes.now 3 == 0)) ∷ [])
+        (ModeSense (slice_index bytes.now 2) (slice_index bytes.now 4)) }
+    ensures sound { IfOk result IsDecoded }
+{
+    if !is_mode_page(bytes[2]) {
+        return Err(CdbFault::Field(2));
+    }
+    if bytes[3] != 0 {
+        return Err(CdbFault::Field(3));
+    }
+    Ok(Op::ModeSense {
+        page: bytes[2],
+        limit: u32::from(bytes[4]),
+    })
+}
+
+fn capacity(bytes: &[u8]) -> Result<Op, CdbFault>
+    requires { length bytes.now ≡ 16 }
+    ensures value { result ≡ ruled (rule 1 (not (slice_index bytes.now 1 % 32 == 0x10)) ∷ []) (Capacity16 (big_from 10 4 bytes.now)) }
+    ensures sound { IfOk result IsDecoded }
+{
+    if bytes[1] % 32 != 0x10 {
+        return Err(CdbFault::Field(1));
+    }
+    Ok(Op::Capacity16 {
+        limit: u32_at(bytes, 10),
+    })
+}
+
+fn report_luns(bytes: &[u8]) -> Result<Op, CdbFault>
+    requires { length bytes.now ≡ 12 }
+    ensures value { result ≡ ruled (rule 2 (nat_lt 2 (slice_index bytes.now 2)) ∷ []) (ReportLuns (slice_index bytes.now 2) (big_from 6 4 bytes.now)) }
+    ensures sound { IfOk result IsDecoded }
+{
+    if bytes[2] > 2 {
+        return Err(CdbFault::Field(2));
+    }
+    Ok(Op::ReportLuns {
+        select: bytes[2],
+        limit: u32_at(bytes, 6),
+    })
+}

@@ -1,0 +1,5 @@
+pub mod Numbers
+pub mod Digits
+pub mod Pieces
+pub mod Runs
+pub mod Limits

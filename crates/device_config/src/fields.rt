@@ -1,0 +1,328 @@
+//! Numbers, names, digits, runs and lists, read from a field.
+ghost use Rattle.std.specs.Prelude.{◌≡◌, ℕ, ◌+◌, ◌*◌, ◌^◌, ◌<◌, ◌≤◌, ◌==◌, List, [], ◌∷◌, ◌++◌, length, true, IfOk, IfSome, IfNone, Some, None, bytes_eq, map, replicate, if◌then◌else◌};
+ghost use Rattle.std.specs.List.{slice_split, list_all, position};
+ghost use Rattle.std.specs.Option.{option_map};
+ghost use Rattle.tcmu_types.specs.declared.settings.Flags.{Flags};
+ghost use Rattle.tcmu_model.specs.Reading.{each};
+ghost use Rattle.tcmu_model.specs.Fields.{cut_at, pieces, name_of, is_digit, is_number, number_of, is_rising, rising_of, hex_value, hex_pair, bytes_of_hex, cdb_of, after_word, run_of, runs_of, with_flag, with_flags, no_flags, flags_of, serials_of};
+
+use std::alloc::Global;
+use tcmu_types::{Bytes, Cdb, Flags, Name, NoMemory, Serials};
+
+fn place_of(bytes: &[u8], at: u8) -> Option<usize>
+    ensures { result ≡ position (λ b. b == at) bytes.now }
+{
+    bytes.iter().position(|b| *b == at)
+}
+
+/// What stands before and behind the first such byte.
+#[tactic(auto, unfolding(tcmu_model::specs::Fields::cut_at))]
+pub fn cut(bytes: &[u8], at: u8) -> Option<(&[u8], &[u8])>
+    ensures value { option_map (λ p. (p.0.now, p.1.now)) result ≡ cut_at at bytes.now }
+    ensures found { IfSome result (λ p. pieces at bytes.now ≡ p.0.now ∷ pieces at p.1.now) }
+    ensures shorter { IfSome result (λ p. length p.0.now + length p.1.now + 1 ≡ length bytes.now) }
+    ensures none { IfNone result (pieces at bytes.now ≡ bytes.now ∷ []) }
+{
+    match place_of(bytes, at) {
+        Some(i) => Some((&bytes[..i], &bytes[i + 1..])),
+        None => None,
+    }
+}
+
+pub fn is_text(text: &[u8], wanted: &[u8]) -> bool
+    ensures { result ≡ bytes_eq text.now wanted.now }
+{
+    text == wanted
+}
+
+/// What follows a word at the front of a text.
+pub fn after_word<'a>(word: &[u8], text: &'a [u8]) -> Option<&'a [u8]>
+    ensures { option_map (λ x. x.now) result ≡ after_word word.now text.now }
+{
+    if text.len() < word.len() {
+        return None;
+    }
+    let (front, back) = text.split_at(word.len());
+    if front == word { Some(back) } else { None }
+}
+
+pub fn name_of(text: &[u8]) -> Option<Name>
+    ensures { result ≡ name_of text.now }
+{
+    Name::from_bytes(text)
+}
+
+fn is_digit(b: u8) -> bool
+    ensures { result ≡ is_digit b }
+{
+    b'0' <= b && b <= b'9'
+}
+
+fn all_digits(text: &[u8]) -> bool
+    ensures { result ≡ list_all is_digit text.now }
+{
+    text.iter().all(|b| is_digit(*b))
+}
+
+fn is_number(text: &[u8]) -> bool
+    ensures { result ≡ is_number text.now }
+{
+    if text.len() < 1 {
+        return false;
+    }
+    if !all_digits(text) {
+        return false;
+    }
+    text.len() == 1 || b'0' < text[0]
+}
+
+/// The number that a text spells, within its limits.
+pub fn number_of(low: u64, high: u64, text: &[u8]) -> Option<u64>
+    requires { high < 2 ^ 60 }
+    ensures value { result ≡ number_of low high text.now }
+    ensures least { IfSome result (λ n. low ≤ n) }
+    ensures most { IfSome result (λ n. n ≤ high) }
+{
+    if !is_number(text) {
+        return None;
+    }
+    let mut n: u64 = 0;
+    for b in text {
+        n = 10 * n + (*b - b'0') as u64;
+        if high < n {
+            return None;
+        }
+    }
+    if n < low {
+        return None;
+    }
+    Some(n)
+}
+
+fn numbers_of(alloc: Global, at: u8, high: u64, text: &[u8]) -> Result<Option<Vec<u64>>, NoMemory>
+    requires { high < 2 ^ 60 }
+    ensures { IfOk result (λ o. option_map (λ v. v.items) o ≡ each (number_of 1 high) (pieces at text.now)) }
+{
+    let mut numbers = Vec::new(alloc);
+    let mut rest = text;
+    while let Some((first, after)) = cut(rest, at) {
+        let Some(n) = number_of(1, high, first) else {
+            return Ok(None);
+        };
+        numbers.push(n)?;
+        rest = after;
+    }
+    let Some(n) = number_of(1, high, rest) else {
+        return Ok(None);
+    };
+    numbers.push(n)?;
+    Ok(Some(numbers))
+}
+
+fn is_rising(numbers: &[u64]) -> bool
+    ensures { result ≡ is_rising numbers.now }
+{
+    let mut i = 1;
+    while i < numbers.len() {
+        if numbers[i - 1] >= numbers[i] {
+            return false;
+        }
+        i += 1;
+    }
+    true
+}
+
+/// 1 to 64 rising numbers, with such a byte between them.
+#[tactic(auto, unfolding(tcmu_model::specs::Fields::rising_of))]
+pub fn rising_of(alloc: Global, at: u8, high: u64, text: &[u8]) -> Result<Option<Serials>, NoMemory>
+    requires { high < 2 ^ 60 }
+    ensures { IfOk result (λ o. option_map (λ s. s.items) o ≡ rising_of at high text.now) }
+{
+    let Some(numbers) = numbers_of(alloc, at, high, text)? else {
+        return Ok(None);
+    };
+    if !is_rising(&numbers) {
+        return Ok(None);
+    }
+    if 64 < numbers.len() {
+        return Ok(None);
+    }
+    Ok(Some(Serials::from_vec(numbers)))
+}
+
+fn hex_value(b: u8) -> Option<u8>
+    ensures value { result ≡ hex_value b }
+    ensures small { IfSome result (λ x. x < 16) }
+{
+    if is_digit(b) {
+        return Some(b - b'0');
+    }
+    if b'a' <= b && b <= b'f' {
+        return Some(b - b'a' + 10);
+    }
+    None
+}
+
+fn hex_pair(a: u8, b: u8) -> Option<u8>
+    ensures { result ≡ hex_pair a b }
+{
+    let x = hex_value(a)?;
+    let y = hex_value(b)?;
+    Some(16 * x + y)
+}
+
+fn bytes_of_hex(alloc: Global, text: &[u8]) -> Result<Option<Vec<u8>>, NoMemory>
+    ensures { IfOk result (λ o. option_map (λ v. v.items) o ≡ bytes_of_hex text.now) }
+{
+    let mut bytes = Vec::new(alloc);
+    let mut rest = text;
+    while 2 <= rest.len() {
+        let Some(x) = hex_pair(rest[0], rest[1]) else {
+            return Ok(None);
+        };
+        bytes.push(x)?;
+        rest = &rest[2..];
+    }
+    if rest.len() == 1 {
+        return Ok(None);
+    }
+    Ok(Some(bytes))
+}
+
+#[tactic(auto, unfolding(tcmu_model::specs::Fields::cdb_of))]
+pub fn cdb_of(alloc: Global, text: &[u8]) -> Result<Option<Cdb>, NoMemory>
+    ensures { IfOk result (λ o. o ≡ cdb_of text.now) }
+{
+    let Some(bytes) = bytes_of_hex(alloc, text)? else {
+        return Ok(None);
+    };
+    match Cdb::new(&bytes) {
+        Ok(cdb) => Ok(Some(cdb)),
+        Err(_) => Ok(None),
+    }
+}
+
+/// The byte of a run, and how often it stands there.
+fn run_parts(text: &[u8]) -> Option<(u8, u64)>
+    ensures run { option_map (λ p. replicate p.1 p.0) result ≡ run_of text.now }
+    ensures most { IfSome result (λ p. p.1 ≤ 1048576) }
+{
+    if text.len() < 3 {
+        return None;
+    }
+    if text[2] != b'*' {
+        return None;
+    }
+    let x = hex_pair(text[0], text[1])?;
+    let n = number_of(1, 1_048_576, &text[3..])?;
+    Some((x, n))
+}
+
+/// Appends a run, and answers whether it is one.
+fn push_run(out: &mut Vec<u8>, text: &[u8]) -> Result<bool, NoMemory>
+    requires { length out.old.items ≤ 1048576 }
+    ensures run { IfOk result (λ b. (if b then Some out.new.items else None) ≡ option_map (λ r. out.old.items ++ r) (run_of text.now)) }
+{
+    let Some((x, n)) = run_parts(text) else {
+        return Ok(false);
+    };
+    out.resize(out.len() + n as usize, x)?;
+    Ok(true)
+}
+
+/// Runs joined by commas, at most 1,048,576 bytes in all.
+pub fn runs_of(alloc: Global, text: &[u8]) -> Result<Option<Bytes>, NoMemory>
+    ensures value { IfOk result (λ o. option_map (λ b. b.items) o ≡ runs_of text.now) }
+    ensures most { IfOk result (λ o. IfSome o (λ b. length b.items ≤ 1048576)) }
+{
+    let mut bytes = Vec::new(alloc);
+    let mut rest = text;
+    while let Some((first, after)) = cut(rest, b',') {
+        if !push_run(&mut bytes, first)? {
+            return Ok(None);
+        }
+        if 1_048_576 < bytes.len() {
+            return Ok(None);
+        }
+        rest = after;
+    }
+    if !push_run(&mut bytes, rest)? {
+        return Ok(None);
+    }
+    if 1_048_576 < bytes.len() {
+        return Ok(None);
+    }
+    Ok(Some(Bytes::from_vec(bytes)))
+}
+
+fn with_flag(flags: Flags, word: &[u8]) -> Option<Flags>
+    ensures { result ≡ with_flag flags word.now }
+{
+    if is_text(word, b"ooo") {
+        if flags.ooo {
+            return None;
+        }
+        return Some(Flags { ooo: true, ..flags });
+    }
+    if is_text(word, b"len") {
+        if flags.read_len {
+            return None;
+        }
+        return Some(Flags {
+            read_len: true,
+            ..flags
+        });
+    }
+    if is_text(word, b"tmr") {
+        if flags.tmr {
+            return None;
+        }
+        return Some(Flags { tmr: true, ..flags });
+    }
+    None
+}
+
+fn with_flags(text: &[u8]) -> Option<Flags>
+    ensures { result ≡ with_flags no_flags (pieces 44 text.now) }
+{
+    let mut flags = Flags {
+        ooo: false,
+        read_len: false,
+        tmr: false,
+    };
+    let mut rest = text;
+    while let Some((first, after)) = cut(rest, b',') {
+        let Some(more) = with_flag(flags, first) else {
+            return None;
+        };
+        flags = more;
+        rest = after;
+    }
+    with_flag(flags, rest)
+}
+
+/// `none`, or the flags' words, each once.
+#[tactic(auto, unfolding(tcmu_model::specs::Fields::flags_of))]
+pub fn flags_of(text: &[u8]) -> Option<Flags>
+    ensures { result ≡ flags_of text.now }
+{
+    if is_text(text, b"none") {
+        return Some(Flags {
+            ooo: false,
+            read_len: false,
+            tmr: false,
+        });
+    }
+    with_flags(text)
+}
+
+/// `none`, or rising serials.
+#[tactic(auto, unfolding(tcmu_model::specs::Fields::serials_of))]
+pub fn serials_of(alloc: Global, text: &[u8]) -> Result<Option<Serials>, NoMemory>
+    ensures { IfOk result (λ o. option_map (λ s. s.items) o ≡ serials_of text.now) }
+{
+    if is_text(text, b"none") {
+        return Ok(Some(Serials::new(alloc)));
+    }
+    rising_of(alloc, b',', 1_000_000_000, text)
+}

@@ -1,0 +1,11 @@
+//! Config texts of devices, `tcm-user/<hba_num>/<device_name>/<subtype>/<path>`, and the fields that config texts and scenario lines
+//! are made of.
+#![tactic(auto)]
+
+mod config;
+pub mod fields;
+#[cfg(test)]
+mod tests;
+
+pub use config::{Config, MediumKind, config_of_bytes, parse_config};
+pub use tcmu_model::ConfigFault;

@@ -1,0 +1,5 @@
+mod Outside
+mod Lists
+mod Whole
+mod Again
+mod Exact

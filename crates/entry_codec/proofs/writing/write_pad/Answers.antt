@@ -1,0 +1,10 @@
+use Rattle.std.proofs.Common.{◌+◌}
+use Rattle.tcmu_model.specs.Layout.{pad_bytes}
+use Rattle.tcmu_model.proofs.Written.{lengths, then_put, length-entry_header}
+use Rattle.entry_codec.proofs.writing.write_pad.Goals as goal
+
+pub returns : goal.returns
+unfolding pad_bytes
+returns c =
+    let o = 128 + c.args.at in
+    then_put _ _ _ o (o + 8) _ _ c.put_header.ensures c.put_zeros.ensures (omega (lengths, length-entry_header)) (omega (lengths, length-entry_header))

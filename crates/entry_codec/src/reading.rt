@@ -1,0 +1,247 @@
+//! Reading entries that anyone may have written. Every `at` is a byte offset in the ring, which begins at byte 128 of the front.
+ghost use Rattle.std.specs.Prelude.{◌≡◌, ℕ, ◌+◌, ◌-◌, ◌*◌, ◌%◌, ◌≤◌, ◌<◌, length, IfOk};
+ghost use Rattle.tcmu_model.specs.Layout.{ring_start, data_start};
+ghost use Rattle.tcmu_model.specs.MailboxReading.{IsMailbox};
+ghost use Rattle.tcmu_model.specs.EntryReading.{iov_at, lies_inside, tmr_id_at, first_outside, cdb_at, command_read, tmr_read, limit_of, least_of, kind_read, sized_read, entry_read, response_at, ReadsEntry, KeepsBounds};
+
+use mailbox_bytes::fields::{u8_at, u16_at, u32_at, u64_at};
+use tcmu_model::{EntryFault, EntryRef, Mailbox, Response};
+use tcmu_types::{Cdb, Iov, group_length};
+
+/// Where the ring begins in the front.
+const RING_START: usize = 128;
+
+/// The iovec in a slot.
+#[tactic(auto, unfolding(tcmu_model::specs::EntryReading::iov_at))]
+pub fn read_iov(front: &[u8], at: u32, index: u32) -> Iov
+    requires { 128 + at + 64 + 16 * index ≤ length front.now }
+    ensures { result ≡ iov_at front.now (128 + at) index }
+{
+    let slot = RING_START + at as usize + 48 + 16 * index as usize;
+    Iov {
+        base: u64_at(front, slot),
+        len: u64_at(front, slot + 8),
+    }
+}
+
+/// An id of a TMR.
+#[tactic(auto, unfolding(tcmu_model::specs::EntryReading::tmr_id_at))]
+pub fn read_tmr_id(front: &[u8], at: u32, index: u32) -> u16
+    requires { 128 + at + 34 + 2 * index ≤ length front.now }
+    ensures { result ≡ tmr_id_at front.now (128 + at) index }
+{
+    u16_at(front, RING_START + at as usize + 32 + 2 * index as usize)
+}
+
+/// Whether an iovec lies inside the `area` bytes from `low` on.
+fn lies_inside(iov: Iov, low: u64, area: u64) -> bool
+    ensures { result ≡ lies_inside low (low + area) iov }
+{
+    if iov.base < low {
+        return false;
+    }
+    let skipped = iov.base - low;
+    skipped <= area && iov.len <= area - skipped
+}
+
+/// The first iovec that does not lie inside the data area.
+fn first_outside(front: &[u8], at: u32, count: u32, low: u64, area: u64) -> Option<u32>
+    requires slots { 128 + at + 48 + 16 * count ≤ length front.now }
+    ensures { result ≡ first_outside front.now (128 + at) low (low + area) 0 count }
+{
+    for index in 0..count {
+        let iov = read_iov(front, at, index);
+        if !lies_inside(iov, low, area) {
+            return Some(index);
+        }
+    }
+    None
+}
+
+/// The CDB at a byte, if it lies in a range of bytes.
+#[tactic(auto, unfolding(tcmu_model::specs::EntryReading::cdb_at))]
+fn cdb_at(front: &[u8], low: u64, high: u64, off: u64) -> Option<Cdb>
+    requires { high ≤ length front.now }
+    ensures { result ≡ cdb_at front.now low high off }
+{
+    if off < low || off >= high {
+        return None;
+    }
+    let length = u64::from(group_length(front[off as usize]));
+    if length > high - off {
+        return None;
+    }
+    Cdb::new(&front[off as usize..(off + length) as usize]).ok()
+}
+
+#[tactic(auto, unfolding(tcmu_model::specs::EntryReading::command_read))]
+fn read_cmd(
+    front: &[u8],
+    area: u64,
+    data_off: u32,
+    at: u32,
+    len: u32,
+) -> Result<EntryRef, EntryFault>
+    requires least { 112 ≤ len }
+    requires inside { 128 + at + len ≤ length front.now }
+    ensures { result ≡ command_read front.now area data_off (128 + at) len }
+{
+    let start = RING_START + at as usize;
+    let iov_cnt = u32_at(front, start + 8);
+    if len as u64 <= 48 + 16 * iov_cnt as u64 {
+        return Err(EntryFault::BadCount(iov_cnt));
+    }
+    let bidi = u32_at(front, start + 12);
+    if bidi != 0 {
+        return Err(EntryFault::BadCount(bidi));
+    }
+    let dif = u32_at(front, start + 16);
+    if dif != 0 {
+        return Err(EntryFault::BadCount(dif));
+    }
+    let off = u64_at(front, start + 24);
+    let id = u16_at(front, start + 4);
+    let low = start as u64 + 48 + 16 * iov_cnt as u64;
+    match cdb_at(front, low, start as u64 + len as u64, off) {
+        None => Err(EntryFault::CdbOutside(off)),
+        Some(cdb) => match first_outside(front, at, iov_cnt, data_off as u64, area) {
+            None => Ok(EntryRef::Cmd {
+                len,
+                id,
+                iov_cnt,
+                cdb,
+            }),
+            Some(index) => Err(EntryFault::IovOutside(index)),
+        },
+    }
+}
+
+#[tactic(auto, unfolding(tcmu_model::specs::EntryReading::tmr_read))]
+fn read_tmr(front: &[u8], at: u32, len: u32) -> Result<EntryRef, EntryFault>
+    requires least { 32 ≤ len }
+    requires inside { 128 + at + len ≤ length front.now }
+    ensures { result ≡ tmr_read front.now (128 + at) len }
+{
+    let start = RING_START + at as usize;
+    let count = u32_at(front, start + 12);
+    if (len as u64) < 32 + 2 * count as u64 {
+        return Err(EntryFault::BadCount(count));
+    }
+    Ok(EntryRef::Tmr {
+        len,
+        kind: u8_at(front, start + 8),
+        count,
+    })
+}
+
+#[tactic(auto, unfolding(tcmu_model::specs::EntryReading::limit_of))]
+fn limit_of(mailbox: &Mailbox, at: u32) -> u32
+    requires ring { at < mailbox.now.cmdr_size }
+    requires head { mailbox.now.head < mailbox.now.cmdr_size }
+    ensures value { result ≡ limit_of mailbox.now at }
+    ensures bound { at + result ≤ mailbox.now.cmdr_size }
+{
+    if at < mailbox.head {
+        mailbox.head - at
+    } else {
+        mailbox.cmdr_size - at
+    }
+}
+
+#[tactic(auto, unfolding(tcmu_model::specs::EntryReading::least_of))]
+fn least_of(op: u8) -> u32
+    ensures { result ≡ least_of op }
+{
+    match op {
+        1 => 112,
+        2 => 32,
+        _ => 8,
+    }
+}
+
+#[tactic(auto, unfolding(tcmu_model::specs::EntryReading::kind_read, tcmu_model::specs::EntryReading::least_of))]
+fn read_kind(
+    front: &[u8],
+    area: u64,
+    data_off: u32,
+    at: u32,
+    op: u8,
+    len: u32,
+) -> Result<EntryRef, EntryFault>
+    requires least { least_of op ≤ len }
+    requires inside { 128 + at + len ≤ length front.now }
+    ensures { result ≡ kind_read front.now area data_off (128 + at) op len }
+{
+    if op == 0 {
+        return Ok(EntryRef::Pad { len });
+    }
+    if op == 1 {
+        return read_cmd(front, area, data_off, at, len);
+    }
+    if op == 2 {
+        return read_tmr(front, at, len);
+    }
+    Ok(EntryRef::Unknown { op, len })
+}
+
+#[tactic(auto, unfolding(tcmu_model::specs::EntryReading::sized_read))]
+fn read_sized(
+    front: &[u8],
+    area: u64,
+    mailbox: &Mailbox,
+    at: u32,
+    op: u8,
+    len: u32,
+) -> Result<EntryRef, EntryFault>
+    requires mailbox { IsMailbox mailbox.now }
+    requires ring { at < mailbox.now.cmdr_size }
+    requires reaches { 4096 + mailbox.now.cmdr_size ≤ length front.now }
+    ensures { result ≡ sized_read front.now area mailbox.now at op len }
+{
+    if len < least_of(op) {
+        return Err(EntryFault::BadLength(len));
+    }
+    let limit = limit_of(mailbox, at);
+    if limit < len {
+        return Err(EntryFault::PastEnd { len, limit });
+    }
+    read_kind(front, area, 4096 + mailbox.cmdr_size, at, op, len)
+}
+
+/// The entry at a ring offset, or its first fault.
+#[tactic(auto, unfolding(tcmu_model::specs::EntryReading::entry_read))]
+pub fn read_entry(
+    front: &[u8],
+    area: u64,
+    mailbox: &Mailbox,
+    at: u32,
+) -> Result<EntryRef, EntryFault>
+    requires mailbox { IsMailbox mailbox.now }
+    requires aligned { at % 8 ≡ 0 }
+    requires ring { at < mailbox.now.cmdr_size }
+    requires reaches { 4096 + mailbox.now.cmdr_size ≤ length front.now }
+    ensures value { result ≡ entry_read front.now area mailbox.now at }
+    ensures exact { ReadsEntry front.now area mailbox.now at result }
+    ensures bounds { IfOk result (λ entry. KeepsBounds front.now area mailbox.now at entry) }
+{
+    let word = u32_at(front, RING_START + at as usize);
+    read_sized(front, area, mailbox, at, (word % 8) as u8, word - word % 8)
+}
+
+/// The response at a ring offset.
+#[tactic(auto, unfolding(tcmu_model::specs::EntryReading::response_at))]
+pub fn read_response(front: &[u8], at: u32) -> Response
+    requires { 128 + at + 112 ≤ length front.now }
+    ensures { result ≡ response_at front.now (128 + at) }
+{
+    let start = RING_START + at as usize;
+    let mut sense = [0; 96];
+    sense.copy_from_slice(&front[start + 16..start + 112]);
+    Response {
+        id: u16_at(front, start + 4),
+        uflags: u8_at(front, start + 7),
+        status: u8_at(front, start + 8),
+        read_len: u32_at(front, start + 12),
+        sense,
+    }
+}

@@ -1,0 +1,70 @@
+//! INQUIRY data.
+ghost use Rattle.std.specs.Prelude.{◌≡◌, ◌≤◌, ◌<◌, ◌++◌, length, IsTrue, IfOk};
+ghost use Rattle.tcmu_model.specs.Pages.{standard_inquiry, vpd_page, vital_page, designator, vendor, block_limits};
+ghost use Rattle.tcmu_model.specs.Decoding.{is_vpd_page};
+
+use byteorder::{BigEndian, ByteOrder};
+use std::alloc::Global;
+use tcmu_types::{Bytes, Name, NoMemory};
+
+/// Standard INQUIRY data (SPC-4).
+#[tactic(auto, unfolding(tcmu_model::specs::Pages::standard_inquiry))]
+pub fn standard_inquiry() -> [u8; 36]
+    ensures { result ≡ standard_inquiry }
+{
+    *b"\x00\x00\x05\x02\x1f\x00\x00\x00RTLTCMU ring disk       0001"
+}
+
+fn joined(alloc: Global, front: &[u8], rest: &[u8]) -> Result<Vec<u8>, NoMemory>
+    ensures { IfOk result (λ bytes. bytes.items ≡ front.now ++ rest.now) }
+{
+    let mut bytes = Vec::from_slice(alloc, front)?;
+    bytes.extend_from_slice(rest)?;
+    Ok(bytes)
+}
+
+// The page of this code, of which these bytes follow the header.
+fn vital_page(alloc: Global, page: u8, rest: &[u8]) -> Result<Bytes, NoMemory>
+    requires { length rest.now < 65536 }
+    ensures { IfOk result (λ bytes. bytes.items ≡ vital_page page rest.now) }
+{
+    let mut header = [0, page, 0, 0];
+    BigEndian::write_u16(&mut header[2..], rest.len() as u16);
+    Ok(Bytes::from_vec(joined(alloc, &header, rest)?))
+}
+
+fn designator(alloc: Global, name: &[u8]) -> Result<Vec<u8>, NoMemory>
+    requires { length name.now ≤ 16 }
+    ensures { IfOk result (λ bytes. bytes.items ≡ designator name.now) }
+{
+    let mut front = *b"\x02\x01\x00\x00RTLTCMU ";
+    front[3] = 8 + name.len() as u8;
+    joined(alloc, &front, name)
+}
+
+fn block_limits() -> [u8; 60]
+    ensures { result ≡ block_limits }
+{
+    let mut limits = [0; 60];
+    limits[0] = 0x01;
+    limits[1] = 0xff;
+    BigEndian::write_u32(&mut limits[16..], 32_768);
+    BigEndian::write_u32(&mut limits[20..], 256);
+    BigEndian::write_u64(&mut limits[32..], 2_048);
+    limits
+}
+
+/// A page of vital product data (SPC-4, and SBC-3 for the block limits) of the device of this name.
+#[tactic(auto, unfolding(tcmu_model::specs::Pages::vpd_page))]
+pub fn vpd_page(alloc: Global, name: &Name, page: u8) -> Result<Bytes, NoMemory>
+    requires { IsTrue (is_vpd_page page) }
+    ensures { IfOk result (λ bytes. bytes.items ≡ vpd_page name.now page) }
+{
+    let name = name.as_bytes();
+    match page {
+        0x00 => vital_page(alloc, page, &[0x00, 0x80, 0x83, 0xb0]),
+        0x80 => vital_page(alloc, page, name),
+        0x83 => vital_page(alloc, page, &designator(alloc, name)?),
+        _ => vital_page(alloc, 0xb0, &block_limits()),
+    }
+}

@@ -1,0 +1,43 @@
+//! Mode data.
+ghost use Rattle.std.specs.Prelude.{◌≡◌, ◌≤◌, ◌+◌, ◌++◌, [], ◌∷◌, length, IsTrue, IfOk, if◌then◌else◌};
+ghost use Rattle.tcmu_model.specs.Pages.{mode_sense, mode_pages};
+ghost use Rattle.tcmu_model.specs.Decoding.{is_mode_page};
+
+use std::alloc::Global;
+use tcmu_types::{Bytes, NoMemory};
+
+const CACHING: [u8; 20] = [
+    0x08, 0x12, 0, 0, 0, 0, 0, 0, 0, 0, 0, 0, 0, 0, 0, 0, 0, 0, 0, 0,
+];
+
+const CONTROL: [u8; 12] = [0x0a, 0x0a, 0, 0, 0, 0, 0, 0, 0, 0, 0, 0];
+
+fn with_header(
+    alloc: Global,
+    protected: bool,
+    first: &[u8],
+    second: &[u8],
+) -> Result<Bytes, NoMemory>
+    requires { length first.now + length second.now ≤ 32 }
+    ensures { IfOk result (λ bytes. bytes.items ≡ ((3 + length (first.now ++ second.now)) ∷ 0x00 ∷ (if protected then 0x80 else 0x00) ∷ 0x00 ∷ []) ++ (first.now ++ second.now)) }
+{
+    let follow = 3 + (first.len() + second.len()) as u8;
+    let wp = if protected { 0x80 } else { 0x00 };
+    let mut bytes = Vec::from_slice(alloc, &[follow, 0x00, wp, 0x00])?;
+    bytes.extend_from_slice(first)?;
+    bytes.extend_from_slice(second)?;
+    Ok(Bytes::from_vec(bytes))
+}
+
+/// MODE SENSE(6) data (SPC-4): the caching page (SBC-3), the control page or both, and WP where the medium is protected.
+#[tactic(auto, unfolding(tcmu_model::specs::Pages::mode_sense))]
+pub fn mode_sense(alloc: Global, page: u8, protected: bool) -> Result<Bytes, NoMemory>
+    requires { IsTrue (is_mode_page page) }
+    ensures { IfOk result (λ bytes. bytes.items ≡ mode_sense page protected) }
+{
+    match page {
+        0x08 => with_header(alloc, protected, &CACHING, &[]),
+        0x0a => with_header(alloc, protected, &CONTROL, &[]),
+        _ => with_header(alloc, protected, &CACHING, &CONTROL),
+    }
+}

@@ -1,0 +1,8 @@
+use Rattle.std.proofs.Common.{◌∙◌, ap, arith}
+use Rattle.tcmu_model.specs.Layout.{put}
+use Rattle.tcmu_model.proofs.Written.{le-one}
+use Rattle.mailbox_bytes.proofs.fields.put_u8.Goals as goal
+
+pub returns : goal.returns
+returns c =
+    c.put_bytes.ensures ∙ ap (put c.args.into.now c.args.at) (le-one c.args.value (omega arith))

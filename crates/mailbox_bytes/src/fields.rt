@@ -1,0 +1,79 @@
+//! Numbers among bytes, the lowest byte first.
+ghost use Rattle.std.specs.Prelude.{◌≡◌, ℕ, ◌+◌, ◌≤◌, length, ◌∷◌, []};
+ghost use Rattle.tcmu_model.specs.Layout.{le, field, zeros, put};
+
+use byteorder::{ByteOrder, LittleEndian};
+
+pub fn put_u16(into: &mut [u8], at: usize, value: u16)
+    requires { at + 2 ≤ length into.old }
+    ensures { into.new ≡ put into.old at (le 2 value) }
+{
+    LittleEndian::write_u16(&mut into[at..], value);
+}
+
+pub fn put_u32(into: &mut [u8], at: usize, value: u32)
+    requires { at + 4 ≤ length into.old }
+    ensures { into.new ≡ put into.old at (le 4 value) }
+{
+    LittleEndian::write_u32(&mut into[at..], value);
+}
+
+pub fn put_u64(into: &mut [u8], at: usize, value: u64)
+    requires { at + 8 ≤ length into.old }
+    ensures { into.new ≡ put into.old at (le 8 value) }
+{
+    LittleEndian::write_u64(&mut into[at..], value);
+}
+
+pub fn put_u8(into: &mut [u8], at: usize, value: u8)
+    requires { at + 1 ≤ length into.old }
+    ensures { into.new ≡ put into.old at (le 1 value) }
+{
+    put_bytes(into, at, &[value]);
+}
+
+pub fn put_zeros(into: &mut [u8], at: usize, count: usize)
+    requires { at + count ≤ length into.old }
+    ensures { into.new ≡ put into.old at (zeros count) }
+{
+    into[at..at + count].fill(0);
+}
+
+pub fn put_bytes(into: &mut [u8], at: usize, bytes: &[u8])
+    requires { at + length bytes.now ≤ length into.old }
+    ensures { into.new ≡ put into.old at bytes.now }
+{
+    into[at..at + bytes.len()].copy_from_slice(bytes);
+}
+
+#[tactic(auto, unfolding(tcmu_model::specs::Layout::field))]
+pub fn u16_at(bytes: &[u8], at: usize) -> u16
+    requires { at + 2 ≤ length bytes.now }
+    ensures { result ≡ field 2 at bytes.now }
+{
+    LittleEndian::read_u16(&bytes[at..])
+}
+
+#[tactic(auto, unfolding(tcmu_model::specs::Layout::field))]
+pub fn u32_at(bytes: &[u8], at: usize) -> u32
+    requires { at + 4 ≤ length bytes.now }
+    ensures { result ≡ field 4 at bytes.now }
+{
+    LittleEndian::read_u32(&bytes[at..])
+}
+
+#[tactic(auto, unfolding(tcmu_model::specs::Layout::field))]
+pub fn u64_at(bytes: &[u8], at: usize) -> u64
+    requires { at + 8 ≤ length bytes.now }
+    ensures { result ≡ field 8 at bytes.now }
+{
+    LittleEndian::read_u64(&bytes[at..])
+}
+
+#[tactic(auto, unfolding(tcmu_model::specs::Layout::field))]
+pub fn u8_at(bytes: &[u8], at: usize) -> u8
+    requires { at + 1 ≤ length bytes.now }
+    ensures { result ≡ field 1 at bytes.now }
+{
+    bytes[at]
+}

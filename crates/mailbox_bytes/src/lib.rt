@@ -1,0 +1,12 @@
+//! The mailbox as the first 128 bytes of a region, and numbers among bytes.
+#![tactic(auto)]
+
+pub mod fields;
+mod laws;
+mod mailbox;
+#[cfg(test)]
+mod tests;
+
+pub use laws::mailbox_reads_again;
+pub use mailbox::{read, write};
+pub use tcmu_model::{Mailbox, MailboxFault};

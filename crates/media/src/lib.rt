@@ -1,0 +1,6 @@
+//! The media of devices.
+#![tactic(auto)]
+
+mod memory;
+
+pub use memory::MemMedium;

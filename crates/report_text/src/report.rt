@@ -1,0 +1,169 @@
+//! Whole lines of a journal.
+ghost use Rattle.std.specs.Prelude.{◌≡◌, ℕ, [], ◌∷◌, ◌++◌, length, OnOk, OnErr, codes};
+ghost use Rattle.std.specs.List.{flat_map};
+ghost use Rattle.tcmu_types.specs.Views.{event_data, answer_data};
+ghost use Rattle.tcmu_model.specs.Text.{spaced, line, payload_text, completion_text, event_line as event_spelling, entry_text as entry_spelling, end_text as end_spelling, dump_text as dump_spelling};
+
+use crate::dumps::push_dump;
+use crate::events::{push_answer, push_event};
+use crate::pieces::{push_all, push_field, push_number_field, push_payload, push_result};
+use std::alloc::Global;
+use tcmu_types::{Answer, Bytes, Done, Dump, Entry, Event, Name, NoMemory};
+
+/// Appends bytes, or changes nothing.
+fn append(into: &mut Bytes, text: &[u8]) -> Result<(), NoMemory>
+    ensures ok { OnOk result (into.new.items ≡ into.old.items ++ text.now) }
+    ensures err { OnErr result (into.new.items ≡ into.old.items) }
+{
+    into.reserve(text.len() as u64)?;
+    into.extend(text);
+    Ok(())
+}
+
+#[tactic(auto, unfolding(tcmu_model::specs::Text::completion_text))]
+fn push_completion(alloc: Global, out: &mut Vec<u8>, name: &[u8], d: &Done) -> Result<(), NoMemory>
+    ensures { OnOk result (out.new.items ≡ out.old.items ++ completion_text name.now d.now) }
+{
+    push_all(out, b"# done")?;
+    push_field(out, name)?;
+    push_number_field(alloc, out, d.serial)?;
+    push_field(out, d.init.as_bytes())?;
+    push_number_field(alloc, out, d.tag as u64)?;
+    push_result(alloc, out, d.status.0, d.sense, d.payload.as_slice())?;
+    push_all(out, b"\n")
+}
+
+#[tactic(auto, unfolding(tcmu_model::specs::Text::event_line))]
+fn push_line(
+    alloc: Global,
+    out: &mut Vec<u8>,
+    name: &[u8],
+    qfull: u32,
+    event: &Event,
+    answer: &Answer,
+) -> Result<(), NoMemory>
+    ensures { OnOk result (out.new.items ≡ out.old.items ++ event_spelling name.now qfull (event_data event.now) (answer_data answer.now)) }
+{
+    push_event(alloc, out, name, event)?;
+    push_all(out, b" # ")?;
+    push_answer(alloc, out, qfull, event, answer)?;
+    push_all(out, b"\n")
+}
+
+fn push_completions(
+    alloc: Global,
+    out: &mut Vec<u8>,
+    name: &[u8],
+    logged: &[Done],
+) -> Result<(), NoMemory>
+    ensures { OnOk result (out.new.items ≡ out.old.items ++ flat_map (completion_text name.now) logged.now) }
+{
+    for done in logged {
+        push_completion(alloc, out, name, done)?;
+    }
+    Ok(())
+}
+
+#[tactic(auto, unfolding(tcmu_model::specs::Text::entry_text))]
+fn push_entry(
+    alloc: Global,
+    out: &mut Vec<u8>,
+    name: &[u8],
+    qfull: u32,
+    entry: &Entry,
+    logged: &[Done],
+) -> Result<(), NoMemory>
+    ensures { OnOk result (out.new.items ≡ out.old.items ++ entry_spelling name.now qfull entry.now logged.now) }
+{
+    push_line(alloc, out, name, qfull, &entry.event, &entry.answer)?;
+    push_completions(alloc, out, name, logged)
+}
+
+#[tactic(auto, unfolding(tcmu_model::specs::Text::end_text))]
+fn push_end(alloc: Global, out: &mut Vec<u8>, name: &[u8], count: u64) -> Result<(), NoMemory>
+    ensures { OnOk result (out.new.items ≡ out.old.items ++ end_spelling name.now count) }
+{
+    push_all(out, b"# open")?;
+    push_field(out, name)?;
+    push_number_field(alloc, out, count)?;
+    push_all(out, b"\n")
+}
+
+/// Appends a payload: maximal runs, or `-` for no bytes. NoMemory changes nothing.
+pub fn runs_text(alloc: Global, bytes: &[u8], into: &mut Bytes) -> Result<(), NoMemory>
+    ensures ok { OnOk result (into.new.items ≡ into.old.items ++ payload_text bytes.now) }
+    ensures err { OnErr result (into.new.items ≡ into.old.items) }
+{
+    let mut text = Vec::new(alloc);
+    push_payload(alloc, &mut text, bytes)?;
+    append(into, &text)
+}
+
+/// Appends the line of an event and its answer. NoMemory changes nothing.
+pub fn event_line(
+    alloc: Global,
+    name: &Name,
+    qfull: u32,
+    event: &Event,
+    answer: &Answer,
+    into: &mut Bytes,
+) -> Result<(), NoMemory>
+    ensures ok { OnOk result (into.new.items ≡ into.old.items ++ event_spelling name.now qfull (event_data event.now) (answer_data answer.now)) }
+    ensures err { OnErr result (into.new.items ≡ into.old.items) }
+{
+    let mut text = Vec::new(alloc);
+    push_line(alloc, &mut text, name.as_bytes(), qfull, event, answer)?;
+    append(into, &text)
+}
+
+/// Appends the line of a completion. NoMemory changes nothing.
+pub fn completion_line(
+    alloc: Global,
+    name: &Name,
+    done: &Done,
+    into: &mut Bytes,
+) -> Result<(), NoMemory>
+    ensures ok { OnOk result (into.new.items ≡ into.old.items ++ completion_text name.now done.now) }
+    ensures err { OnErr result (into.new.items ≡ into.old.items) }
+{
+    let mut text = Vec::new(alloc);
+    push_completion(alloc, &mut text, name.as_bytes(), done)?;
+    append(into, &text)
+}
+
+/// Appends the line of an entry and those of its completions. NoMemory changes nothing.
+pub fn entry_text(
+    alloc: Global,
+    name: &Name,
+    qfull: u32,
+    entry: &Entry,
+    logged: &[Done],
+    into: &mut Bytes,
+) -> Result<(), NoMemory>
+    ensures ok { OnOk result (into.new.items ≡ into.old.items ++ entry_spelling name.now qfull entry.now logged.now) }
+    ensures err { OnErr result (into.new.items ≡ into.old.items) }
+{
+    let mut text = Vec::new(alloc);
+    push_entry(alloc, &mut text, name.as_bytes(), qfull, entry, logged)?;
+    append(into, &text)
+}
+
+/// Appends a device's last line. NoMemory changes nothing.
+pub fn end_text(alloc: Global, name: &Name, count: u64, into: &mut Bytes) -> Result<(), NoMemory>
+    ensures ok { OnOk result (into.new.items ≡ into.old.items ++ end_spelling name.now count) }
+    ensures err { OnErr result (into.new.items ≡ into.old.items) }
+{
+    let mut text = Vec::new(alloc);
+    push_end(alloc, &mut text, name.as_bytes(), count)?;
+    append(into, &text)
+}
+
+/// Appends a dump. NoMemory changes nothing.
+pub fn dump_text(alloc: Global, name: &Name, dump: &Dump, into: &mut Bytes) -> Result<(), NoMemory>
+    ensures ok { OnOk result (into.new.items ≡ into.old.items ++ dump_spelling name.now dump.now) }
+    ensures err { OnErr result (into.new.items ≡ into.old.items) }
+{
+    let mut text = Vec::new(alloc);
+    push_dump(alloc, &mut text, name.as_bytes(), dump)?;
+    append(into, &text)
+}

@@ -1,0 +1,130 @@
+-- One more line, in what is counted.
+use Rattle.std.proofs.Common.{◌≡◌, ◌≢◌, ℕ, ◌+◌, ◌<◌, ◌≤◌, Bool, true, false, cond, ◌&&◌, ◌||◌, not, nat_lt, nat_eq, List, [], ◌∷◌, ◌++◌, length, get_or, set, Option, Some, None, Ok, Err, refl, sym, ap, ◌∙◌, arith, length-append, subst}
+use Rattle.std.specs.List.{sum_by, count_by}
+use Rattle.std.proofs.lemmas.List.{get_or-set_same, get_or-set_other, length-set}
+use Rattle.std.proofs.lemmas.List.Sums.{sum_by_push}
+use Rattle.std.proofs.lemmas.Bool.{cond-true, cond-false, ltb-false, eqb-true, eqb-false, eq-eqb, ne_eqb}
+use Rattle.tcmu_types.specs.Data.{CommandData}
+use Rattle.tcmu_model.specs.ScenarioData.{ScenarioData, DeviceLineData, LineData, command_of}
+use Rattle.tcmu_model.specs.Scenario.{with_name, with_initiator, initiators, initiators_from, is_dump, bytes_in, bytes_out, small_at, breaks_dump, breaks_many, with_line}
+use Rattle.tcmu_model.specs.declared.faults.Why.TheVariants as why
+use Rattle.scenario_text.specs.Counts.{Counted, noted, dump_by, many_by, one_if}
+
+initiators_from_push : (d : ℕ) (names : List (List ℕ)) (ls : List LineData) (l : LineData) → initiators_from d names (ls ++ l ∷ []) ≡ with_initiator d (initiators_from d names ls) l
+initiators_from_push d names [] l = refl
+initiators_from_push d names (k ∷ ls) l = initiators_from_push d (with_initiator d names k) ls l
+
+-- by the command of the line, if it has one
+abbrev noted_by : List (List (List ℕ)) → ℕ → Option CommandData → List (List (List ℕ))
+noted_by all device o = elim o [ Some c ↦ set all device (with_name (get_or all device []) c.init) | None ↦ all ]
+
+abbrev names_by : ℕ → List (List ℕ) → ℕ → Option CommandData → List (List ℕ)
+names_by d names device o = elim o [ Some c ↦ cond (nat_eq device d) (with_name names c.init) names | None ↦ names ]
+
+here : (all : List (List (List ℕ))) (device : ℕ) (o : Option CommandData) → device < length all → get_or (noted_by all device o) device [] ≡ names_by device (get_or all device []) device o
+here all device None lt = refl
+here all device (Some c) lt = get_or-set_same all device (with_name (get_or all device []) c.init) [] lt ∙ sym (cond-true _ _ _ (eq-eqb device device refl))
+
+there : (all : List (List (List ℕ))) (d device : ℕ) (o : Option CommandData) → d ≢ device → get_or (noted_by all device o) d [] ≡ names_by d (get_or all d []) device o
+there all d device None ne = refl
+there all d device (Some c) ne = get_or-set_other all device d (with_name (get_or all device []) c.init) [] ne ∙ sym (cond-false _ _ _ (ne_eqb device d (λ e. ne (sym e))))
+
+pub noted_at : (all : List (List (List ℕ))) (l : LineData) (d : ℕ) → l.device < length all → get_or (noted all l) d [] ≡ with_initiator d (get_or all d []) l
+noted_at all l d lt = go (nat_eq d l.device) refl
+  where
+    go : (b : Bool) → nat_eq d l.device ≡ b → get_or (noted all l) d [] ≡ with_initiator d (get_or all d []) l
+    go true e =
+        let P : ℕ → Type 0 = λ n. get_or (noted all l) n [] ≡ with_initiator n (get_or all n []) l in
+        subst P (sym (eqb-true d l.device e)) (here all l.device (command_of l) lt)
+    go false e = there all d l.device (command_of l) (eqb-false d l.device e)
+
+noted_length : (all : List (List (List ℕ))) (l : LineData) → length (noted all l) ≡ length all
+noted_length all l = go (command_of l)
+  where
+    go : (o : Option CommandData) → length (noted_by all l.device o) ≡ length all
+    go None = refl
+    go (Some c) = length-set all l.device (with_name (get_or all l.device []) c.init)
+
+dumps_push : (ls : List LineData) (l : LineData) → count_by is_dump (ls ++ l ∷ []) ≡ count_by is_dump ls + one_if (is_dump l)
+dumps_push ls l = sum_by_push (λ x. cond (is_dump x) 1 0) ls l
+
+-- ---- the rules, by the counts
+
+dump_is : (s : ScenarioData) (l : LineData) (all : List (List (List ℕ))) (dumps ins outs : ℕ) → Counted s.devices s.lines all dumps ins outs
+    → breaks_dump s l ≡ dump_by s.devices (dumps + one_if (is_dump l)) l
+unfolding breaks_dump
+dump_is s l all dumps ins outs k = ap (λ n. is_dump l && (nat_lt 16 n || not (small_at s.devices l.device))) (dumps_push s.lines l ∙ ap (λ n. n + one_if (is_dump l)) (sym k.dumps_are))
+
+many_is : (s : ScenarioData) (l : LineData) (all : List (List (List ℕ))) (dumps ins outs : ℕ) → Counted s.devices s.lines all dumps ins outs → l.device < length s.devices
+    → breaks_many (s.lines ++ l ∷ []) l.device ≡ many_by (get_or (noted all l) l.device []) (length s.lines + 1) (ins + bytes_in l) (outs + bytes_out l)
+unfolding breaks_many
+many_is s l all dumps ins outs k lt =
+    let a : initiators l.device (s.lines ++ l ∷ []) ≡ get_or (noted all l) l.device [] = initiators_from_push l.device [] s.lines l ∙ ap (λ ns. with_initiator l.device ns l) (sym (k.names_are l.device)) ∙ sym (noted_at all l l.device (omega (arith, k.names_of_all, lt))) in
+    let b : length (s.lines ++ l ∷ []) ≡ length s.lines + 1 = length-append s.lines (l ∷ []) in
+    let c : sum_by bytes_in (s.lines ++ l ∷ []) ≡ ins + bytes_in l = sum_by_push bytes_in s.lines l ∙ ap (λ n. n + bytes_in l) (sym k.ins_are) in
+    let d : sum_by bytes_out (s.lines ++ l ∷ []) ≡ outs + bytes_out l = sum_by_push bytes_out s.lines l ∙ ap (λ n. n + bytes_out l) (sym k.outs_are) in
+    rw (a, b, c, d) refl
+
+or_false : (a b : Bool) → (a || b) ≡ false → (a ≡ false) × (b ≡ false)
+or_false true b e = absurd (cc)
+or_false false b e = (refl, e)
+
+-- a line that breaks no rule is counted
+pub counted_more : (s : ScenarioData) (l : LineData) (all : List (List (List ℕ))) (dumps ins outs : ℕ) → Counted s.devices s.lines all dumps ins outs → l.device < length s.devices
+    → dump_by s.devices (dumps + one_if (is_dump l)) l ≡ false → many_by (get_or (noted all l) l.device []) (length s.lines + 1) (ins + bytes_in l) (outs + bytes_out l) ≡ false
+    → Counted s.devices (s.lines ++ l ∷ []) (noted all l) (dumps + one_if (is_dump l)) (ins + bytes_in l) (outs + bytes_out l)
+counted_more s l all dumps ins outs k lt no_dump few =
+    let h1 : ((nat_lt 16 (length (get_or (noted all l) l.device [])) || nat_lt 20000 (length s.lines + 1) || nat_lt 67108864 (ins + bytes_in l)) ≡ false) × (nat_lt 67108864 (outs + bytes_out l) ≡ false) = or_false _ _ few in
+    let h2 : ((nat_lt 16 (length (get_or (noted all l) l.device [])) || nat_lt 20000 (length s.lines + 1)) ≡ false) × (nat_lt 67108864 (ins + bytes_in l) ≡ false) = or_false _ _ h1.0 in
+    let h3 : (nat_lt 16 (length (get_or (noted all l) l.device [])) ≡ false) × (nat_lt 20000 (length s.lines + 1) ≡ false) = or_false _ _ h2.0 in
+    let lines : length s.lines + 1 ≤ 20000 = ltb-false _ _ h3.1 in
+    record {
+      names_are = λ d. noted_at all l d (omega (arith, k.names_of_all, lt)) ∙ ap (λ ns. with_initiator d ns l) (k.names_are d) ∙ sym (initiators_from_push d [] s.lines l);
+      names_of_all = noted_length all l ∙ k.names_of_all;
+      dumps_are = ap (λ n. n + one_if (is_dump l)) k.dumps_are ∙ sym (dumps_push s.lines l);
+      ins_are = ap (λ n. n + bytes_in l) k.ins_are ∙ sym (sum_by_push bytes_in s.lines l);
+      outs_are = ap (λ n. n + bytes_out l) k.outs_are ∙ sym (sum_by_push bytes_out s.lines l);
+      few_devices = k.few_devices;
+      few_lines = omega (arith, lines, length-append s.lines (l ∷ []));
+      few_dumps = few_dumps (is_dump l) _ no_dump;
+      few_in = ltb-false _ _ h2.1;
+      few_out = ltb-false _ _ h1.1;
+    }
+  where
+    few_dumps : (b c : Bool) → (b && (nat_lt 16 (dumps + one_if b) || c)) ≡ false → dumps + one_if b ≤ 16
+    few_dumps true c e = ltb-false _ _ (or_false _ _ e).0
+    few_dumps false c e = omega (arith, k.few_dumps)
+
+-- ---- what a line gives
+
+pub refused_dump : (s : ScenarioData) (l : LineData) → breaks_dump s l ≡ true → with_line s l ≡ Err why.Dump
+unfolding with_line
+refused_dump s l e = cond-true _ _ _ e
+
+pub refused_many : (s : ScenarioData) (l : LineData) → breaks_dump s l ≡ false → breaks_many (s.lines ++ l ∷ []) l.device ≡ true → with_line s l ≡ Err why.Many
+unfolding with_line
+refused_many s l e f = cond-false _ _ _ e ∙ cond-true _ _ _ f
+
+taken : (s : ScenarioData) (l : LineData) → breaks_dump s l ≡ false → breaks_many (s.lines ++ l ∷ []) l.device ≡ false → with_line s l ≡ Ok (record s { lines = s.lines ++ l ∷ [] })
+unfolding with_line
+taken s l e f = cond-false _ _ _ e ∙ cond-false _ _ _ f
+
+-- ---- what the tests of the code say
+
+pub dump_found : (s w : ScenarioData) (l : LineData) (all : List (List (List ℕ))) (ds : List DeviceLineData) (dumps ins outs n : ℕ) (b t : Bool) → w ≡ s → Counted w.devices w.lines all dumps ins outs
+    → ds ≡ w.devices → n ≡ one_if t → t ≡ is_dump l → b ≡ dump_by ds (dumps + n) l → (breaks_dump s l ≡ b) × (dump_by w.devices (dumps + one_if (is_dump l)) l ≡ b)
+dump_found s w l all ds dumps ins outs n b t v k d o i e =
+    let found : dump_by w.devices (dumps + one_if (is_dump l)) l ≡ b = rw (← d, ← (o ∙ ap one_if i)) (sym e) in
+    (ap (λ x. breaks_dump x l) (sym v) ∙ dump_is w l all dumps ins outs k ∙ found, found)
+
+pub many_found : (s w : ScenarioData) (l : LineData) (all now lent : List (List (List ℕ))) (names : List (List ℕ)) (dumps ins outs device lines i o : ℕ) (b : Bool) → w ≡ s → Counted w.devices w.lines all dumps ins outs → l.device < length s.devices
+    → now ≡ noted all l → names ≡ get_or lent device [] → lent ≡ now → device ≡ l.device → lines ≡ length w.lines + 1 → i ≡ bytes_in l → o ≡ bytes_out l → b ≡ many_by names lines (ins + i) (outs + o)
+    → (breaks_many (s.lines ++ l ∷ []) l.device ≡ b) × (many_by (get_or (noted all l) l.device []) (length w.lines + 1) (ins + bytes_in l) (outs + bytes_out l) ≡ b)
+many_found s w l all now lent names dumps ins outs device lines i o b v k lt y z q d n bi bo e =
+    let there : l.device < length w.devices = rw v lt in
+    let at : names ≡ get_or (noted all l) l.device [] = z ∙ ap (λ n. get_or lent n []) d ∙ ap (λ xs. get_or xs l.device []) (q ∙ y) in
+    let found : many_by (get_or (noted all l) l.device []) (length w.lines + 1) (ins + bytes_in l) (outs + bytes_out l) ≡ b = rw (← at, ← n, ← bi, ← bo) (sym e) in
+    (ap (λ x. breaks_many (x.lines ++ l ∷ []) l.device) (sym v) ∙ many_is w l all dumps ins outs k there ∙ found, found)
+
+pub taken_as : (s w : ScenarioData) (l : LineData) (ls : List LineData) → w ≡ s → breaks_dump s l ≡ false → breaks_many (s.lines ++ l ∷ []) l.device ≡ false → ls ≡ w.lines ++ l ∷ [] → with_line s l ≡ Ok (record { devices = w.devices; lines = ls })
+taken_as s w l ls v e f is = taken s l e f ∙ ap (λ (x : ScenarioData). Ok (record { devices = x.devices; lines = x.lines ++ l ∷ [] })) (sym v) ∙ ap (λ (xs : List LineData). Ok (record { devices = w.devices; lines = xs })) (sym is)

@@ -1,0 +1,29 @@
+-- What is read keeps what the reading keeps.
+use Rattle.std.proofs.Common.{◌≡◌, ◌≤◌, ◌+◌, ℕ, List, [], ◌∷◌, length, Ok, Err, sym, ap, ◌∙◌, subst}
+use Rattle.std.proofs.lemmas.Bool.{cond-false, le-ltb}
+use Rattle.tcmu_model.specs.ScenarioData.{ScenarioData}
+use Rattle.tcmu_model.specs.Said.{Said, Opens, Adds}
+use Rattle.tcmu_model.specs.Fields.{pieces}
+use Rattle.tcmu_model.specs.Scenario.{with_text, with_lines, nothing_yet, scenario_of}
+use Rattle.tcmu_model.specs.Script.{ScriptData, script_of}
+use Rattle.tcmu_model.specs.ScenarioRules.{IsScenario, IsScript}
+use Rattle.tcmu_model.proofs.ScenarioLaws.{scenario_is}
+use Rattle.tcmu_model.proofs.ScriptLaws.{script_is}
+use Rattle.tcmu_model.proofs.SaidLaws.{IsSaid}
+use Rattle.scenario_text.specs.Giving.{HasDevice}
+
+-- a line speaks of a device that is there
+pub has_device : (s : ScenarioData) (said : Said) → IsSaid s said → HasDevice s said
+has_device s (Opens d) is = tt
+has_device s (Adds l) is = is.device
+
+pub playable : (x : ScriptData) (s : ScenarioData) (device : ℕ) → x ≡ script_of s device → IsScenario s → IsScript x
+playable x s device e k = subst IsScript (sym e) (script_is s device k)
+
+whole : (bytes rest : List ℕ) (n : ℕ) (s t : ScenarioData) → length bytes ≤ 4194304 → with_lines n s (pieces 10 rest) ≡ with_lines 1 nothing_yet (pieces 10 bytes) → pieces 10 rest ≡ rest ∷ [] → with_text s rest ≡ Ok t → scenario_of bytes ≡ Ok t
+unfolding scenario_of
+whole bytes rest n s t short so_far last e = cond-false _ _ _ (le-ltb _ _ short) ∙ sym so_far ∙ ap (with_lines n s) last ∙ ap (λ r. elim r [ Ok u ↦ with_lines (n + 1) u [] | Err f ↦ Err (record { line = n; why = f }) ]) e
+
+-- the last line ends the reading
+pub read_to_the_end : (bytes rest : List ℕ) (n : ℕ) (s t : ScenarioData) → length bytes ≤ 4194304 → with_lines n s (pieces 10 rest) ≡ with_lines 1 nothing_yet (pieces 10 bytes) → pieces 10 rest ≡ rest ∷ [] → with_text s rest ≡ Ok t → IsScenario t
+read_to_the_end bytes rest n s t short so_far last e = scenario_is bytes t (whole bytes rest n s t short so_far last e)

@@ -1,0 +1,33 @@
+-- What is counted while lines are read.
+use Rattle.std.specs.Prelude.{◌≡◌, ℕ, ◌≤◌, Bool, ◌&&◌, ◌||◌, not, nat_lt, List, [], length, Some, None, if◌then◌else◌, slice_index_or, slice_set}
+use Rattle.std.specs.List.{sum_by, count_by}
+use Rattle.tcmu_model.specs.ScenarioData.{DeviceLineData, LineData, command_of}
+use Rattle.tcmu_model.specs.Scenario.{with_name, initiators, is_dump, small_at, bytes_in, bytes_out}
+
+-- names: the initiators of each device
+pub record Counted (ds : List DeviceLineData) (ls : List LineData) (names : List (List (List ℕ))) (dumps ins outs : ℕ) : Type 0 where
+  pub names_are : (d : ℕ) → slice_index_or names d [] ≡ initiators d ls
+  pub names_of_all : length names ≡ length ds
+  pub dumps_are : dumps ≡ count_by is_dump ls
+  pub ins_are : ins ≡ sum_by bytes_in ls
+  pub outs_are : outs ≡ sum_by bytes_out ls
+  pub few_devices : length ds ≤ 16
+  pub few_lines : length ls ≤ 20000
+  pub few_dumps : dumps ≤ 16
+  pub few_in : ins ≤ 67108864
+  pub few_out : outs ≤ 67108864
+
+-- with the initiator of this line
+abbrev pub noted : List (List (List ℕ)) → LineData → List (List (List ℕ))
+noted names l = elim (command_of l) [ Some c ↦ slice_set names l.device (with_name (slice_index_or names l.device []) c.init) | None ↦ names ]
+
+-- the rules on a line, by the counts
+
+abbrev pub dump_by : List DeviceLineData → ℕ → LineData → Bool
+dump_by ds dumps l = is_dump l && (nat_lt 16 dumps || not (small_at ds l.device))
+
+abbrev pub many_by : List (List ℕ) → ℕ → ℕ → ℕ → Bool
+many_by names lines ins outs = nat_lt 16 (length names) || nat_lt 20000 lines || nat_lt 67108864 ins || nat_lt 67108864 outs
+
+abbrev pub one_if : Bool → ℕ
+one_if b = if b then 1 else 0

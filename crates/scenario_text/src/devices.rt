@@ -1,0 +1,72 @@
+//! Look-ups among the devices that are there. A scenario has at most 16 of them, so each is a scan.
+ghost use Rattle.std.specs.Prelude.{◌≡◌, IfSome, bytes_eq, length, ◌<◌};
+ghost use Rattle.std.specs.List.{list_any, position};
+ghost use Rattle.tcmu_model.specs.Said.{has_name, same_file};
+ghost use Rattle.tcmu_model.specs.Scenario.{is_small, small_at};
+ghost use Rattle.device_config.specs.Views.{medium_data};
+
+use crate::kinds::DeviceLine;
+use device_config::MediumKind;
+use tcmu_types::Settings;
+
+fn has_name(device: &DeviceLine, name: &[u8]) -> bool
+    ensures { result ≡ has_name name.now device.now }
+{
+    device.name.as_bytes() == name
+}
+
+/// The number of the device of this name.
+pub fn place_of(devices: &[DeviceLine], name: &[u8]) -> Option<usize>
+    ensures { result ≡ position (has_name name.now) devices.now }
+{
+    devices.iter().position(|device| has_name(device, name))
+}
+
+pub fn any_named(devices: &[DeviceLine], name: &[u8]) -> bool
+    ensures { result ≡ list_any (has_name name.now) devices.now }
+{
+    devices.iter().any(|device| has_name(device, name))
+}
+
+fn same_file(a: &MediumKind, b: &MediumKind) -> bool
+    ensures { result ≡ same_file (medium_data a.now) (medium_data b.now) }
+{
+    match a {
+        MediumKind::File(name) => match b {
+            MediumKind::File(other) => name.as_slice() == other.as_slice(),
+            MediumKind::Memory(_) => false,
+        },
+        MediumKind::Memory(_) => false,
+    }
+}
+
+fn in_same_file(device: &DeviceLine, kind: &MediumKind) -> bool
+    ensures { result ≡ same_file device.now.config.kind (medium_data kind.now) }
+{
+    same_file(&device.config.kind, kind)
+}
+
+pub fn any_in_file(devices: &[DeviceLine], kind: &MediumKind) -> bool
+    ensures { result ≡ list_any (λ d. same_file d.config.kind (medium_data kind.now)) devices.now }
+{
+    devices.iter().any(|device| in_same_file(device, kind))
+}
+
+fn is_small(settings: &Settings) -> bool
+    ensures { result ≡ is_small settings.now }
+{
+    if 65_536 < settings.ring {
+        return false;
+    }
+    settings.blocks as u64 * settings.pages as u64 <= 64
+}
+
+/// Whether the device of this number may be dumped.
+pub fn small_at(devices: &[DeviceLine], at: u32) -> bool
+    ensures { result ≡ small_at devices.now at }
+{
+    match devices.get(at as usize) {
+        Some(device) => is_small(&device.settings),
+        None => false,
+    }
+}

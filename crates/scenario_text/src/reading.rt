@@ -1,0 +1,114 @@
+//! Reading a whole text, line by line.
+ghost use Rattle.std.specs.Prelude.{◌≡◌, ◌<◌, ◌==◌, ◌||◌, length, IfOk};
+ghost use Rattle.tcmu_model.specs.Lines.{fields_of};
+ghost use Rattle.tcmu_model.specs.Scenario.{is_plain_memory, is_not_yet, with_rules, with_said, with_fields, with_text, scenario_of};
+ghost use Rattle.tcmu_model.specs.ScenarioRules.{IsScenario};
+ghost use Rattle.scenario_text.specs.Giving.{LineGives, Gives, HasDevice, said_data};
+
+use crate::counts::is_dump;
+use crate::kinds::{LineFault, Scenario, ScenarioFault};
+use crate::lines::{all_allowed, before_hash, next_field, verb_of};
+use crate::said::{SaidLine, said_by};
+use crate::so_far::SoFar;
+use device_config::fields::cut;
+use device_config::{Config, MediumKind};
+use std::alloc::Global;
+use tcmu_model::Why;
+
+/// The subtype `mem`.
+fn is_plain_memory(config: &Config) -> bool
+    ensures { result ≡ is_plain_memory config.now }
+{
+    match &config.kind {
+        MediumKind::Memory(_) => !config.protected && config.fails.is_empty(),
+        MediumKind::File(_) => false,
+    }
+}
+
+#[tactic(auto, unfolding(tcmu_model::specs::Scenario::is_not_yet))]
+fn is_not_yet(so_far: &SoFar, said: &SaidLine) -> bool
+    ensures { result ≡ is_not_yet so_far.now (said_data said.now) }
+{
+    match said {
+        SaidLine::Opens(device) => !is_plain_memory(&device.config) || 0 < so_far.device_count(),
+        SaidLine::Adds(line) => is_dump(line),
+    }
+}
+
+fn with_rules(alloc: Global, so_far: SoFar, said: SaidLine) -> Result<SoFar, LineFault>
+    requires { HasDevice so_far (said_data said) }
+    ensures { LineGives (λ x. x) result (with_rules so_far (said_data said)) }
+{
+    match said {
+        SaidLine::Opens(device) => so_far.with_device(alloc, device),
+        SaidLine::Adds(line) => so_far.with_line(line),
+    }
+}
+
+#[tactic(auto, unfolding(tcmu_model::specs::Scenario::with_said))]
+fn with_said(alloc: Global, so_far: SoFar, said: SaidLine) -> Result<SoFar, LineFault>
+    requires { HasDevice so_far (said_data said) }
+    ensures { LineGives (λ x. x) result (with_said so_far (said_data said)) }
+{
+    let not_yet = is_not_yet(&so_far, &said);
+    let more = with_rules(alloc, so_far, said)?;
+    if not_yet {
+        return Err(LineFault::Bad(Why::NotYet));
+    }
+    Ok(more)
+}
+
+#[tactic(auto, unfolding(tcmu_model::specs::Scenario::with_fields))]
+fn with_fields(alloc: Global, so_far: SoFar, text: &[u8]) -> Result<SoFar, LineFault>
+    ensures { LineGives (λ x. x) result (with_fields so_far (fields_of text.now)) }
+{
+    let Some((word, rest)) = next_field(text) else {
+        return Ok(so_far);
+    };
+    let verb = verb_of(word).ok_or(Why::Verb)?;
+    let said = said_by(alloc, &so_far, verb, rest)?;
+    with_said(alloc, so_far, said)
+}
+
+#[tactic(auto, unfolding(tcmu_model::specs::Scenario::with_text))]
+fn with_text(alloc: Global, so_far: SoFar, text: &[u8]) -> Result<SoFar, LineFault>
+    ensures { LineGives (λ x. x) result (with_text so_far text.now) }
+{
+    let text = before_hash(text);
+    if !all_allowed(text) {
+        return Err(LineFault::Bad(Why::Byte));
+    }
+    with_fields(alloc, so_far, text)
+}
+
+/// What the bytes say where they are a scenario, and else the first bad line with the first rule that it breaks. `NoMemory` may
+/// come in place of either.
+#[tactic(auto, unfolding(tcmu_model::specs::Scenario::scenario_of))]
+pub fn read_scenario(alloc: Global, bytes: &[u8]) -> Result<Scenario, ScenarioFault>
+    ensures reading { Gives result (scenario_of bytes.now) }
+    ensures limits { IfOk result IsScenario }
+{
+    if 4_194_304 < bytes.len() {
+        return Err(ScenarioFault::Bad {
+            line: 0,
+            why: Why::TooLong,
+        });
+    }
+    let mut so_far = SoFar::new(alloc);
+    let mut number = 1u32;
+    let mut rest = bytes;
+    while let Some((text, after)) = cut(rest, b'\n') {
+        match with_text(alloc, so_far, text) {
+            Ok(more) => so_far = more,
+            Err(LineFault::Bad(why)) => return Err(ScenarioFault::Bad { line: number, why }),
+            Err(LineFault::NoMemory) => return Err(ScenarioFault::NoMemory),
+        }
+        number += 1;
+        rest = after;
+    }
+    match with_text(alloc, so_far, rest) {
+        Ok(whole) => Ok(whole.into_scenario()),
+        Err(LineFault::Bad(why)) => Err(ScenarioFault::Bad { line: number, why }),
+        Err(LineFault::NoMemory) => Err(ScenarioFault::NoMemory),
+    }
+}

@@ -1,0 +1,183 @@
+//! A scenario while its lines are read, with what its limits count.
+ghost use Rattle.std.specs.Prelude.{◌≡◌, ℕ, ◌≤◌, ◌<◌, List, [], length, IfOk, Some, None};
+ghost use Rattle.std.specs.List.{list_any};
+ghost use Rattle.tcmu_model.specs.Said.{has_name, device_at, same_file};
+ghost use Rattle.tcmu_model.specs.Scenario.{with_line, with_device, nothing_yet};
+ghost use Rattle.device_config.specs.Views.{medium_data};
+ghost use Rattle.scenario_text.specs.Counts.{dump_by, many_by, one_if};
+ghost use Rattle.scenario_text.specs.Giving.{LineGives};
+
+use crate::counts::{Names, bytes_in, bytes_out, is_dump, names_at, note_initiator};
+use crate::devices::{any_in_file, any_named, place_of, small_at};
+use crate::kinds::{DeviceLine, Devices, Line, LineFault, Lines, Scenario};
+use device_config::MediumKind;
+use std::alloc::Global;
+use std::marker::Model;
+use tcmu_model::Why;
+use tcmu_types::Name;
+
+/// The scenario so far.
+#[derive(Debug, Drop)]
+pub struct SoFar {
+    devices: Devices,
+    lines: Lines,
+    initiators: Vec<Names>,
+    dumps: u32,
+    bytes_in: u64,
+    bytes_out: u64,
+}
+
+impl Model for SoFar {
+    ghost use Rattle.tcmu_model.specs.ScenarioData.{ScenarioData};
+    ghost use Rattle.scenario_text.specs.Counts.{Counted};
+
+    ghost Value = { ScenarioData };
+
+    ghost view = { λ a. record { devices = a.devices.items; lines = a.lines.items } };
+
+    ghost invariant = { λ a. Counted a.devices.items a.lines.items a.initiators.items a.dumps a.bytes_in a.bytes_out };
+}
+
+fn breaks_dump(devices: &[DeviceLine], dumps: u32, line: &Line) -> bool
+    ensures { result ≡ dump_by devices.now dumps line.now }
+{
+    if !is_dump(line) {
+        return false;
+    }
+    16 < dumps || !small_at(devices, line.device)
+}
+
+fn breaks_many(initiators: &[Name], lines: usize, ins: u64, outs: u64) -> bool
+    ensures { result ≡ many_by initiators.now lines ins outs }
+{
+    16 < initiators.len() || 20_000 < lines || 67_108_864 < ins || 67_108_864 < outs
+}
+
+fn one_if(b: bool) -> u32
+    ensures value { result ≡ one_if b }
+    ensures most { result ≤ 1 }
+{
+    if b { 1 } else { 0 }
+}
+
+impl SoFar {
+    pub fn new(alloc: Global) -> SoFar
+        ensures { result ≡ nothing_yet }
+    {
+        SoFar {
+            devices: Devices::new(alloc),
+            lines: Lines::new(alloc),
+            initiators: Vec::new(alloc),
+            dumps: 0,
+            bytes_in: 0,
+            bytes_out: 0,
+        }
+    }
+
+    /// The number of the device of this name.
+    pub fn device_at(&self, name: &[u8]) -> Option<u32>
+        ensures { result ≡ device_at self.now name.now }
+    {
+        match place_of(self.devices.as_slice(), name) {
+            Some(at) => Some(at as u32),
+            None => None,
+        }
+    }
+
+    pub fn has_device(&self, name: &[u8]) -> bool
+        ensures { result ≡ list_any (has_name name.now) self.now.devices }
+    {
+        any_named(self.devices.as_slice(), name)
+    }
+
+    /// Whether a device has the same file.
+    pub fn has_file(&self, kind: &MediumKind) -> bool
+        ensures { result ≡ list_any (λ d. same_file d.config.kind (medium_data kind.now)) self.now.devices }
+    {
+        any_in_file(self.devices.as_slice(), kind)
+    }
+
+    pub fn device_count(&self) -> usize
+        ensures { result ≡ length self.now.devices }
+    {
+        self.devices.len()
+    }
+
+    pub fn into_scenario(self) -> Scenario
+        ensures { result ≡ self }
+    {
+        Scenario {
+            devices: self.devices,
+            lines: self.lines,
+        }
+    }
+
+    /// With this line behind the others.
+    #[tactic(auto, unfolding(tcmu_model::specs::Scenario::with_line))]
+    pub fn with_line(self, line: Line) -> Result<SoFar, LineFault>
+        requires { line.device < length self.devices }
+        ensures { LineGives (λ x. x) result (with_line self line) }
+    {
+        let SoFar {
+            devices,
+            mut lines,
+            mut initiators,
+            dumps,
+            bytes_in: ins,
+            bytes_out: outs,
+        } = self;
+        let dumps = dumps + one_if(is_dump(&line));
+        if breaks_dump(devices.as_slice(), dumps, &line) {
+            return Err(LineFault::Bad(Why::Dump));
+        }
+        note_initiator(&mut initiators, &line)?;
+        let ins = ins + bytes_in(&line);
+        let outs = outs + bytes_out(&line);
+        let names = names_at(&initiators, line.device);
+        if breaks_many(names, lines.len() + 1, ins, outs) {
+            return Err(LineFault::Bad(Why::Many));
+        }
+        lines.reserve(1)?;
+        lines.push(line);
+        Ok(SoFar {
+            devices,
+            lines,
+            initiators,
+            dumps,
+            bytes_in: ins,
+            bytes_out: outs,
+        })
+    }
+
+    /// With this device behind the others.
+    #[tactic(auto, unfolding(tcmu_model::specs::Scenario::with_device))]
+    pub fn with_device(self, alloc: Global, device: DeviceLine) -> Result<SoFar, LineFault>
+        ensures { LineGives (λ x. x) result (with_device self device) }
+    {
+        let SoFar {
+            mut devices,
+            lines,
+            mut initiators,
+            dumps,
+            bytes_in,
+            bytes_out,
+        } = self;
+        if !lines.is_empty() {
+            return Err(LineFault::Bad(Why::Order));
+        }
+        if 16 < devices.len() + 1 {
+            return Err(LineFault::Bad(Why::Many));
+        }
+        devices.reserve(1)?;
+        devices.push(device);
+        initiators.push(Names::new(alloc))?;
+        Ok(SoFar {
+            devices,
+            lines,
+            initiators,
+            dumps,
+            bytes_in,
+            bytes_out,
+        })
+    }
+}

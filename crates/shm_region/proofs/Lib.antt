@@ -1,0 +1,5 @@
+mod Sized
+mod Opening
+mod Lent
+mod Over
+mod Shown

@@ -1,0 +1,11 @@
+//! The memory that the target and the user side of one device share: the mailbox, the command ring, and the data area, whose blocks
+//! may be lent.
+#![tactic(auto)]
+
+mod copying;
+mod laws;
+mod lending;
+mod region;
+
+pub use laws::lends_and_takes_back;
+pub use region::Region;

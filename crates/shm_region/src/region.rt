@@ -1,0 +1,306 @@
+//! The region of one device.
+ghost use Rattle.std.specs.Prelude.{◌≡◌, ℕ, [], ◌∷◌, ◌+◌, ◌-◌, ◌*◌, ◌^◌, ◌<◌, ◌≤◌, ◌++◌, length, slice_get, Some, None, IfSome, is_ok, is_some, option_map, if◌then◌else◌, IfOk, OnOk, OnErr};
+ghost use Rattle.tcmu_model.specs.Lengths.{block_size};
+ghost use Rattle.tcmu_model.specs.Layout.{le, field, put, zeros, padded, flag_bits, head_place, tail_place, data_start, mailbox_bytes, device_mailbox};
+ghost use Rattle.tcmu_model.specs.Regions.{RegionState, IsRegion, size_of, block_at, home, is_home, put_home, opening_region, cleared, grown_to, shrunk_to, with_block, overlaid};
+
+use iovec_scatter::Block;
+use mailbox_bytes::fields::{put_bytes, put_u32, u32_at};
+use mailbox_bytes::{Mailbox, write};
+use std::alloc::Global;
+use std::marker::Model;
+use tcmu_types::{Flags, NoMemory, Settings};
+
+const PAGE: u64 = 4096;
+
+/// The front, which is the mailbox and the command ring, and the data blocks, each at home or lent. Contracts see the bytes of both,
+/// and which blocks are lent.
+#[derive(Drop)]
+pub struct Region {
+    front: Vec<u8>,
+    blocks: Vec<Option<Block>>,
+    pages: u32,
+}
+
+impl Model for Region {
+    ghost use Rattle.tcmu_model.specs.Regions.{RegionState, IsRegion};
+
+    ghost Value = { RegionState };
+
+    ghost view = { λ a. record { front = a.front.items; blocks = a.blocks.items; pages = a.pages } };
+
+    ghost invariant = { λ a. IsRegion a.front.items a.blocks.items a.pages };
+}
+
+fn flag_bits(flags: Flags) -> u16
+    ensures { result ≡ flag_bits flags }
+{
+    let ooo = if flags.ooo { 1 } else { 0 };
+    let read_len = if flags.read_len { 2 } else { 0 };
+    let tmr = if flags.tmr { 4 } else { 0 };
+    ooo + read_len + tmr
+}
+
+/// The bytes before the data area of a new region.
+fn new_front(alloc: Global, flags: Flags, ring: u32) -> Result<Vec<u8>, NoMemory>
+    requires { ring ≤ 4194304 }
+    ensures { IfOk result (λ v. v.items ≡ padded (data_start ring) (mailbox_bytes (device_mailbox flags ring 0 0))) }
+{
+    let mut front = vec![in alloc; 0; 4096 + ring as usize]?;
+    let mailbox = Mailbox {
+        version: 2,
+        flags: flag_bits(flags),
+        cmdr_off: 128,
+        cmdr_size: ring,
+        head: 0,
+        tail: 0,
+    };
+    write(&mailbox, &mut front);
+    Ok(front)
+}
+
+/// Writes the part of bytes that falls into a part of the region, which begins at byte `place`; the bytes go from byte `at` on.
+fn overlay(part: &mut [u8], place: u64, at: u64, bytes: &[u8])
+    ensures { part.new ≡ overlaid place at bytes.now part.old }
+{
+    let start = at.saturating_sub(place);
+    let skip = place.saturating_sub(at);
+    if start >= part.len() as u64 || skip >= bytes.len() as u64 {
+        return;
+    }
+    let rest = &bytes[skip as usize..];
+    let count = rest.len().min(part.len() - start as usize);
+    put_bytes(part, start as usize, &rest[..count]);
+}
+
+fn overlay_of(block: &mut Block, place: u64, at: u64, bytes: &[u8])
+    ensures { block.new ≡ overlaid place at bytes.now block.old }
+{
+    overlay(block.as_mut_slice(), place, at, bytes);
+}
+
+/// Appends a block.
+fn append(blocks: &mut Vec<Option<Block>>, block: Block) -> Result<(), NoMemory>
+    ensures { blocks.new.items ≡ (if is_ok result then blocks.old.items ++ Some block ∷ [] else blocks.old.items) }
+{
+    match blocks.push(Some(block)) {
+        Ok(()) => Ok(()),
+        Err(_) => Err(NoMemory),
+    }
+}
+
+impl Region {
+    ghost use Rattle.std.specs.Borrow.{sem};
+    ghost use Rattle.shm_region.specs.Lends.{LendsFront};
+
+    /// A new region: the mailbox with the settings' values, an empty ring, zeros up to the data area, and no block.
+    pub fn new(alloc: Global, settings: Settings) -> Result<Region, NoMemory>
+        ensures { IfOk result (λ r. r ≡ opening_region settings) }
+    {
+        let front = new_front(alloc, settings.flags, settings.ring)?;
+        Ok(Region {
+            front,
+            blocks: Vec::new(alloc),
+            pages: settings.pages,
+        })
+    }
+
+    pub fn front(&self) -> &[u8]
+        ensures front { result.now ≡ self.now.front }
+        ensures mailbox { 4096 ≤ length self.now.front }
+    {
+        self.front.as_slice()
+    }
+
+    pub fn front_mut(&mut self) -> &mut [u8]
+        ensures* writes_back { sem 𝓛 (LendsFront self.entry result) }
+        ensures value { result.now ≡ self.old.front }
+    {
+        self.front.as_mut_slice()
+    }
+
+    /// The byte at which the data area begins. Every region keeps its limits.
+    pub fn data_off(&self) -> u64
+        ensures value { result ≡ length self.now.front }
+        ensures limits { IsRegion self.now.front self.now.blocks self.now.pages }
+    {
+        self.front.len() as u64
+    }
+
+    pub fn area_len(&self) -> u64
+        ensures { result ≡ size_of self.now * length self.now.blocks }
+    {
+        PAGE * self.pages as u64 * self.blocks.len() as u64
+    }
+
+    /// The bytes of a block.
+    pub(crate) fn block_len(&self) -> u64
+        ensures value { result ≡ size_of self.now }
+        ensures least { 4096 ≤ result }
+        ensures most { result ≤ 65536 }
+    {
+        PAGE * self.pages as u64
+    }
+
+    /// How many places for blocks there are, lent or not.
+    pub(crate) fn block_count(&self) -> u64
+        ensures { result ≡ length self.now.blocks }
+    {
+        self.blocks.len() as u64
+    }
+
+    pub fn head(&self) -> u32
+        ensures { result ≡ field 4 head_place self.now.front }
+    {
+        u32_at(&self.front, 12)
+    }
+
+    pub fn tail(&self) -> u32
+        ensures { result ≡ field 4 tail_place self.now.front }
+    {
+        u32_at(&self.front, 64)
+    }
+
+    pub fn set_head(&mut self, at: u32)
+        ensures { self.new ≡ record self.old { front = put self.old.front head_place (le 4 at) } }
+    {
+        put_u32(&mut self.front, 12, at);
+    }
+
+    pub fn set_tail(&mut self, at: u32)
+        ensures { self.new ≡ record self.old { front = put self.old.front tail_place (le 4 at) } }
+    {
+        put_u32(&mut self.front, 64, at);
+    }
+
+    /// The bytes of the block in a place, if it is at home.
+    pub(crate) fn home(&self, block: u64) -> Option<&[u8]>
+        ensures { option_map (λ b. b.now) result ≡ block_at self.now block }
+    {
+        match self.blocks.get(block as usize) {
+            Some(Some(block)) => Some(block.as_slice()),
+            _ => None,
+        }
+    }
+
+    /// The same, with the block's size.
+    pub(crate) fn home_block(&self, block: u64) -> Option<&[u8]>
+        ensures value { option_map (λ b. b.now) result ≡ block_at self.now block }
+        ensures size { IfSome result (λ b. length b.now ≡ size_of self.now) }
+    {
+        let _ = self.data_off();
+        self.home(block)
+    }
+
+    /// The bytes of a block; None exactly where it is lent or not there.
+    pub fn area(&self, block: u32) -> Option<&[u8]>
+        ensures { option_map (λ b. b.now) result ≡ block_at self.now block }
+    {
+        self.home(block as u64)
+    }
+
+    /// Drops the last blocks, lent or not, until there are at most `blocks`.
+    pub fn shrink(&mut self, blocks: u32)
+        ensures { self.new ≡ shrunk_to self.old blocks }
+    {
+        self.blocks.truncate(blocks as usize);
+    }
+
+    /// Takes a block out, where it is at home.
+    fn take_block(&mut self, block: u64) -> Option<Block>
+        requires { block < length self.old.blocks }
+        ensures block { slice_get self.old.blocks block ≡ Some result }
+        ensures region { self.new ≡ with_block self.old block None }
+        ensures size { IfSome result (λ b. length b ≡ size_of self.old) }
+    {
+        std::mem::replace(&mut self.blocks[block as usize], None)
+    }
+
+    /// Puts a block to its place.
+    fn put_block(&mut self, block: u64, bytes: Block)
+        requires place { block < length self.old.blocks }
+        requires size { length bytes ≡ size_of self.old }
+        ensures region { self.new ≡ with_block self.old block (Some bytes) }
+    {
+        self.blocks[block as usize] = Some(bytes);
+    }
+
+    /// Adds a block of zeros, which memory may lack for.
+    fn add_block(&mut self, alloc: Global) -> Result<(), NoMemory>
+        requires { length self.old.blocks + 1 < 2 ^ 32 }
+        ensures ok { OnOk result (self.new ≡ record self.old { blocks = self.old.blocks ++ Some (zeros (size_of self.old)) ∷ [] }) }
+        ensures err { OnErr result (self.new ≡ self.old) }
+    {
+        let block = Block::zeros(alloc, 4096 * self.pages as usize)?;
+        append(&mut self.blocks, block)
+    }
+
+    /// Adds blocks of zeros until there are so many; where memory lacks nothing changes.
+    pub fn grow(&mut self, alloc: Global, blocks: u32) -> Result<(), NoMemory>
+        ensures ok { OnOk result (self.new ≡ grown_to self.old blocks) }
+        ensures err { OnErr result (self.new ≡ self.old) }
+    {
+        let before = self.blocks.len() as u32;
+        for _ in before..blocks {
+            if self.add_block(alloc).is_err() {
+                self.shrink(before);
+                return Err(NoMemory);
+            }
+        }
+        Ok(())
+    }
+
+    /// Makes a block at home zero, and leaves a lent one as it is.
+    pub fn clear(&mut self, block: u32)
+        requires { block < length self.old.blocks }
+        ensures { self.new ≡ with_block self.old block (cleared (size_of self.old) (block_at self.old block)) }
+    {
+        if let Some(mut bytes) = self.take_block(block as u64) {
+            bytes.clear();
+            self.put_block(block as u64, bytes);
+        }
+    }
+
+    /// Takes a block out, or finds it lent or not there.
+    pub(crate) fn take_home(&mut self, block: u64) -> Option<Block>
+        ensures found { is_some result ≡ is_home (slice_get self.old.blocks block) }
+        ensures block { result ≡ home (slice_get self.old.blocks block) }
+        ensures region { self.new ≡ with_block self.old block None }
+        ensures size { IfSome result (λ b. length b ≡ size_of self.old) }
+    {
+        if (block as usize) < self.blocks.len() {
+            self.take_block(block)
+        } else {
+            None
+        }
+    }
+
+    /// Puts a block to its place where that place is lent, and drops it otherwise.
+    pub(crate) fn put_home(&mut self, block: u64, bytes: Block)
+        requires size { length bytes ≡ size_of self.old }
+        ensures region { self.new ≡ record self.old { blocks = put_home self.old.blocks block bytes } }
+    {
+        if let Some(None) = self.blocks.get(block as usize) {
+            self.put_block(block, bytes);
+        }
+    }
+
+    /// Writes the part of bytes that falls into the front; they go from byte `at` of the region on.
+    pub(crate) fn overlay_front(&mut self, at: u64, bytes: &[u8])
+        ensures { self.new ≡ record self.old { front = overlaid 0 at bytes.now self.old.front } }
+    {
+        overlay(&mut self.front, 0, at, bytes);
+    }
+
+    /// Writes the part of bytes that falls into a block at home.
+    pub(crate) fn overlay_block(&mut self, block: u64, at: u64, bytes: &[u8])
+        requires { block < length self.old.blocks }
+        ensures { self.new ≡ with_block self.old block (option_map (overlaid (length self.old.front + size_of self.old * block) at bytes.now) (block_at self.old block)) }
+    {
+        let place = self.data_off() + PAGE * self.pages as u64 * block;
+        if let Some(mut found) = self.take_block(block) {
+            overlay_of(&mut found, place, at, bytes);
+            self.put_block(block, found);
+        }
+    }
+}

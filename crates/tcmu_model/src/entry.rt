@@ -1,0 +1,59 @@
+//! Entries of the command ring as they are read, and what may be wrong with one.
+use tcmu_types::Cdb;
+use thiserror::Error;
+
+/// What an entry reads as (the kernel's tcmu-design, "The Command Ring"). `len` is its length in bytes, a multiple of 8.
+#[derive(Debug, Drop)]
+pub enum EntryRef {
+    Pad {
+        len: u32,
+    },
+    Cmd {
+        len: u32,
+        id: u16,
+        iov_cnt: u32,
+        cdb: Cdb,
+    },
+    Tmr {
+        len: u32,
+        kind: u8,
+        count: u32,
+    },
+    /// An opcode of 3 to 7.
+    Unknown {
+        op: u8,
+        len: u32,
+    },
+}
+
+/// The first rule that an entry breaks.
+#[derive(Clone, Copy, Debug, PartialEq, Eq, Error)]
+pub enum EntryFault {
+    /// The length is below the least of its kind: 112 bytes for a command, 32 for a task management entry, and 8 for any other.
+    #[error("an entry of its kind has more than {0} bytes")]
+    BadLength(u32),
+    /// The entry passes the limit: the head where that is above its place, or else the ring's end. Both in bytes from its place.
+    #[error("the entry has {len} bytes, and {limit} are there")]
+    PastEnd { len: u32, limit: u32 },
+    /// This count breaks a rule: the iovecs leave no byte behind them, there are bidirectional iovecs or protection iovecs, or the
+    /// ids of a task management entry pass its end.
+    #[error("the entry has no room for a count of {0}, or the count must be 0")]
+    BadCount(u32),
+    /// The command descriptor block at this offset from the region's start does not lie in the entry, behind the iovecs.
+    #[error("the command descriptor block at byte {0} is not in the entry")]
+    CdbOutside(u64),
+    /// The first iovec, by its number, that does not lie in the data area.
+    #[error("iovec {0} is not in the data area")]
+    IovOutside(u32),
+}
+
+/// The bytes of a response in an entry: the command's id, flags and status of the user side, the length of what was read, and the
+/// sense buffer.
+#[derive(Clone, Copy, Debug, PartialEq, Eq)]
+pub struct Response {
+    pub id: u16,
+    pub uflags: u8,
+    pub status: u8,
+    pub read_len: u32,
+    pub sense: [u8; 96],
+}

@@ -1,0 +1,85 @@
+//! Why texts are refused.
+ghost use Rattle.std.specs.Prelude.{◌≡◌, ◌≤◌, length};
+ghost use Rattle.tcmu_model.specs.Words.{why_word};
+ghost use Rattle.tcmu_model.specs.declared.faults.ConfigFault.TheVariants as fault;
+
+use std::marker::Model;
+use thiserror::Error;
+
+/// Why a text is no config: the first part of `tcm-user/<hba_num>/<device_name>/<subtype>/<path>` that is broken. A colon anywhere
+/// in the text comes before all of them; `Colon` names its first place, in bytes from 0.
+#[derive(Clone, Copy, Debug, PartialEq, Eq, Error)]
+pub enum ConfigFault {
+    #[error("a colon at byte {0}")]
+    Colon(u64),
+    #[error("no tcm-user/ in front")]
+    Prefix,
+    #[error("no number of a host bus adapter")]
+    Hba,
+    #[error("no name of a device")]
+    Name,
+    #[error("no known subtype")]
+    Subtype,
+    #[error("no path of this subtype")]
+    Path,
+    #[error("no memory")]
+    NoMemory,
+}
+
+/// Why a line of a scenario is refused. The variants stand in the order of the rules; a line's fault is the first rule that it
+/// breaks, where the rules from `Name` to `Runs` go over its fields from left to right. `NotYet` is for lines that break no rule
+/// and whose serving is not built yet.
+#[derive(Clone, Copy, Debug, Drop, PartialEq, Eq)]
+pub enum Why {
+    TooLong,
+    Byte,
+    Verb,
+    Fields,
+    Name,
+    Config,
+    Number,
+    Flags,
+    Init,
+    Cdb,
+    Runs,
+    Order,
+    Direction,
+    Dump,
+    Many,
+    NotYet,
+}
+
+impl From<tcmu_types::NoMemory> for ConfigFault {
+    ghost from_gives = { λ _ e. e ≡ fault.NoMemory };
+
+    fn from(_: tcmu_types::NoMemory) -> ConfigFault {
+        ConfigFault::NoMemory
+    }
+}
+
+impl Why {
+    /// The word that stands for it, as in `line 2: name`.
+    pub fn text(&self) -> &'static str
+        ensures value { result.now ≡ why_word self.now }
+        ensures short { length result.now ≤ 9 }
+    {
+        match self {
+            Why::TooLong => "toolong",
+            Why::Byte => "byte",
+            Why::Verb => "verb",
+            Why::Fields => "fields",
+            Why::Name => "name",
+            Why::Config => "config",
+            Why::Number => "number",
+            Why::Flags => "flags",
+            Why::Init => "init",
+            Why::Cdb => "cdb",
+            Why::Runs => "runs",
+            Why::Order => "order",
+            Why::Direction => "direction",
+            Why::Dump => "dump",
+            Why::Many => "many",
+            Why::NotYet => "notyet",
+        }
+    }
+}

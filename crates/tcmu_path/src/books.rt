@@ -1,0 +1,212 @@
+//! What clean, tick, reset and restart do to the rows and the log.
+ghost use Rattle.std.specs.Prelude.{◌≡◌, ◌+◌, ◌-◌, ◌≤◌, [], ◌++◌, length, take, drop, map};
+ghost use Rattle.std.specs.List.{filter, count_by};
+ghost use Rattle.tcmu_model.specs.Lists.{first_of, without_first};
+ghost use Rattle.tcmu_model.specs.Device.{is_at};
+ghost use Rattle.tcmu_model.specs.Events.{finish, finish_all, expire, is_due, expiry, is_open, reset_completion, lose, is_losing};
+ghost use Rattle.tcmu_model.specs.RingState.{cleared_commands, published_commands};
+ghost use Rattle.tcmu_path.specs.Fresh.{AreAway};
+ghost use Rattle.tcmu_path.specs.Room.{to_place, to_log, held_by, KeepsRoom};
+
+use crate::closings::reset_completion;
+use crate::ring::Ring;
+use crate::rows::{Row, place_of};
+use std::alloc::Global;
+use tcmu_model::{CommandState, blocks_of};
+use tcmu_types::{Done, Listed, Serials, Settings};
+
+/// Takes out the placed command of a serial, where it is there.
+fn take_placed(rows: &mut Vec<Row>, serial: u64) -> Option<Row>
+    ensures row { result ≡ first_of (is_at serial CommandState.Placed) rows.old.items }
+    ensures rest { rows.new.items ≡ without_first (is_at serial CommandState.Placed) rows.old.items }
+{
+    match place_of(rows.as_slice(), serial, CommandState::Placed) {
+        Some(at) => Some(rows.remove(at)),
+        None => None,
+    }
+}
+
+/// Finishes the placed command of a serial, where it is there, and logs its completion.
+fn finish(
+    rows: &mut Vec<Row>,
+    log: &mut Listed<Done>,
+    held: &mut u32,
+    serial: u64,
+    pages: u32,
+    read_len: bool,
+)
+    requires room { to_log rows.old.items ≤ log.old.spare }
+    requires low { 1 ≤ pages }
+    requires high { pages ≤ 16 }
+    requires held { held.old ≡ held_by pages rows.old.items }
+    ensures rows { rows.new.items ≡ (finish read_len (record { unfinished = rows.old.items; log = log.old.items }) serial).unfinished }
+    ensures log { log.new.items ≡ (finish read_len (record { unfinished = rows.old.items; log = log.old.items }) serial).log }
+    ensures room { to_log rows.new.items + log.old.spare ≤ log.new.spare + to_log rows.old.items }
+    ensures held { held.new ≡ held_by pages rows.new.items }
+    ensures less { held.new ≤ held.old }
+    ensures to_place { to_place rows.new.items ≤ to_place rows.old.items }
+    ensures grows { length log.old.items ≤ length log.new.items }
+{
+    if let Some(row) = take_placed(rows, serial) {
+        *held -= blocks_of(row.command(), pages);
+        if let Some(done) = row.into_completion(read_len) {
+            log.push(done);
+        }
+    }
+}
+
+/// Finishes the placed commands of these serials, one after another.
+fn finish_all(
+    rows: &mut Vec<Row>,
+    log: &mut Listed<Done>,
+    held: &mut u32,
+    serials: &[u64],
+    pages: u32,
+    read_len: bool,
+)
+    requires room { to_log rows.old.items ≤ log.old.spare }
+    requires low { 1 ≤ pages }
+    requires high { pages ≤ 16 }
+    requires held { held.old ≡ held_by pages rows.old.items }
+    ensures rows { rows.new.items ≡ (finish_all read_len (record { unfinished = rows.old.items; log = log.old.items }) serials.now).unfinished }
+    ensures log { log.new.items ≡ (finish_all read_len (record { unfinished = rows.old.items; log = log.old.items }) serials.now).log }
+    ensures room { to_log rows.new.items + log.old.spare ≤ log.new.spare + to_log rows.old.items }
+    ensures held { held.new ≡ held_by pages rows.new.items }
+    ensures less { held.new ≤ held.old }
+    ensures to_place { to_place rows.new.items ≤ to_place rows.old.items }
+    ensures grows { length log.old.items ≤ length log.new.items }
+{
+    for serial in serials {
+        finish(rows, log, held, *serial, pages, read_len);
+    }
+}
+
+/// Logs the commands that are due.
+fn log_due(rows: &[Row], log: &mut Listed<Done>, alloc: Global, now: u64)
+    requires { count_by (is_due now) rows.now ≤ log.old.spare }
+    ensures log { log.new.items ≡ log.old.items ++ map expiry (filter (is_due now) rows.now) }
+    ensures room { log.old.spare ≤ log.new.spare + count_by (is_due now) rows.now }
+{
+    for row in rows.iter() {
+        if row.is_due(now) {
+            log.push(row.expiry(alloc));
+        }
+    }
+}
+
+/// Marks the commands that are due.
+fn mark_due(rows: &mut Vec<Row>, now: u64)
+    ensures rows { rows.new.items ≡ map (expire now) rows.old.items }
+{
+    for row in rows.iter_mut() {
+        row.expire(now);
+    }
+}
+
+/// Logs the commands that are due, and marks them expired.
+pub fn expire_all(rows: &mut Vec<Row>, log: &mut Listed<Done>, alloc: Global, now: u64)
+    requires { to_log rows.old.items ≤ log.old.spare }
+    ensures rows { rows.new.items ≡ map (expire now) rows.old.items }
+    ensures log { log.new.items ≡ log.old.items ++ map expiry (filter (is_due now) rows.old.items) }
+    ensures room { to_log rows.new.items + log.old.spare ≤ log.new.spare + to_log rows.old.items }
+    ensures kept { KeepsRoom rows.old.items rows.new.items }
+{
+    log_due(rows.as_slice(), log, alloc, now);
+    mark_due(rows, now);
+}
+
+/// Logs each command that is open as a reset ends it, and forgets all.
+pub fn close_all(rows: &mut Vec<Row>, log: &mut Listed<Done>, alloc: Global, level: u8)
+    requires { to_log rows.old.items ≤ log.old.spare }
+    ensures rows { rows.new.items ≡ [] }
+    ensures log { log.new.items ≡ log.old.items ++ map (λ u. reset_completion level u.serial u.command) (filter is_open rows.old.items) }
+    ensures room { log.old.spare ≤ log.new.spare + to_log rows.old.items }
+{
+    for row in rows.iter() {
+        if !row.is_expired() {
+            log.push(reset_completion(alloc, level, row.serial(), row.command()));
+        }
+    }
+    rows.clear();
+}
+
+/// How many commands a restart takes.
+fn losing(rows: &[Row], answered: &[u64]) -> u64
+    ensures { result ≡ count_by (is_losing answered.now) rows.now }
+{
+    rows.iter().filter(|row| row.is_losing(answered)).count() as u64
+}
+
+/// Loses the commands that a restart takes.
+fn mark_lost(rows: &mut Vec<Row>, answered: &[u64])
+    ensures rows { rows.new.items ≡ map (lose answered.now) rows.old.items }
+{
+    for row in rows.iter_mut() {
+        row.lose(answered);
+    }
+}
+
+/// Loses the commands that a restart takes, and counts them.
+fn lose_all(rows: &mut Vec<Row>, answered: &[u64]) -> u64
+    ensures rows { rows.new.items ≡ map (lose answered.now) rows.old.items }
+    ensures count { result ≡ count_by (is_losing answered.now) rows.old.items }
+    ensures kept { KeepsRoom rows.old.items rows.new.items }
+{
+    let count = losing(rows.as_slice(), answered);
+    mark_lost(rows, answered);
+    count
+}
+
+/// The answers that are published and not cleared.
+fn published<'a>(placed: &'a Serials, ring: &Ring) -> &'a [u64]
+    requires { published_commands ring.now ≤ length placed.now.items }
+    ensures value { result.now ≡ take (published_commands ring.now - cleared_commands ring.now) (drop (cleared_commands ring.now) placed.now.items) }
+    ensures cleared { cleared_commands ring.now ≤ published_commands ring.now }
+{
+    let from = ring.cleared_commands();
+    let to = ring.published_commands();
+    &placed.as_slice()[from..to]
+}
+
+/// Finishes the commands whose answers are published. Those whose answers are cleared are finished, so it does not go over them.
+pub fn finish_published(
+    rows: &mut Vec<Row>,
+    log: &mut Listed<Done>,
+    held: &mut u32,
+    placed: &Serials,
+    ring: &Ring,
+    settings: &Settings,
+)
+    requires room { to_log rows.old.items ≤ log.old.spare }
+    requires held { held.old ≡ held_by settings.now.pages rows.old.items }
+    requires published { published_commands ring.now ≤ length placed.now.items }
+    requires away { AreAway (take (cleared_commands ring.now) placed.now.items) rows.old.items }
+    ensures rows { rows.new.items ≡ (finish_all settings.now.flags.read_len (record { unfinished = rows.old.items; log = log.old.items }) (take (published_commands ring.now) placed.now.items)).unfinished }
+    ensures log { log.new.items ≡ (finish_all settings.now.flags.read_len (record { unfinished = rows.old.items; log = log.old.items }) (take (published_commands ring.now) placed.now.items)).log }
+    ensures room { to_log rows.new.items + log.old.spare ≤ log.new.spare + to_log rows.old.items }
+    ensures held { held.new ≡ held_by settings.now.pages rows.new.items }
+    ensures to_place { to_place rows.new.items ≤ to_place rows.old.items }
+    ensures grows { length log.old.items ≤ length log.new.items }
+{
+    let serials = published(placed, ring);
+    finish_all(
+        rows,
+        log,
+        held,
+        serials,
+        settings.pages,
+        settings.flags.read_len,
+    );
+}
+
+/// Loses the commands that a restart takes, and counts them. Of the answers that are cleared no command is left.
+pub fn lose_unpublished(rows: &mut Vec<Row>, placed: &Serials, ring: &Ring) -> u64
+    requires published { published_commands ring.now ≤ length placed.now.items }
+    requires away { AreAway (take (cleared_commands ring.now) placed.now.items) rows.old.items }
+    ensures rows { rows.new.items ≡ map (lose (take (published_commands ring.now) placed.now.items)) rows.old.items }
+    ensures count { result ≡ count_by (is_losing (take (published_commands ring.now) placed.now.items)) rows.old.items }
+    ensures kept { KeepsRoom rows.old.items rows.new.items }
+{
+    let serials = published(placed, ring);
+    lose_all(rows, serials)
+}

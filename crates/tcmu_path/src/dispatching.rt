@@ -1,0 +1,96 @@
+//! What dispatch and handle do to the rows.
+ghost use Rattle.std.specs.Prelude.{◌≡◌, ℕ, ◌+◌, ◌<◌, ◌≤◌, [], ◌∷◌, ◌++◌, length, vec_len, IfOk, OnOk, OnErr, Some};
+ghost use Rattle.std.specs.List.{filter};
+ghost use Rattle.std.specs.Vec.{vec_capacity};
+ghost use Rattle.tcmu_types.specs.Views.{dispatch_data};
+ghost use Rattle.tcmu_model.specs.Lists.{first_of, with_first};
+ghost use Rattle.tcmu_model.specs.Lengths.{blocks_of};
+ghost use Rattle.tcmu_model.specs.Device.{Unfinished, is_at};
+ghost use Rattle.tcmu_model.specs.Events.{turned, is_running, item_answer, after_item, with_reply};
+ghost use Rattle.tcmu_path.specs.Room.{to_place, to_log, held_by, KeepsRoom};
+
+use crate::ring::{Content, RingItem};
+use crate::rows::{Row, any_at, place_of, turn};
+use std::alloc::Global;
+use tcmu_model::CommandState;
+use tcmu_types::{Dispatch, NoMemory, Reply, Serials};
+
+/// Appends a row where there is room for it.
+#[tactic(auto, using(crate::proofs::Rooms::pushes))]
+pub fn append(rows: &mut Vec<Row>, row: Row)
+    requires { vec_len rows.old < vec_capacity rows.old }
+    ensures rows { rows.new.items ≡ rows.old.items ++ row ∷ [] }
+    ensures blocks { (pages : ℕ) → held_by pages rows.new.items ≡ held_by pages rows.old.items + blocks_of pages row.command }
+    ensures to_log { to_log rows.new.items ≤ to_log rows.old.items + 1 }
+    ensures to_place { to_place rows.new.items ≤ to_place rows.old.items + 1 }
+{
+    let _ = rows.push(row);
+}
+
+/// Whether an unfinished command of this serial is out or handled.
+fn is_running(rows: &[Row], serial: u64) -> bool
+    ensures { result ≡ is_running rows.now serial }
+{
+    any_at(rows, serial, CommandState::Out) || any_at(rows, serial, CommandState::Handled)
+}
+
+/// Those of the serials whose commands are out or handled.
+fn running(alloc: Global, rows: &[Row], serials: &[u64]) -> Result<Serials, NoMemory>
+    ensures { IfOk result (λ r. r.items ≡ filter (is_running rows.now) serials.now) }
+{
+    let mut listed = Serials::new(alloc);
+    listed.reserve(serials.len() as u64)?;
+    for serial in serials {
+        if is_running(rows, *serial) {
+            listed.push(*serial);
+        }
+    }
+    Ok(listed)
+}
+
+/// Sends the waiting command of a serial out.
+fn send(rows: &mut Vec<Row>, serial: u64)
+    ensures rows { rows.new.items ≡ turned serial CommandState.Waiting CommandState.Out rows.old.items }
+    ensures kept { KeepsRoom rows.old.items rows.new.items }
+{
+    let _ = turn(rows, serial, CommandState::Waiting, CommandState::Out);
+}
+
+/// Hands an item of the ring out.
+pub fn dispatch_item(
+    alloc: Global,
+    rows: &mut Vec<Row>,
+    item: &RingItem,
+) -> Result<Dispatch, NoMemory>
+    ensures answer { IfOk result (λ a. dispatch_data a ≡ item_answer rows.old.items item.now) }
+    ensures rows { OnOk result (rows.new.items ≡ after_item rows.old.items item.now) }
+    ensures err { OnErr result (rows.new.items ≡ rows.old.items) }
+    ensures kept { KeepsRoom rows.old.items rows.new.items }
+{
+    match &item.content {
+        Content::Pad => Ok(Dispatch::Nothing),
+        Content::Command { serial, .. } => {
+            send(rows, *serial);
+            Ok(Dispatch::Job(*serial))
+        }
+        Content::Note { kind, serials } => {
+            let listed = running(alloc, rows.as_slice(), serials.as_slice())?;
+            Ok(Dispatch::Note {
+                kind: *kind,
+                serials: listed,
+            })
+        }
+    }
+}
+
+/// Keeps the reply to the command of a serial that is out.
+pub fn keep_reply(rows: &mut Vec<Row>, serial: u64, reply: &Reply)
+    requires { (u : Unfinished) → first_of (is_at serial CommandState.Out) rows.old.items ≡ Some u → length reply.now.payload ≤ u.command.in_len }
+    ensures rows { rows.new.items ≡ with_first (is_at serial CommandState.Out) (with_reply reply.now) rows.old.items }
+    ensures kept { KeepsRoom rows.old.items rows.new.items }
+{
+    if let Some(at) = place_of(rows.as_slice(), serial, CommandState::Out) {
+        let row = &mut rows[at];
+        row.keep(reply);
+    }
+}

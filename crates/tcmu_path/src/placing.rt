@@ -1,0 +1,113 @@
+//! How replied commands are parked, and placed in the ring.
+ghost use Rattle.std.specs.Prelude.{◌≡◌, ℕ, ◌≤◌, List, [], ◌∷◌, ◌++◌, length, take, true, false, if◌then◌else◌};
+ghost use Rattle.std.specs.List.{list_any};
+ghost use Rattle.tcmu_model.specs.RingState.{serial_in, serials_in};
+ghost use Rattle.tcmu_model.specs.Device.{is_at};
+ghost use Rattle.tcmu_model.specs.Events.{turned, with_placed, run_placed, is_among};
+ghost use Rattle.tcmu_model.specs.Sound.{Every, Differ};
+ghost use Rattle.tcmu_path.specs.Room.{to_place, KeepsRoom};
+
+use crate::ring::{Ring, RingItem};
+use crate::rows::{Row, turn};
+use tcmu_model::CommandState;
+use tcmu_types::Serials;
+
+/// Parks the handled command of a serial, where it is there.
+pub fn park(rows: &mut Vec<Row>, serial: u64) -> bool
+    ensures found { result ≡ list_any (is_at serial CommandState.Handled) rows.old.items }
+    ensures rows { rows.new.items ≡ turned serial CommandState.Handled CommandState.Parked rows.old.items }
+    ensures none { result ≡ false → rows.new.items ≡ rows.old.items }
+    ensures parked { result ≡ true → list_any (is_at serial CommandState.Parked) rows.new.items ≡ true }
+    ensures kept { KeepsRoom rows.old.items rows.new.items }
+{
+    turn(rows, serial, CommandState::Handled, CommandState::Parked)
+}
+
+/// Places one parked command, and tells whether it was there.
+fn place_one(rows: &mut Vec<Row>, placed: &mut Serials, serial: u64) -> bool
+    requires { to_place rows.old.items ≤ placed.old.spare }
+    ensures found { result ≡ list_any (is_at serial CommandState.Parked) rows.old.items }
+    ensures rows { rows.new.items ≡ (if result then turned serial CommandState.Parked CommandState.Placed rows.old.items else rows.old.items) }
+    ensures placed { placed.new.items ≡ (if result then placed.old.items ++ serial ∷ [] else placed.old.items) }
+    ensures room { to_place rows.new.items ≤ placed.new.spare }
+    ensures kept { KeepsRoom rows.old.items rows.new.items }
+{
+    if turn(rows, serial, CommandState::Parked, CommandState::Placed) {
+        placed.push(serial);
+        true
+    } else {
+        false
+    }
+}
+
+/// Places the parked command of a serial.
+pub fn place(rows: &mut Vec<Row>, placed: &mut Serials, serial: u64)
+    requires room { to_place rows.old.items ≤ placed.old.spare }
+    requires parked { list_any (is_at serial CommandState.Parked) rows.old.items ≡ true }
+    ensures rows { rows.new.items ≡ (with_placed (record { placed = placed.old.items; unfinished = rows.old.items }) serial).unfinished }
+    ensures placed { placed.new.items ≡ (with_placed (record { placed = placed.old.items; unfinished = rows.old.items }) serial).placed }
+    ensures room { to_place rows.new.items ≤ placed.new.spare }
+    ensures kept { KeepsRoom rows.old.items rows.new.items }
+{
+    let _ = place_one(rows, placed, serial);
+}
+
+/// Places the parked command of an item whose answer is not placed; the answer is whether the item may be passed.
+fn pass_item(rows: &mut Vec<Row>, placed: &mut Serials, item: &RingItem) -> bool
+    requires room { to_place rows.old.items ≤ placed.old.spare }
+    requires apart { Every (λ s. is_among placed.old.items s ≡ false) (serial_in item.now) }
+    ensures goes { result ≡ true → (rest : List ℕ) → run_placed (record { placed = placed.old.items; unfinished = rows.old.items }) (serial_in item.now ++ rest) ≡ run_placed (record { placed = placed.new.items; unfinished = rows.new.items }) rest }
+    ensures stops { result ≡ false → (rest : List ℕ) → run_placed (record { placed = placed.old.items; unfinished = rows.old.items }) (serial_in item.now ++ rest) ≡ record { placed = placed.new.items; unfinished = rows.new.items } }
+    ensures passed { result ≡ true → placed.new.items ≡ placed.old.items ++ serial_in item.now }
+    ensures same { result ≡ false → placed.new.items ≡ placed.old.items }
+    ensures room { to_place rows.new.items ≤ placed.new.spare }
+    ensures kept { KeepsRoom rows.old.items rows.new.items }
+{
+    match item.serial() {
+        Some(serial) => place_one(rows, placed, serial),
+        None => true,
+    }
+}
+
+/// Places the parked commands along these items, the first that are not placed, up to one that is not parked; the answer is how
+/// many items that passed.
+fn place_run(rows: &mut Vec<Row>, placed: &mut Serials, items: &[RingItem]) -> usize
+    requires room { to_place rows.old.items ≤ placed.old.spare }
+    requires differ { Differ (placed.old.items ++ serials_in items.now) }
+    ensures rows { rows.new.items ≡ (run_placed (record { placed = placed.old.items; unfinished = rows.old.items }) (serials_in items.now)).unfinished }
+    ensures placed { placed.new.items ≡ (run_placed (record { placed = placed.old.items; unfinished = rows.old.items }) (serials_in items.now)).placed }
+    ensures passed { placed.new.items ≡ placed.old.items ++ serials_in (take result items.now) }
+    ensures within { result ≤ length items.now }
+    ensures room { to_place rows.new.items ≤ placed.new.spare }
+    ensures kept { KeepsRoom rows.old.items rows.new.items }
+{
+    for (at, item) in items.iter().enumerate() {
+        if !pass_item(rows, placed, item) {
+            return at;
+        }
+    }
+    items.len()
+}
+
+/// In order places all that are parked from the first whose answer is not placed. `passed` items stand before that one, and the
+/// answer is how many do then.
+pub fn place_in_order(
+    rows: &mut Vec<Row>,
+    placed: &mut Serials,
+    ring: &Ring,
+    passed: usize,
+) -> usize
+    requires room { to_place rows.old.items ≤ placed.old.spare }
+    requires within { passed ≤ length ring.now.laid }
+    requires ordered { placed.old.items ≡ serials_in (take passed ring.now.laid) }
+    requires differ { Differ (serials_in ring.now.laid) }
+    ensures rows { rows.new.items ≡ (run_placed (record { placed = placed.old.items; unfinished = rows.old.items }) (serials_in ring.now.laid)).unfinished }
+    ensures placed { placed.new.items ≡ (run_placed (record { placed = placed.old.items; unfinished = rows.old.items }) (serials_in ring.now.laid)).placed }
+    ensures ordered { placed.new.items ≡ serials_in (take result ring.now.laid) }
+    ensures within { result ≤ length ring.now.laid }
+    ensures room { to_place rows.new.items ≤ placed.new.spare }
+    ensures kept { KeepsRoom rows.old.items rows.new.items }
+{
+    let items = ring.items_from(passed);
+    passed + place_run(rows, placed, items)
+}

@@ -1,0 +1,84 @@
+//! What a plain device shows of itself.
+ghost use Rattle.std.specs.Prelude.{◌≡◌, ◌<◌, ◌≤◌, length};
+ghost use Rattle.tcmu_model.specs.RingState.{published_commands};
+ghost use Rattle.tcmu_model.specs.Events.{stat_answer};
+ghost use Rattle.tcmu_model.specs.Drain.{todo_of, can_enter};
+ghost use Rattle.tcmu_model.specs.Sound.{IsSound};
+
+use super::State;
+use crate::rows::{Row, count_expired, count_in, least};
+use tcmu_model::CommandState;
+use tcmu_types::{Stat, Todo};
+
+impl State {
+    /// Whether the first delayed command has room now.
+    fn can_enter(&self) -> bool
+        ensures { result ≡ can_enter self.entry.now self.entry.now.delayed }
+    {
+        match self.delayed.first() {
+            Some(first) => {
+                self.ring.fits(self.entry_length(&first.command))
+                    && self.blocks_of(&first.command) <= self.free_blocks()
+            }
+            None => false,
+        }
+    }
+
+    #[tactic(auto, unfolding(tcmu_model::specs::Drain::todo_of))]
+    pub fn todo(&self) -> Todo
+        requires { published_commands self.now.ring ≤ length self.now.placed }
+        ensures { result ≡ todo_of self.entry.now }
+    {
+        if !self.attached {
+            return Todo {
+                handle: None,
+                respond: None,
+                publish: false,
+                clean: false,
+                enter: false,
+                dispatch: false,
+            };
+        }
+        Todo {
+            handle: least(self.rows.as_slice(), CommandState::Out),
+            respond: least(self.rows.as_slice(), CommandState::Handled),
+            publish: self.ring.may_publish(self.placed.len()),
+            clean: self.ring.may_clear(),
+            enter: self.can_enter(),
+            dispatch: self.ring.has_more(),
+        }
+    }
+
+    /// The unfinished commands, which are few.
+    pub(super) fn few(&self) -> &[Row]
+        requires { IsSound self.now }
+        ensures value { result.now ≡ self.entry.now.unfinished }
+        ensures few { length result.now ≤ 65536 }
+    {
+        self.rows.as_slice()
+    }
+
+    #[tactic(auto, unfolding(tcmu_model::specs::Events::stat_answer))]
+    pub fn stat(&self) -> Stat
+        requires { length self.now.unfinished ≤ 65536 }
+        ensures { result ≡ stat_answer self.entry.now }
+    {
+        let rows = self.rows.as_slice();
+        Stat {
+            now: self.now,
+            blocked: self.blocked,
+            attached: self.attached,
+            head: self.ring.head(),
+            used: self.ring.used(),
+            waiting: count_in(rows, CommandState::Waiting),
+            out: count_in(rows, CommandState::Out),
+            handled: count_in(rows, CommandState::Handled),
+            parked: count_in(rows, CommandState::Parked),
+            placed: count_in(rows, CommandState::Placed),
+            lost: count_in(rows, CommandState::Lost),
+            expired: count_expired(rows),
+            held: self.held(),
+            delayed: self.delayed.len() as u64,
+        }
+    }
+}

@@ -1,0 +1,11 @@
+pub mod Fields
+pub mod ReadLines
+pub mod Every
+pub mod Telling
+pub mod RunTexts
+pub mod Whole
+pub mod Scenarios
+pub mod One
+pub mod OpenCounts
+pub mod Playing
+pub mod Outcomes

@@ -1,0 +1,15 @@
+use Rattle.std.proofs.Common.{◌≡◌, ◌≤◌, ◌<◌, ◌^◌}
+use Rattle.tcmu_model.specs.Work.{work}
+use Rattle.tcmu_path.specs.Calls.{Accepts}
+use Rattle.tcmu_top.proofs.Playing.{Draining}
+use Rattle.tcmu_top.proofs.lines.drain.Given as goal
+
+abbrev pub invariant-loop-event : goal.invariant-loop-event
+invariant-loop-event g l = record {
+  sofar : Draining g.P.Path.relation l.line (g.P.Path.device l.fn.path) (g.P.Path.device l.path) (g.K.Sink.written l.fn.out) (g.K.Sink.written l.out);
+  later : g.K.Sink.faults l.fn.out ≤ g.K.Sink.faults l.out;
+  accepts : Accepts 0 (g.P.Path.device l.fn.path) (g.P.Path.device l.path);
+}
+
+abbrev pub decreases-loop-event : goal.decreases-loop-event
+decreases-loop-event g l = work (g.P.Path.device l.path).state

@@ -1,0 +1,176 @@
+//! Replaying what a scenario asks of a device, each event written as it is made.
+ghost use Rattle.std.specs.Prelude.{◌≡◌, ◌⊎◌, ℕ, ◌+◌, ◌^◌, ◌≤◌, ◌<◌, [], ◌∷◌, ◌++◌, length, drop, map, IfOk, IfSome, OnOk, OnErr, IsErrOf};
+ghost use Rattle.std.specs.Option.{option_map};
+ghost use Rattle.tcmu_types.specs.Numbered.{Rose};
+ghost use Rattle.tcmu_types.specs.Views.{event_data, answer_data};
+ghost use Rattle.edge.specs.Outside.{Gained, GainedFront};
+ghost use Rattle.tcmu_model.specs.Steps.{Makes};
+ghost use Rattle.tcmu_model.specs.Drain.{chosen, Drains};
+ghost use Rattle.tcmu_model.specs.Sound.{IsSound, Every};
+ghost use Rattle.tcmu_model.specs.Work.{HasOutcomes};
+ghost use Rattle.tcmu_top.specs.FirstReplay.{Plays, Replays};
+ghost use Rattle.tcmu_path.specs.Calls.{Accepts};
+ghost use Rattle.tcmu_top.specs.Forms.{task_of};
+ghost use Rattle.tcmu_top.specs.Tasks.{CanBeMade, accepted_by, IsEvent, IsFit};
+ghost use Rattle.tcmu_top.specs.Playing.{Told, Stopped, Wrote, WroteFront};
+
+use crate::scenario_text::{DeviceLine, LineKind};
+use crate::writing::{Stop, write_entry};
+use edge::Sink;
+use std::alloc::Global;
+use tcmu_path::Path;
+use tcmu_types::{Answer, Done, Event, NoMemory, Todo};
+
+/// Makes an event.
+fn make<P: Path>(alloc: Global, path: &mut P, event: &Event) -> Result<Answer, NoMemory>
+    requires few { (P.device path.old).state.accepted < 2 ^ 63 }
+    requires can { CanBeMade (event_data event.now) }
+    ensures makes { IfOk result (λ a. Makes P.relation (P.device path.old) (event_data event.now) (answer_data a) (P.device path.new)) }
+    ensures unchanged { OnErr result (P.device path.new ≡ P.device path.old) }
+    ensures accepts { Accepts (accepted_by (event_data event.now)) (P.device path.old) (P.device path.new) }
+{
+    match event {
+        Event::Submit(command) => Ok(Answer::Submit(path.submit(alloc, command)?)),
+        Event::Dispatch => Ok(Answer::Dispatch(path.dispatch(alloc)?)),
+        Event::Handle(serial) => Ok(Answer::Handle(path.handle(alloc, *serial)?)),
+        Event::Respond(serial) => Ok(Answer::Respond(path.respond(*serial))),
+        Event::Publish => Ok(Answer::Publish(path.publish())),
+        Event::Clean => Ok(Answer::Logged(path.clean())),
+        Event::Tick(n) => Ok(Answer::Logged(path.tick(*n))),
+        Event::Block => Ok(Answer::Changed(path.block())),
+        Event::Unblock => Ok(Answer::Changed(path.unblock())),
+        Event::Reset(level) => Ok(Answer::Reset(path.reset(*level))),
+        Event::Restart => Ok(Answer::Lost(path.restart())),
+        Event::Tmr { kind, serials } => Ok(Answer::Tmr(path.tmr(alloc, *kind, serials)?)),
+        Event::Stat => Ok(Answer::Stat(path.stat())),
+        Event::Enter => Ok(Answer::Enter(path.enter(alloc)?)),
+    }
+}
+
+/// The first event that applies, in the drain's order.
+fn next_event(todo: &Todo) -> Option<Event>
+    ensures value { option_map event_data result ≡ chosen todo.now }
+    ensures can { IfSome result (λ e. CanBeMade (event_data e)) }
+    ensures accepts { IfSome result (λ e. accepted_by (event_data e) ≡ 0) }
+{
+    if let Some(serial) = todo.handle {
+        return Some(Event::Handle(serial));
+    }
+    if let Some(serial) = todo.respond {
+        return Some(Event::Respond(serial));
+    }
+    if todo.publish {
+        return Some(Event::Publish);
+    }
+    if todo.clean {
+        return Some(Event::Clean);
+    }
+    if todo.enter {
+        return Some(Event::Enter);
+    }
+    if todo.dispatch {
+        return Some(Event::Dispatch);
+    }
+    None
+}
+
+/// The completions behind the first so many.
+fn behind(log: &[Done], before: usize) -> &[Done]
+    requires { before ≤ length log.now }
+    ensures { result.now ≡ drop before log.now }
+{
+    &log[before..]
+}
+
+/// Makes an event and writes it.
+fn play<P: Path, K: Sink>(
+    alloc: Global,
+    line: &DeviceLine,
+    path: &mut P,
+    event: &Event,
+    out: &mut K,
+) -> Result<(), Stop>
+    requires few { (P.device path.old).state.accepted < 2 ^ 63 }
+    requires can { CanBeMade (event_data event.now) }
+    ensures ok { OnOk result (Told P.relation line.now (event_data event.now) (P.device path.old) (P.device path.new) (K.written out.old) (K.written out.new)) }
+    ensures err { OnErr result (Stopped P.relation line.now (event_data event.now) (P.device path.old) (P.device path.new) (K.written out.old) (K.written out.new)) }
+    ensures fault { IsErrOf result Stop.WriteFault → Rose (K.faults out.old) (K.faults out.new) }
+    ensures later { K.faults out.old ≤ K.faults out.new }
+    ensures accepts { Accepts (accepted_by (event_data event.now)) (P.device path.old) (P.device path.new) }
+{
+    let before = path.log().len();
+    let answer = make(alloc, path, event)?;
+    let logged = behind(path.log(), before);
+    write_entry(alloc, line, event, &answer, logged, out)
+}
+
+/// Makes and writes what a drain asks for.
+fn drain<P: Path, K: Sink>(
+    alloc: Global,
+    line: &DeviceLine,
+    path: &mut P,
+    out: &mut K,
+) -> Result<(), Stop>
+    requires few { (P.device path.old).state.accepted < 2 ^ 63 }
+    requires sound { IsSound (P.device path.old).state }
+    requires outcomes { HasOutcomes P.relation }
+    ensures ok { OnOk result (Wrote P.relation line.now (λ es. Drains P.relation 0 (P.device path.old) es (P.device path.new)) (P.device path.old) (P.device path.new) (K.written out.old) (K.written out.new)) }
+    ensures err { OnErr result (WroteFront P.relation line.now (Drains P.relation 0 (P.device path.old)) (P.device path.old) (P.device path.new) (K.written out.old) (K.written out.new)) }
+    ensures fault { IsErrOf result Stop.WriteFault → Rose (K.faults out.old) (K.faults out.new) }
+    ensures later { K.faults out.old ≤ K.faults out.new }
+    ensures accepts { Accepts 0 (P.device path.old) (P.device path.new) }
+{
+    while let Some(event) = next_event(&path.todo()) {
+        play(alloc, line, path, &event, out)?;
+    }
+    Ok(())
+}
+
+/// Makes and writes what a line asks for.
+fn play_line<P: Path, K: Sink>(
+    alloc: Global,
+    line: &DeviceLine,
+    path: &mut P,
+    what: &LineKind,
+    out: &mut K,
+) -> Result<(), Stop>
+    requires few { (P.device path.old).state.accepted < 2 ^ 63 }
+    requires sound { IsSound (P.device path.old).state }
+    requires outcomes { HasOutcomes P.relation }
+    requires fit { IsFit (task_of what.now) }
+    ensures ok { OnOk result (Wrote P.relation line.now (λ es. Plays P.relation 0 (P.device path.old) (task_of what.now) es (P.device path.new)) (P.device path.old) (P.device path.new) (K.written out.old) (K.written out.new)) }
+    ensures err { OnErr result (WroteFront P.relation line.now (Plays P.relation 0 (P.device path.old) (task_of what.now)) (P.device path.old) (P.device path.new) (K.written out.old) (K.written out.new)) }
+    ensures fault { IsErrOf result Stop.WriteFault → Rose (K.faults out.old) (K.faults out.new) }
+    ensures later { K.faults out.old ≤ K.faults out.new }
+    ensures accepts { Accepts 1 (P.device path.old) (P.device path.new) }
+{
+    match what {
+        LineKind::Event(event) => play(alloc, line, path, event, out),
+        LineKind::Drain => drain(alloc, line, path, out),
+    }
+}
+
+/// Makes and writes what the lines ask for, and drains the device behind the last.
+pub fn replay<P: Path, K: Sink>(
+    alloc: Global,
+    line: &DeviceLine,
+    path: &mut P,
+    lines: &[LineKind],
+    out: &mut K,
+) -> Result<(), Stop>
+    requires few { (P.device path.old).state.accepted + length lines.now < 2 ^ 63 }
+    requires sound { IsSound (P.device path.old).state }
+    requires outcomes { HasOutcomes P.relation }
+    requires fit { Every IsFit (map task_of lines.now) }
+    ensures ok { OnOk result (Wrote P.relation line.now (λ es. Replays P.relation 0 (P.device path.old) (map task_of lines.now) es (P.device path.new)) (P.device path.old) (P.device path.new) (K.written out.old) (K.written out.new)) }
+    ensures err { OnErr result (WroteFront P.relation line.now (Replays P.relation 0 (P.device path.old) (map task_of lines.now)) (P.device path.old) (P.device path.new) (K.written out.old) (K.written out.new)) }
+    ensures fault { IsErrOf result Stop.WriteFault → Rose (K.faults out.old) (K.faults out.new) }
+    ensures later { K.faults out.old ≤ K.faults out.new }
+    ensures still_sound { OnOk result (IsSound (P.device path.new).state) }
+    ensures still_few { OnOk result ((P.device path.new).state.accepted < 2 ^ 63) }
+{
+    for what in lines {
+        play_line(alloc, line, path, what, out)?;
+    }
+    drain(alloc, line, path, out)
+}

@@ -1,0 +1,6 @@
+-- Bytes of which some are replaced.
+use Rattle.std.specs.Prelude.{ℕ, ◌+◌, List, ◌++◌, length, take, drop}
+
+-- these bytes, with those from a place on replaced by a piece
+abbrev pub overwritten : ℕ → List ℕ → List ℕ → List ℕ
+overwritten at piece bytes = take at bytes ++ piece ++ drop (at + length piece) bytes
