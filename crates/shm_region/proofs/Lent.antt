@@ -1,6 +1,6 @@
 -- Blocks lent and given back.
-use Rattle.std.proofs.Common.{◌≡◌, ◌≢◌, ◌↔◌, ℕ, zero, suc, ◌+◌, ◌-◌, ◌%◌, ◌<◌, ◌≤◌, ◌==◌, ◌&&◌, List, [], ◌∷◌, ◌++◌, length, drop, take, set, get_or, Bool, true, false, Option, Some, None, refl, ap, ◌∙◌, sym, arith, append_assoc, length-append}
-use Rattle.std.specs.Prelude.{slice_get, unwrap_or}
+use Rattle.std.proofs.Common.{◌≡◌, ◌≢◌, ◌↔◌, ℕ, zero, suc, ◌+◌, ◌-◌, ◌%◌, ◌<◌, ◌≤◌, ◌==◌, ◌&&◌, List, [], ◌∷◌, ◌++◌, length, drop, take, set, get_or, Bool, true, false, Option, Some, None, refl, ap, ◌∙◌, sym, arith, append_assoc, length-append, ◌^◌, nat_lt, subst}
+use Rattle.std.specs.Prelude.{slice_get, unwrap_or, if◌then◌else◌}
 use Rattle.std.proofs.lemmas.List.{append-nil, length-take, take-append-drop}
 use Rattle.iovec_scatter.proofs.Steps.{rest_of}
 use Rattle.std.proofs.lemmas.Grind.{take_at_read}
@@ -420,3 +420,21 @@ length-taken xs (n ∷ ns) = ap suc (length-taken (set xs n None) ns)
 
 pub second_true : (a b : Bool) → a && b ≡ true → b ≡ true
 second_true a b h = (first_two a b h).1
+
+-- ==== how many blocks are named
+
+pub told_less : (n total : ℕ) → total ≡ n → total < 2 ^ 64 → ◌≡◌ {A = Option ℕ} (Some total) (if nat_lt n (2 ^ 64) then Some n else None)
+told_less n total same less =
+    let t : nat_lt n (2 ^ 64) ≡ true = below_is n (2 ^ 64) (subst (λ (k : ℕ). k < 2 ^ 64) same less) in
+    ap Some same ∙ ap (λ (b : Bool). if b then Some n else None) (sym t)
+  where
+    below_is : (a b : ℕ) → a < b → nat_lt a b ≡ true
+    below_is a b h = grind (arith, nat_tests)
+
+pub told_none : (n : ℕ) → 2 ^ 64 ≤ n → ◌≡◌ {A = Option ℕ} None (if nat_lt n (2 ^ 64) then Some n else None)
+told_none n most =
+    let t : nat_lt n (2 ^ 64) ≡ false = below_not n (2 ^ 64) most in
+    ap (λ (b : Bool). if b then Some n else None) (sym t)
+  where
+    below_not : (a b : ℕ) → b ≤ a → nat_lt a b ≡ false
+    below_not a b h = grind (arith, nat_tests)

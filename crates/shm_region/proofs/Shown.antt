@@ -318,3 +318,6 @@ lies_rest r iovs i d inside h = subst (λ (w : List Iov). LieInRegion r w) (rest
 
 pub total_rest : (iovs : List Iov) (i : ℕ) (d : Iov) → i < length iovs → total_of (drop i iovs) ≡ (get_or iovs i d).len + total_of (drop (i + 1) iovs)
 total_rest iovs i d inside = ap total_of (rest_of iovs i d inside)
+
+pub length-region : (r : RegionState) → IsRegion r.front r.blocks r.pages → length (bytes_of r) ≡ length r.front + size_of r * length r.blocks
+length-region r h = length-append r.front (shown (size_of r) r.blocks) ∙ ap (λ (n : ℕ). length r.front + n) (length-shown (size_of r) r.blocks h.sized)

@@ -1,5 +1,5 @@
 //! Blocks lent and given back. They move: no byte of them is copied.
-ghost use Rattle.std.specs.Prelude.{◌≡◌, ◌↔◌, ℕ, [], ◌+◌, ◌-◌, ◌*◌, ◌^◌, ◌<◌, ◌≤◌, ◌++◌, length, take, drop, true};
+ghost use Rattle.std.specs.Prelude.{◌≡◌, ◌↔◌, ℕ, [], ◌+◌, ◌-◌, ◌*◌, ◌^◌, ◌<◌, ◌≤◌, ◌++◌, length, take, drop, true, nat_lt, Some, None, if◌then◌else◌};
 ghost use Rattle.std.specs.Bool.{OnTrue, OnFalse};
 ghost use Rattle.tcmu_model.specs.Regions.{size_of, can_take, taken, without, returned, HaveSize, numbers_from, numbers_of, first_block, block_count, starts_block, are_whole, can_lend, named_by, lent, parts_of, given_back, CanLend};
 
@@ -116,6 +116,21 @@ impl Region {
         }
     }
 
+    /// How many blocks a `lend` of these iovecs moves, which is the room that it wants; None where they are 2^64 or more.
+    pub fn room_for(&self, iovs: &Iovs) -> Option<u64>
+        ensures { result ≡ (if nat_lt (length (named_by self.now iovs.now.items)) (2 ^ 64) then Some (length (named_by self.now iovs.now.items)) else None) }
+    {
+        let size = self.block_len();
+        let mut total: u64 = 0;
+        for iov in iovs.as_slice() {
+            match total.checked_add(block_count(size, *iov)) {
+                Some(sum) => total = sum,
+                None => return None,
+            }
+        }
+        Some(total)
+    }
+
     /// Moves the blocks of iovecs into `into`, in order, and leaves them lent; or changes nothing. It is true exactly where each iovec
     /// begins at a block's start and has a byte, each but the last has a multiple of a block's bytes, and each block is in the area,
     /// not lent, and named once.
@@ -126,6 +141,8 @@ impl Region {
         ensures rule { (result ≡ true) ↔ CanLend self.old iovs.now.items }
         ensures lent { OnTrue result (self.new ≡ lent self.old iovs.now.items) }
         ensures parts { OnTrue result (into.new.items ≡ parts_of self.old iovs.now.items) }
+        ensures count { OnTrue result (length into.new.items ≡ length (named_by self.old iovs.now.items)) }
+        ensures size { OnTrue result (HaveSize (size_of self.old) into.new.items) }
         ensures region { OnFalse result (self.new ≡ self.old) }
         ensures none { OnFalse result (into.new.items ≡ []) }
     {
@@ -145,6 +162,8 @@ impl Region {
         ensures answer { result ≡ can_take self.old.blocks (named_by self.old iovs.now) }
         ensures lent { OnTrue result (self.new ≡ lent self.old iovs.now) }
         ensures parts { OnTrue result (into.new.items ≡ parts_of self.old iovs.now) }
+        ensures count { OnTrue result (length into.new.items ≡ length (named_by self.old iovs.now)) }
+        ensures size { OnTrue result (HaveSize (size_of self.old) into.new.items) }
         ensures region { OnFalse result (self.new ≡ self.old) }
         ensures none { OnFalse result (into.new.items ≡ []) }
     {

@@ -6,6 +6,8 @@ mod copying;
 mod laws;
 mod lending;
 mod region;
+#[cfg(test)]
+mod tests;
 
 pub use laws::lends_and_takes_back;
 pub use region::Region;

@@ -2,7 +2,7 @@
 ghost use Rattle.std.specs.Prelude.{◌≡◌, ℕ, [], ◌∷◌, ◌+◌, ◌-◌, ◌*◌, ◌^◌, ◌<◌, ◌≤◌, ◌++◌, length, slice_get, Some, None, IfSome, is_ok, is_some, option_map, if◌then◌else◌, IfOk, OnOk, OnErr};
 ghost use Rattle.tcmu_model.specs.Lengths.{block_size};
 ghost use Rattle.tcmu_model.specs.Layout.{le, field, put, zeros, padded, flag_bits, head_place, tail_place, data_start, mailbox_bytes, device_mailbox};
-ghost use Rattle.tcmu_model.specs.Regions.{RegionState, IsRegion, size_of, block_at, home, is_home, put_home, opening_region, cleared, grown_to, shrunk_to, with_block, overlaid};
+ghost use Rattle.tcmu_model.specs.Regions.{RegionState, IsRegion, size_of, bytes_of, block_at, home, is_home, put_home, opening_region, cleared, grown_to, shrunk_to, with_block, overlaid};
 
 use iovec_scatter::Block;
 use mailbox_bytes::fields::{put_bytes, put_u32, u32_at};
@@ -127,9 +127,12 @@ impl Region {
         self.front.len() as u64
     }
 
+    /// The bytes of the data area, which ends where the region ends.
     pub fn area_len(&self) -> u64
-        ensures { result ≡ size_of self.now * length self.now.blocks }
+        ensures value { result ≡ size_of self.now * length self.now.blocks }
+        ensures end { length (bytes_of self.now) ≡ length self.now.front + result }
     {
+        let _ = self.data_off();
         PAGE * self.pages as u64 * self.blocks.len() as u64
     }
 
