@@ -7,3 +7,6 @@ mod pieces;
 mod report;
 
 pub use report::{completion_line, dump_text, end_text, entry_text, event_line, runs_text};
+
+#[cfg(test)]
+mod tests;
