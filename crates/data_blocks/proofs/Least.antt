@@ -1,9 +1,9 @@
 -- The least free numbers: they rise, they are free, and no free number below one of them is left out.
-use Rattle.std.proofs.Common.{◌≡◌, ◌≢◌, ℕ, ◌+◌, ◌≤◌, ◌<◌, ◌⊎◌, ⊎_elim, Bool, true, false, not, List, [], ◌∷◌, take, refl, sym, ap, ◌∙◌, subst, arith, suc, zero}
-use Rattle.std.proofs.lemmas.Bool.{cases_eq, cases_Bool}
+use Rattle.std.proofs.Common.{◌≡◌, ◌≢◌, ℕ, ◌<◌, ⊎_elim, Bool, true, false, not, List, [], ◌∷◌, take, refl, sym, ap, ◌∙◌, subst, arith, suc, zero}
+use Rattle.std.proofs.lemmas.Bool.{cases_eq}
 use Rattle.tcmu_model.specs.Lists.{RisesAbove, IsRising}
 use Rattle.tcmu_model.specs.Events.{is_among}
-use Rattle.tcmu_model.specs.BlockLists.{free_from, least_free}
+use Rattle.tcmu_model.specs.BlockLists.{least_free}
 use Rattle.data_blocks.specs.Bitmap.{chosen}
 use Rattle.data_blocks.proofs.Chosen.{false-true, among-here, among-there, chosen-below, chosen-among, chosen-rising, free-chosen}
 
@@ -55,10 +55,10 @@ before (suc n) (x ∷ xs) m k r h l a =
     ⊎_elim
     (λ (e : x ≡ k). among-here x (take n xs) k e)
     (λ (d : x ≢ k).
-        let b : is_among xs k ≡ true = sym (among-there x xs k d) ∙ a in
-        let u = above x xs k r b in
-        let c : x ≢ m = λ (e : x ≡ m). absurd (omega arith) in
-        among-there x (take n xs) k d ∙ before n xs m k (tail x xs r) (sym (among-there x (take n xs) m c) ∙ h) l b)
+    let b : is_among xs k ≡ true = sym (among-there x xs k d) ∙ a in
+    let u = above x xs k r b in
+    let c : x ≢ m = λ (e : x ≡ m). absurd (omega arith) in
+    among-there x (take n xs) k d ∙ before n xs m k (tail x xs r) (sym (among-there x (take n xs) m c) ∙ h) l b)
     (cases_eq x k)
 
 -- ==== the law
