@@ -1,12 +1,12 @@
 -- The iovecs of a payload: what they cover, and how they come one by one.
 use Rattle.std.proofs.Common.{◌≡◌, ◌≢◌, ℕ, suc, ◌+◌, ◌-◌, ◌*◌, ◌/◌, ◌^◌, ◌<◌, ◌≤◌, ◌==◌, min, List, [], ◌∷◌, ◌++◌, length, take, drop, get_or, Bool, true, false, cond, Option, Some, None, refl, sym, ap, ◌∙◌, arith, subst, append_assoc}
 use Rattle.std.proofs.Math.Seq.{take-add}
-use Rattle.std.proofs.Math.Nat.{div-add-mod, mod-lt, mul-suc}
+use Rattle.std.proofs.Math.Nat.{div-add-mod, mod-lt, mul-suc, mul-le-mul, mul-add}
 use Rattle.std.proofs.lemmas.List.{drop-drop, drop_all}
 use Rattle.iovec_scatter.proofs.Steps.{rest_of}
 use Rattle.std.proofs.lemmas.Bool.Decides.{nat_tests}
 use Rattle.tcmu_types.specs.declared.iovec.Iov.{Iov}
-use Rattle.tcmu_model.specs.Iovecs.{piece, joined, merged, iovs_along, EndBelow, total_of, along, payload_along, AreApart, Covers}
+use Rattle.tcmu_model.specs.Iovecs.{EachBelow, EndsAlong, piece, joined, merged, iovs_along, EndBelow, total_of, along, payload_along, AreApart, Covers}
 use Rattle.iovec_scatter.specs.Growing.{grown, Ends, before}
 
 touches : (a b : ℕ) → a == b ≡ true → a ≡ b
@@ -172,3 +172,20 @@ pub all_done : (into whole : List Iov) (grows : Option Iov) (start size left i :
 unfolding iovs_along
 all_done into whole grows start size left i blocks end is =
     ap (λ (xs : List ℕ). into ++ before grows (iovs_along start size xs left)) (sym (drop_all i blocks end)) ∙ is
+
+-- ==== where iovecs end
+
+ends_merged : (e : Iov) (fs : List Iov) → e.base + e.len < 2 ^ 64 → EndBelow fs → EndBelow (merged e fs)
+unfolding merged
+ends_merged e [] h k = (h, tt)
+ends_merged e (f ∷ fs) h k = by_touch (λ (xs : List Iov). EndBelow xs) e f fs (λ touch. (omega (arith, touch, k.0), k.1)) (λ away. (h, k))
+
+pub ends_along : EndsAlong
+unfolding iovs_along
+ends_along start size limit n [] small below = tt
+ends_along start size limit n (b ∷ bs) small below =
+    ends_merged (piece start size b n) (iovs_along start size bs (n - size)) (fits b (mul-le-mul {n₁ = size} {m₁ = b + 1} {n₂ = size} {m₂ = limit} (omega arith) (omega (arith, below.0))))
+    (ends_along start size limit (n - size) bs small below.1)
+  where
+    fits : (b : ℕ) → size * (b + 1) ≤ size * limit → start + size * b + min size n < 2 ^ 64
+    fits b h = omega (arith, h, small, mul-add size b 1)

@@ -1,13 +1,13 @@
 -- One step along blocks.
-use Rattle.std.proofs.Common.{◌≡◌, ℕ, ◌+◌, ◌-◌, ◌<◌, ◌≤◌, List, ◌∷◌, ◌++◌, length, drop, take, get_or, min, ap, ◌∙◌, sym, arith, add-one, append_assoc}
+use Rattle.std.proofs.Common.{◌≡◌, ℕ, ◌+◌, ◌-◌, ◌<◌, ◌≤◌, List, ◌∷◌, ◌++◌, length, drop, take, get_or, min, ap, ◌∙◌, sym, arith, add-one, append_assoc, [], refl}
 use Rattle.std.proofs.Math.Seq.{drop-cons, take-append-add}
 use Rattle.std.proofs.lemmas.List.{length-take, take_all, take-append-le}
 use Rattle.std.proofs.lemmas.Bool.{cases_lt}
 use Rattle.std.proofs.Common.{⊎_elim}
 use Rattle.tcmu_model.specs.Layout.{put}
-use Rattle.tcmu_model.proofs.Written.{take-put}
+use Rattle.tcmu_model.proofs.Written.{take-put, length-put}
 use Rattle.std.proofs.lemmas.List.{append-nil}
-use Rattle.tcmu_model.specs.Iovecs.{gathered}
+use Rattle.tcmu_model.specs.Iovecs.{scattered, gathered, room_of}
 
 -- what is left of a list, one item on
 pub rest_of : {X : Type 0} (items : List X) (i : ℕ) (d : X) → i < length items → drop i items ≡ get_or items i d ∷ drop (i + 1) items
@@ -50,3 +50,10 @@ gather_step items i done count total block into new d h is inside most under wri
     ∙ append_assoc (take done into) (take count block) (take (total - (done + count)) rest)
     ∙ ap (λ (w : List ℕ). take done into ++ w) (sym cut)
     ∙ ap (λ (w : List ℕ). take done into ++ take (total - done) w) (sym both)
+
+-- blocks keep their lengths
+pub room-scattered : (parts : List (List ℕ)) (bytes : List ℕ) → room_of (scattered parts bytes) ≡ room_of parts
+room-scattered [] bytes = refl
+room-scattered (block ∷ parts) bytes =
+    ap (λ (n : ℕ). n + room_of (scattered parts (drop (length block) bytes))) (length-put block 0 (take (length block) bytes) (omega (arith, length-take (length block) bytes)))
+    ∙ ap (λ (n : ℕ). length block + n) (room-scattered parts (drop (length block) bytes))

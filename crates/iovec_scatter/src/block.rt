@@ -144,6 +144,16 @@ impl Parts {
 pub fn scatter(parts: &mut Parts, bytes: &[u8]) -> u64
     ensures items { parts.new.items ≡ scattered parts.old.items bytes.now }
     ensures spare { parts.new.spare ≡ parts.old.spare }
+    ensures room { room_of parts.new.items ≡ room_of parts.old.items }
+    ensures count { result ≡ min (length bytes.now) (room_of parts.old.items) }
+{
+    write_blocks(parts, bytes)
+}
+
+/// The same, block by block.
+fn write_blocks(parts: &mut Parts, bytes: &[u8]) -> u64
+    ensures items { parts.new.items ≡ scattered parts.old.items bytes.now }
+    ensures spare { parts.new.spare ≡ parts.old.spare }
     ensures count { result ≡ min (length bytes.now) (room_of parts.old.items) }
 {
     let mut done = 0;

@@ -4,7 +4,9 @@
 mod block;
 mod laws;
 mod payload;
+#[cfg(test)]
+mod tests;
 
 pub use block::{Block, Parts, gather, scatter};
-pub use laws::gathers_again;
+pub use laws::{ends_along, gathers_again};
 pub use payload::iovs_of;
