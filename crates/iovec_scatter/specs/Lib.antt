@@ -1,2 +1,3 @@
 pub mod Lends
 pub mod Growing
+pub mod Ends

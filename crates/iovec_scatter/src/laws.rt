@@ -1,5 +1,6 @@
 //! Laws of scatter and gather.
-ghost use Rattle.tcmu_model.specs.Iovecs.{EndsAlong, GathersAgain};
+ghost use Rattle.tcmu_model.specs.Iovecs.{GathersAgain};
+ghost use Rattle.iovec_scatter.specs.Ends.{EndsAlong};
 
 /// What gather reads of what scatter wrote is what was written.
 pub fn gathers_again()

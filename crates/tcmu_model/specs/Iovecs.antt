@@ -28,15 +28,6 @@ abbrev pub EndBelow : List Iov → Type 0
 EndBelow [] = Unit {0}
 EndBelow (iov ∷ iovs) = (iov.base + iov.len < 2 ^ 64) × EndBelow iovs
 
--- each number is below a limit
-abbrev pub EachBelow : ℕ → List ℕ → Type 0
-EachBelow limit [] = Unit {0}
-EachBelow limit (n ∷ ns) = (n < limit) × EachBelow limit ns
-
--- where the blocks below a limit end below 2^64, so do the iovecs along such blocks
-abbrev pub EndsAlong : Type 0
-EndsAlong = (start size limit n : ℕ) (blocks : List ℕ) → start + size * limit < 2 ^ 64 → EachBelow limit blocks → EndBelow (iovs_along start size blocks n)
-
 -- ==== bytes along iovecs and blocks
 
 -- how many bytes iovecs name
