@@ -1,5 +1,5 @@
 use Rattle.std.proofs.Common.{ℕ, List, subst, sym, arith}
-use Rattle.tcmu_model.specs.Iovecs.{EachBelow}
+use Rattle.iovec_scatter.specs.Ends.{EachBelow}
 use Rattle.iovec_scatter.proofs.Covering.{ends_along}
 use Rattle.iovec_scatter.proofs.tests.blocks_may_have_sixteen_pages.Goals as goal
 

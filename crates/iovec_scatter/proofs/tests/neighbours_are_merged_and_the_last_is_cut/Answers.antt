@@ -1,5 +1,5 @@
 use Rattle.std.proofs.Common.{ℕ, List, subst, sym, arith}
-use Rattle.tcmu_model.specs.Iovecs.{EachBelow}
+use Rattle.iovec_scatter.specs.Ends.{EachBelow}
 use Rattle.iovec_scatter.proofs.Covering.{ends_along}
 use Rattle.iovec_scatter.proofs.tests.neighbours_are_merged_and_the_last_is_cut.Goals as goal
 
