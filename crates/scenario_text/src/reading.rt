@@ -1,12 +1,12 @@
 //! Reading a whole text, line by line.
-ghost use Rattle.std.specs.Prelude.{◌≡◌, ◌<◌, ◌==◌, ◌||◌, length, IfOk};
+ghost use Rattle.std.specs.Prelude.{◌≡◌, ◌<◌, ◌||◌, length, IfOk};
 ghost use Rattle.tcmu_model.specs.Lines.{fields_of};
-ghost use Rattle.tcmu_model.specs.Scenario.{is_plain_memory, is_read_or_write, has_other_opcode, is_not_yet, with_rules, with_said, with_fields, with_text, scenario_of};
+ghost use Rattle.tcmu_model.specs.Scenario.{is_plain_memory, is_not_yet, with_rules, with_said, with_fields, with_text, scenario_of};
 ghost use Rattle.tcmu_model.specs.ScenarioRules.{IsScenario};
 ghost use Rattle.scenario_text.specs.Giving.{LineGives, Gives, HasDevice, said_data};
 
 use crate::counts::is_dump;
-use crate::kinds::{Line, LineFault, LineKind, Scenario, ScenarioFault};
+use crate::kinds::{LineFault, Scenario, ScenarioFault};
 use crate::lines::{all_allowed, before_hash, next_field, verb_of};
 use crate::said::{SaidLine, said_by};
 use crate::so_far::SoFar;
@@ -14,7 +14,6 @@ use device_config::fields::cut;
 use device_config::{Config, MediumKind};
 use std::alloc::Global;
 use tcmu_model::Why;
-use tcmu_types::{Cdb, Event};
 
 /// The subtype `mem`.
 fn is_plain_memory(config: &Config) -> bool
@@ -26,30 +25,13 @@ fn is_plain_memory(config: &Config) -> bool
     }
 }
 
-/// READ(10) or WRITE(10) (SBC-3).
-fn is_read_or_write(cdb: &Cdb) -> bool
-    ensures { result ≡ is_read_or_write cdb.now }
-{
-    let code = cdb.as_bytes()[0];
-    code == 0x28 || code == 0x2a
-}
-
-fn has_other_opcode(line: &Line) -> bool
-    ensures { result ≡ has_other_opcode line.now }
-{
-    match &line.what {
-        LineKind::Event(Event::Submit(command)) => !is_read_or_write(command.cdb()),
-        _ => false,
-    }
-}
-
 #[tactic(auto, unfolding(tcmu_model::specs::Scenario::is_not_yet))]
 fn is_not_yet(so_far: &SoFar, said: &SaidLine) -> bool
     ensures { result ≡ is_not_yet so_far.now (said_data said.now) }
 {
     match said {
         SaidLine::Opens(device) => !is_plain_memory(&device.config) || 0 < so_far.device_count(),
-        SaidLine::Adds(line) => has_other_opcode(line) || is_dump(line),
+        SaidLine::Adds(line) => is_dump(line),
     }
 }
 

@@ -207,7 +207,7 @@ fn other_lines(rt: HostRuntime) -> Result<(), Fail> {
             "submit d0 a 1 2a000000000300000100 in=1",
             Some(Why::Direction),
         ),
-        ("submit d0 a 1 000000000000", Some(Why::NotYet)),
+        ("submit d0 a 1 000000000000", None),
         ("enter d0", None),
         ("dispatch", Some(Why::Fields)),
         ("drain d0 d0", Some(Why::Fields)),

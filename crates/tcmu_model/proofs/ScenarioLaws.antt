@@ -57,7 +57,7 @@ many_room ls device e =
     let c = neither (nat_lt 16 (length (initiators device ls))) (nat_lt 20000 (length ls)) b.0 in
     (ltb-false _ _ c.0, ltb-false _ _ c.1, ltb-false _ _ b.1, ltb-false _ _ a.1)
 
-kept_line : (s t : ScenarioData) (l : LineData) → with_line s l ≡ Ok t → (record s { lines = s.lines ++ l ∷ [] } ≡ t) × (breaks_dump s l ≡ false) × (breaks_many (s.lines ++ l ∷ []) l.device ≡ false)
+pub kept_line : (s t : ScenarioData) (l : LineData) → with_line s l ≡ Ok t → (record s { lines = s.lines ++ l ∷ [] } ≡ t) × (breaks_dump s l ≡ false) × (breaks_many (s.lines ++ l ∷ []) l.device ≡ false)
 unfolding with_line
 kept_line s t l e = go (breaks_dump s l) (breaks_many (s.lines ++ l ∷ []) l.device) e
   where
@@ -100,7 +100,7 @@ line_is s t l k n e =
 
 -- ---- one more device
 
-kept_device : (s t : ScenarioData) (d : DeviceLineData) → with_device s d ≡ Ok t → (record s { devices = s.devices ++ d ∷ [] } ≡ t) × (nat_lt 0 (length s.lines) ≡ false) × (nat_lt 16 (length s.devices + 1) ≡ false)
+pub kept_device : (s t : ScenarioData) (d : DeviceLineData) → with_device s d ≡ Ok t → (record s { devices = s.devices ++ d ∷ [] } ≡ t) × (nat_lt 0 (length s.lines) ≡ false) × (nat_lt 16 (length s.devices + 1) ≡ false)
 unfolding with_device
 kept_device s t d e = go (nat_lt 0 (length s.lines)) (nat_lt 16 (length s.devices + 1)) e
   where

@@ -1,5 +1,5 @@
 -- Which bytes are a scenario, what they say, and why others are none.
-use Rattle.std.specs.Prelude.{ℕ, ◌+◌, ◌*◌, Bool, true, false, ◌&&◌, ◌||◌, not, List, [], ◌∷◌, ◌++◌, length, Some, None, Result, Ok, Err, nat_lt, nat_le, ◌==◌, if◌then◌else◌, bytes_eq, slice_get, slice_index}
+use Rattle.std.specs.Prelude.{ℕ, ◌+◌, ◌*◌, Bool, true, false, ◌&&◌, ◌||◌, not, List, [], ◌∷◌, ◌++◌, length, Some, None, Result, Ok, Err, nat_lt, nat_le, ◌==◌, if◌then◌else◌, bytes_eq, slice_get}
 use Rattle.std.specs.Option.{ok_or}
 use Rattle.std.specs.List.{list_any, list_all, sum_by, count_by}
 use Rattle.tcmu_types.specs.Data.{SettingsData}
@@ -81,17 +81,10 @@ with_rules s (Adds l) = with_line s l
 abbrev pub is_plain_memory : ConfigData → Bool
 is_plain_memory c = elim (c.kind) [ InMemory n ↦ not c.protected && (length c.fails == 0) | InFile name ↦ false ]
 
--- READ(10) or WRITE(10)
-abbrev pub is_read_or_write : List ℕ → Bool
-is_read_or_write cdb = (slice_index cdb 0 == 0x28) || (slice_index cdb 0 == 0x2a)
-
-abbrev pub has_other_opcode : LineData → Bool
-has_other_opcode l = elim (command_of l) [ Some c ↦ not (is_read_or_write c.cdb) | None ↦ false ]
-
--- another medium than plain memory, a second device, another command, and dumps
+-- another medium than plain memory, a second device, and dumps
 unfoldable pub is_not_yet : ScenarioData → Said → Bool
 is_not_yet s (Opens d) = not (is_plain_memory d.config) || nat_lt 0 (length s.devices)
-is_not_yet s (Adds l) = has_other_opcode l || is_dump l
+is_not_yet s (Adds l) = is_dump l
 
 -- ---- lines
 

@@ -23,6 +23,8 @@ use Rattle.tcmu_types.specs.declared.answer.Reset.TheVariants as reset_answer
 use Rattle.tcmu_types.specs.declared.answer.Tmr.{Tmr}
 use Rattle.tcmu_types.specs.declared.answer.Tmr.TheVariants as tmr_answer
 use Rattle.tcmu_types.specs.Dumps.{ItemData, HeldData, DumpData}
+use Rattle.tcmu_model.specs.Config.{ConfigData, MediumData, InMemory, InFile}
+use Rattle.tcmu_model.specs.ScenarioData.{DeviceLineData}
 use Rattle.tcmu_types.specs.declared.dump.ItemKind.{ItemKind}
 use Rattle.tcmu_types.specs.declared.dump.ItemKind.TheVariants as kind
 
@@ -81,6 +83,17 @@ flags_text f =
 
 -- ==== device lines
 
+unfoldable pub medium_text : MediumData → List ℕ
+medium_text (InMemory n) = codes "mem/" ++ decimal n
+medium_text (InFile name) = codes "file/" ++ name
+
+-- what stands in front of a medium
+unfoldable pub kind_text : ConfigData → List ℕ
+kind_text c = if length c.fails == 0 then (if c.protected then codes "ro/" else []) else codes "fail/" ++ numbers_text 43 c.fails ++ codes "/"
+
+unfoldable pub config_text : ConfigData → List ℕ
+config_text c = codes "tcm-user/" ++ decimal c.hba ++ codes "/" ++ c.name ++ codes "/" ++ kind_text c ++ medium_text c.kind
+
 -- the last fields, written where they say something
 unfoldable pub last_text : SettingsData → List ℕ
 last_text t = (if t.qfull == 0 then [] else codes " qfull=" ++ decimal t.qfull) ++ (if t.pages == 1 then [] else codes " pages=" ++ decimal t.pages)
@@ -88,6 +101,13 @@ last_text t = (if t.qfull == 0 then [] else codes " qfull=" ++ decimal t.qfull) 
 unfoldable pub settings_text : SettingsData → List ℕ
 settings_text t =
     codes " ring=" ++ decimal t.ring ++ codes " blocks=" ++ decimal t.blocks ++ codes " flags=" ++ flags_text t.flags ++ codes " timeout=" ++ decimal t.timeout ++ last_text t
+
+-- the one spelling of a device line
+unfoldable pub device_spelling : DeviceLineData → List ℕ
+device_spelling d = spaced (codes "device") (d.name ∷ config_text d.config ∷ []) ++ settings_text d.settings
+
+unfoldable pub device_text : DeviceLineData → List ℕ
+device_text d = line (device_spelling d ++ codes " # ready")
 
 -- ==== events
 

@@ -1,5 +1,5 @@
 //! Why texts are refused.
-ghost use Rattle.std.specs.Prelude.{◌≡◌};
+ghost use Rattle.std.specs.Prelude.{◌≡◌, ◌≤◌, length};
 ghost use Rattle.tcmu_model.specs.Words.{why_word};
 ghost use Rattle.tcmu_model.specs.declared.faults.ConfigFault.TheVariants as fault;
 
@@ -60,7 +60,8 @@ impl From<tcmu_types::NoMemory> for ConfigFault {
 impl Why {
     /// The word that stands for it, as in `line 2: name`.
     pub fn text(&self) -> &'static str
-        ensures { result.now ≡ why_word self.now }
+        ensures value { result.now ≡ why_word self.now }
+        ensures short { length result.now ≤ 9 }
     {
         match self {
             Why::TooLong => "toolong",

@@ -3,7 +3,7 @@ ghost use Rattle.std.specs.Prelude.{◌≡◌, ℕ, List, Ok};
 ghost use Rattle.tcmu_model.specs.Config.{ConfigData, config_of};
 ghost use Rattle.tcmu_model.specs.ScenarioData.{ScenarioData};
 ghost use Rattle.tcmu_model.specs.Scenario.{scenario_of};
-ghost use Rattle.tcmu_model.specs.ScenarioRules.{IsConfig, IsScenario, IsScript};
+ghost use Rattle.tcmu_model.specs.ScenarioRules.{IsConfig, IsScenario, IsServed, IsScript};
 ghost use Rattle.tcmu_model.specs.Script.{script_of};
 
 /// What is read of a config text keeps the limits of configs.
@@ -14,6 +14,11 @@ pub fn config_law()
 /// What is read of a scenario text keeps the limits of scenarios.
 pub fn scenario_law()
     ensures { (bytes : List ℕ) (s : ScenarioData) → scenario_of bytes ≡ Ok s → IsScenario s }
+{}
+
+/// What is read of a scenario text is served: it has at most one device, over plain memory, and no dumps.
+pub fn served_law()
+    ensures { (bytes : List ℕ) (s : ScenarioData) → scenario_of bytes ≡ Ok s → IsServed s }
 {}
 
 /// The script of a device of such a scenario is one that can be played.

@@ -21,7 +21,7 @@ mod worked;
 
 pub use entry::{EntryFault, EntryRef, Response};
 pub use faults::{ConfigFault, Why};
-pub use laws::{config_law, scenario_law, script_law};
+pub use laws::{config_law, scenario_law, script_law, served_law};
 pub use laws_drain::{drain_empties, drain_ends, drain_goes_on};
 pub use laws_log::{delayed_law, log_law};
 pub use laws_ring::{answers_law, publish_law, ring_law, room_law};
