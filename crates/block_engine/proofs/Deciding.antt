@@ -4,8 +4,8 @@ use Rattle.std.proofs.Common.{◌∙◌, ◌≡◌, inl, inr, ℕ, zero, suc, �
 use Rattle.std.specs.Bool.{MatchBool}
 use Rattle.std.specs.Option.{option_map}
 use Rattle.tcmu_types.specs.Numbered.{Numbered, ComesOut, Tries, is_listed, one_more}
-use Rattle.tcmu_model.specs.MediumState.{Layer, memory, file, overlay, write_back, Below, MediumState}
-use Rattle.tcmu_model.specs.Medium.{Call, Does, StoreCalls, Leaves, Then, Chosen, unchanged, with_piece, with_lost, with_dirty, dirty_blocks, blocks_from, joined_blocks, FlushesBlocks, Flushes, Dirties, DirtiesEach, WritesBack, ReadsBelow, WritesBelow, FillsBelow, SyncsBelow, MakesCall, counted, repeated, Writes, Fills, Syncs}
+use Rattle.tcmu_model.specs.MediumState.{Span, Layer, memory, file, overlay, write_back, Below, MediumState}
+use Rattle.tcmu_model.specs.Medium.{span_of, empty_span, covers, narrowed, Call, Does, StoreCalls, Leaves, Then, Chosen, unchanged, with_piece, with_lost, with_dirty, dirty_blocks, blocks_from, joined_blocks, FlushesBlocks, Flushes, Dirties, DirtiesEach, WritesBack, ReadsBelow, WritesBelow, FillsBelow, SyncsBelow, MakesCall, counted, repeated, Writes, Fills, Syncs}
 
 pub true_false : {X : Type 0} → true ≡ false → X
 true_false e = absurd (cc)
@@ -217,18 +217,77 @@ syncs_below file = store_decided 1
 syncs_below overlay = does_decided unchanged keeps_unchanged
 syncs_below (write_back slots dirty) = then_decided (Flushes slots) (StoreCalls 1) (flushes_decided slots) (store_decided 1)
 
+-- ==== memory
+
+-- memory, of which nothing is lost
+pub record IsWhole (b : Below) : Type 0 where
+  pub layer : b.layer ≡ memory
+  pub lost : b.lost ≡ empty_span
+
+-- it stays so behind a call
+abbrev KeepsWhole : Call → Below → Type 0
+KeepsWhole C b = (f : Bool) (a : Below) → C b f a → IsWhole b → IsWhole a
+
+kept_unchanged : (b : Below) → KeepsWhole (Does unchanged) b
+kept_unchanged b f a x w = subst IsWhole (sym x.1) w
+
+nothing_narrowed : (lost s : Span) → lost ≡ empty_span → narrowed lost s ≡ empty_span
+nothing_narrowed lost s e = go (covers s lost)
+  where
+    go : (c : Bool) → (if c then empty_span else lost) ≡ empty_span
+    go true = refl
+    go false = e
+
+kept_piece : (at : ℕ) (piece : List ℕ) (b : Below) → KeepsWhole (Does (with_piece at piece)) b
+kept_piece at piece b f a x w = subst IsWhole (sym x.1) (record { layer = w.layer; lost = nothing_narrowed b.lost (span_of at (length piece)) w.lost })
+
+abbrev is_memory : Layer → Bool
+is_memory memory = true
+is_memory file = false
+is_memory overlay = false
+is_memory (write_back slots dirty) = false
+
+-- another layer is no memory
+other_layer : {X : Type 0} (l : Layer) → is_memory l ≡ false → l ≡ memory → X
+other_layer l other e = true_false (ap is_memory (sym e) ∙ other)
+
+reads_whole : (l : Layer) (b : Below) → b.layer ≡ l → KeepsWhole (ReadsBelow l) b
+reads_whole memory b e = kept_unchanged b
+reads_whole file b e = λ f a x w. other_layer file refl (sym e ∙ w.layer)
+reads_whole overlay b e = λ f a x w. other_layer overlay refl (sym e ∙ w.layer)
+reads_whole (write_back slots dirty) b e = λ f a x w. other_layer (write_back slots dirty) refl (sym e ∙ w.layer)
+
+writes_whole : (l : Layer) (at : ℕ) (piece : List ℕ) (b : Below) → b.layer ≡ l → KeepsWhole (WritesBelow l at piece) b
+writes_whole memory at piece b e = kept_piece at piece b
+writes_whole file at piece b e = λ f a x w. other_layer file refl (sym e ∙ w.layer)
+writes_whole overlay at piece b e = λ f a x w. other_layer overlay refl (sym e ∙ w.layer)
+writes_whole (write_back slots dirty) at piece b e = λ f a x w. other_layer (write_back slots dirty) refl (sym e ∙ w.layer)
+
+fills_whole : (l : Layer) (at : ℕ) (block : List ℕ) (count : ℕ) (b : Below) → b.layer ≡ l → KeepsWhole (FillsBelow l at block count) b
+fills_whole memory at block count b e = kept_piece at (repeated count block) b
+fills_whole file at block count b e = λ f a x w. other_layer file refl (sym e ∙ w.layer)
+fills_whole overlay at block count b e = λ f a x w. other_layer overlay refl (sym e ∙ w.layer)
+fills_whole (write_back slots dirty) at block count b e = λ f a x w. other_layer (write_back slots dirty) refl (sym e ∙ w.layer)
+
+syncs_whole : (l : Layer) (b : Below) → b.layer ≡ l → KeepsWhole (SyncsBelow l) b
+syncs_whole memory b e = kept_unchanged b
+syncs_whole file b e = λ f a x w. other_layer file refl (sym e ∙ w.layer)
+syncs_whole overlay b e = λ f a x w. other_layer overlay refl (sym e ∙ w.layer)
+syncs_whole (write_back slots dirty) b e = λ f a x w. other_layer (write_back slots dirty) refl (sym e ∙ w.layer)
+
 -- ==== calls of a medium
 
--- as much is told of a medium
+-- as much is told of a medium; and one in memory, of which nothing is lost, stays one
 pub record SameTold (m a : MediumState) : Type 0 where
   pub own : is_some a.own.fails ≡ is_some m.own.fails
   pub below : SameTelling m.below a.below
+  pub whole : IsWhole m.below → IsWhole a.below
 
 pub same_told : (m : MediumState) → SameTold m m
-same_told m = record { own = refl; below = same_same m.below }
+same_told m = record { own = refl; below = same_same m.below; whole = λ w. w }
 
 pub same_told_then : (m n k : MediumState) → SameTold m n → SameTold n k → SameTold m k
-same_told_then m n k x y = record { own = y.own ∙ x.own; below = same_then m.below n.below k.below x.below y.below }
+same_told_then m n k x y = record { own = y.own ∙ x.own; below = same_then m.below n.below k.below x.below y.below; whole = λ w. y.whole (x.whole w) }
 
 -- the failing calls are told
 pub record TellsFails (m : MediumState) : Type 0 where
@@ -244,8 +303,8 @@ pub record IsSure (m : MediumState) (C : Bool → MediumState → Type 0) : Type
   pub one : (f g : Bool) (a b : MediumState) → TellsFails m → C f a → C g b → (f ≡ g) × (a ≡ b)
   pub same : (f : Bool) (a : MediumState) → C f a → SameTold m a
 
-makes_sure : (C : Call) (m : MediumState) → IsDecided C → IsSure m (MakesCall C m)
-makes_sure C m d = record { some = some (comes_some m.own).0 (comes_some m.own).1; one = one; same = same }
+makes_sure : (C : Call) (m : MediumState) → IsDecided C → KeepsWhole C m.below → IsSure m (MakesCall C m)
+makes_sure C m d w = record { some = some (comes_some m.own).0 (comes_some m.own).1; one = one; same = same }
   where
     some : (listed : Bool) → ComesOut m.own listed → (f : Bool) × (a : MediumState) × MakesCall C m f a
     some true h = (true, counted m, inl (h, refl, refl))
@@ -259,17 +318,17 @@ makes_sure C m d = record { some = some (comes_some m.own).0 (comes_some m.own).
         let e = d.one m.below f g x.1 y.1 t.store x.2 y.2 in (e.0, x.3 ∙ ap (λ (k : Below). record (counted m) { below = k }) e.1 ∙ sym y.3)
 
     same : (f : Bool) (a : MediumState) → MakesCall C m f a → SameTold m a
-    same f a (inl x) = subst (SameTold m) (sym x.2) (record { own = refl; below = same_same m.below })
-    same f a (inr x) = subst (SameTold m) (sym x.3) (record { own = refl; below = d.same m.below f x.1 x.2 })
+    same f a (inl x) = subst (SameTold m) (sym x.2) (record { own = refl; below = same_same m.below; whole = λ k. k })
+    same f a (inr x) = subst (SameTold m) (sym x.3) (record { own = refl; below = d.same m.below f x.1 x.2; whole = w f x.1 x.2 })
 
 pub reads_sure : (m : MediumState) → IsSure m (MakesCall (ReadsBelow m.below.layer) m)
-reads_sure m = makes_sure (ReadsBelow m.below.layer) m (reads_below m.below.layer)
+reads_sure m = makes_sure (ReadsBelow m.below.layer) m (reads_below m.below.layer) (reads_whole m.below.layer m.below refl)
 
 pub writes_sure : (at : ℕ) (piece : List ℕ) (m : MediumState) → IsSure m (Writes at piece m)
-writes_sure at piece m = makes_sure (WritesBelow m.below.layer at piece) m (writes_below m.below.layer at piece)
+writes_sure at piece m = makes_sure (WritesBelow m.below.layer at piece) m (writes_below m.below.layer at piece) (writes_whole m.below.layer at piece m.below refl)
 
 pub fills_sure : (at : ℕ) (block : List ℕ) (count : ℕ) (m : MediumState) → IsSure m (Fills at block count m)
-fills_sure at block count m = makes_sure (FillsBelow m.below.layer at block count) m (fills_below m.below.layer at block count)
+fills_sure at block count m = makes_sure (FillsBelow m.below.layer at block count) m (fills_below m.below.layer at block count) (fills_whole m.below.layer at block count m.below refl)
 
 pub syncs_sure : (m : MediumState) → IsSure m (Syncs m)
-syncs_sure m = makes_sure (SyncsBelow m.below.layer) m (syncs_below m.below.layer)
+syncs_sure m = makes_sure (SyncsBelow m.below.layer) m (syncs_below m.below.layer) (syncs_whole m.below.layer m.below refl)

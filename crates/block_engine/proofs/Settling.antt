@@ -13,13 +13,14 @@ use Rattle.tcmu_types.proofs.Places.{same_list, get_from_index}
 use Rattle.tcmu_model.specs.MediumState.{Below, MediumState}
 use Rattle.tcmu_model.specs.Medium.{lies_in, MatchesTold, Reads, Writes, Fills, Syncs, zeros, empty_span, memory_state}
 use Rattle.tcmu_model.specs.Decoding.{decoded}
-use Rattle.tcmu_model.specs.Scsi.{Outcome, Answers, Either, Check, check, first_failed, Checked, Calls, range_checks, write_checks, list_checks, good, refused, unrecovered_read_error, write_error, miscompare, invalid_field_in_cdb, ReadsSome, ReadsBytes, WritesBytes, ComparesBytes, ComparesBlocks, Compared, UnmapsOne, Unmaps, UnmapsList, cut, extents_of, ServesOp, fault_sense}
+use Rattle.tcmu_model.specs.Steps.{Asked}
+use Rattle.tcmu_model.specs.Scsi.{Outcome, Answers, Either, Check, check, first_failed, Checked, Calls, range_checks, write_checks, list_checks, good, refused, unrecovered_read_error, write_error, miscompare, invalid_field_in_cdb, ReadsSome, ReadsBytes, WritesBytes, ComparesBytes, ComparesBlocks, Compared, UnmapsOne, Unmaps, UnmapsList, cut, extents_of, ServesOp, Serves, fault_sense}
 use Rattle.tcmu_model.specs.declared.op.Extent.{Extent}
 use Rattle.tcmu_model.specs.declared.op.Op.{Op}
 use Rattle.tcmu_model.specs.declared.op.Op.TheVariants as op
 use Rattle.tcmu_model.specs.declared.op.CdbFault.{CdbFault}
 use Rattle.tcmu_model.specs.declared.op.CdbFault.TheVariants as fault
-use Rattle.block_engine.specs.Determined.{IsTold, SeesRange, SeesOp, SomeReply, WholeReply, OneReply, StaysTold, OneReplyInMemory}
+use Rattle.block_engine.specs.Determined.{IsTold, SeesRange, SeesOp, Sees, SomeReply, WholeReply, OneReply, StaysTold, OneReplyInMemory, StaysInMemory}
 use Rattle.block_engine.proofs.Deciding.{true_false, SameTold, same_told, same_told_then, TellsFails, tells_after, IsSure, reads_sure, writes_sure, fills_sure, syncs_sure}
 
 -- ==== UNMAP
@@ -372,36 +373,48 @@ one_reply name m r first second one other told sees x y = by (decoded r.cdb) see
     by (Ok o) s x y = (op_settles name m r.sent r.in_len o).one (record { told = told; sees = s }) first second one other x y
     by (Err f) s x y = (x.0 ∙ sym y.0, x.1 ∙ sym y.1)
 
-pub stays_told : StaysTold
-stays_told name m r reply after told x =
-    let s = by (decoded r.cdb) x in record { own = s.own ∙ told.own; store = s.below.store ∙ told.store; bytes = s.below.bytes ∙ told.bytes }
+same_after : (name : List ℕ) (m : MediumState) (r : Asked) (reply : ReplyData) (after : MediumState) → Serves name m r reply after → SameTold m after
+same_after name m r reply after x = by (decoded r.cdb) x
   where
     by : (d : Result Op CdbFault) → MatchResult d (λ o. ServesOp name m r.sent r.in_len o reply after) (λ f. Answers m (refused (fault_sense f)) reply after) → SameTold m after
     by (Ok o) x = (op_settles name m r.sent r.in_len o).same reply after x
     by (Err f) x = subst (SameTold m) (sym x.1) (same_told m)
 
+pub stays_told : StaysTold
+stays_told name m r reply after told x =
+    let s = same_after name m r reply after x in record { own = s.own ∙ told.own; store = s.below.store ∙ told.store; bytes = s.below.bytes ∙ told.bytes }
+
 nothing_lost : (i : ℕ) → lies_in empty_span i ≡ false
 nothing_lost i = grind arith
 
-sees_memory : (blocks calls in_len : ℕ) (bytes : List ℕ) (o : Op) → SeesOp (memory_state blocks bytes calls) in_len o
-sees_memory blocks calls in_len bytes (op.Read lba count) = λ i h. nothing_lost (512 * lba + i)
-sees_memory blocks calls in_len bytes (op.CompareWrite lba count) = λ i h. nothing_lost (512 * lba + i)
-sees_memory blocks calls in_len bytes (op.Write lba count) = tt
-sees_memory blocks calls in_len bytes (op.Sync lba count) = tt
-sees_memory blocks calls in_len bytes (op.WriteSame lba count) = tt
-sees_memory blocks calls in_len bytes (op.Unmap count) = tt
-sees_memory blocks calls in_len bytes op.TestUnitReady = tt
-sees_memory blocks calls in_len bytes (op.RequestSense limit) = tt
-sees_memory blocks calls in_len bytes (op.Inquiry page limit) = tt
-sees_memory blocks calls in_len bytes (op.ModeSense page limit) = tt
-sees_memory blocks calls in_len bytes op.Capacity10 = tt
-sees_memory blocks calls in_len bytes (op.Capacity16 limit) = tt
-sees_memory blocks calls in_len bytes (op.ReportLuns select limit) = tt
+sees_whole : (m : MediumState) (in_len : ℕ) → m.below.lost ≡ empty_span → (o : Op) → SeesOp m in_len o
+sees_whole m in_len e (op.Read lba count) = λ i h. rw e (nothing_lost (512 * lba + i))
+sees_whole m in_len e (op.CompareWrite lba count) = λ i h. rw e (nothing_lost (512 * lba + i))
+sees_whole m in_len e (op.Write lba count) = tt
+sees_whole m in_len e (op.Sync lba count) = tt
+sees_whole m in_len e (op.WriteSame lba count) = tt
+sees_whole m in_len e (op.Unmap count) = tt
+sees_whole m in_len e op.TestUnitReady = tt
+sees_whole m in_len e (op.RequestSense limit) = tt
+sees_whole m in_len e (op.Inquiry page limit) = tt
+sees_whole m in_len e (op.ModeSense page limit) = tt
+sees_whole m in_len e op.Capacity10 = tt
+sees_whole m in_len e (op.Capacity16 limit) = tt
+sees_whole m in_len e (op.ReportLuns select limit) = tt
+
+sees_request : (m : MediumState) (r : Asked) → m.below.lost ≡ empty_span → Sees m r
+sees_request m r e = by (decoded r.cdb)
+  where
+    by : (d : Result Op CdbFault) → MatchResult d (SeesOp m r.in_len) (λ _. Unit {0})
+    by (Ok o) = sees_whole m r.in_len e o
+    by (Err f) = tt
 
 pub one_reply_in_memory : OneReplyInMemory
 one_reply_in_memory name blocks bytes calls r first second one other x y =
-    one_reply name (memory_state blocks bytes calls) r first second one other (record { own = refl; store = refl; bytes = refl }) (by (decoded r.cdb)) x y
-  where
-    by : (d : Result Op CdbFault) → MatchResult d (SeesOp (memory_state blocks bytes calls) r.in_len) (λ _. Unit {0})
-    by (Ok o) = sees_memory blocks calls r.in_len bytes o
-    by (Err f) = tt
+    one_reply name (memory_state blocks bytes calls) r first second one other (record { own = refl; store = refl; bytes = refl }) (sees_request (memory_state blocks bytes calls) r refl) x y
+
+pub stays_in_memory : StaysInMemory
+stays_in_memory name m r first second one other k x y =
+    let same = one_reply name m r first second one other k.told (sees_request m r k.lost) x y in
+    let whole = (same_after name m r first one x).whole (record { layer = k.layer; lost = k.lost }) in
+    (same.0, same.1, record { told = stays_told name m r first one k.told x; layer = whole.layer; lost = whole.lost })

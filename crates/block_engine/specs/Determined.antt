@@ -2,8 +2,8 @@
 use Rattle.std.specs.Prelude.{◌≡◌, ℕ, ◌+◌, ◌*◌, ◌<◌, ◌≤◌, min, length, true, false, List, is_some, MatchResult}
 use Rattle.tcmu_types.specs.Data.{ReplyData}
 use Rattle.tcmu_types.specs.Rules.{IsReply}
-use Rattle.tcmu_model.specs.MediumState.{MediumState}
-use Rattle.tcmu_model.specs.Medium.{lies_in, memory_state}
+use Rattle.tcmu_model.specs.MediumState.{MediumState, memory}
+use Rattle.tcmu_model.specs.Medium.{lies_in, empty_span, memory_state}
 use Rattle.tcmu_model.specs.Steps.{Asked}
 use Rattle.tcmu_model.specs.Decoding.{decoded}
 use Rattle.tcmu_model.specs.Scsi.{Serves}
@@ -45,6 +45,18 @@ OneReplyInMemory =
     (name : List ℕ) (blocks : ℕ) (bytes : List ℕ) (calls : ℕ) (r : Asked) (first second : ReplyData) (one other : MediumState)
     → Serves name (memory_state blocks bytes calls) r first one → Serves name (memory_state blocks bytes calls) r second other
     → (first ≡ second) × (one ≡ other)
+
+-- a medium in memory that tells its bytes, and of which nothing is lost
+pub record IsInMemory (m : MediumState) : Type 0 where
+  pub told : IsTold m
+  pub layer : m.below.layer ≡ memory
+  pub lost : m.below.lost ≡ empty_span
+
+-- a request of such a medium has one reply, and leaves one medium, which is such a medium again
+abbrev pub StaysInMemory : Type 0
+StaysInMemory =
+    (name : List ℕ) (m : MediumState) (r : Asked) (first second : ReplyData) (one other : MediumState) → IsInMemory m
+    → Serves name m r first one → Serves name m r second other → (first ≡ second) × (one ≡ other) × IsInMemory one
 
 -- every request has a reply, over every medium
 abbrev pub SomeReply : Type 0

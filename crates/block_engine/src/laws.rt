@@ -1,5 +1,5 @@
 //! What follows from the engine's relation.
-ghost use Rattle.block_engine.specs.Determined.{SomeReply, WholeReply, OneReply, StaysTold, OneReplyInMemory};
+ghost use Rattle.block_engine.specs.Determined.{SomeReply, WholeReply, OneReply, StaysTold, OneReplyInMemory, StaysInMemory};
 
 /// Every request has a reply, over every medium.
 pub fn some_reply()
@@ -25,4 +25,9 @@ pub fn stays_told()
 /// Over a medium in memory the meaning of a request is a function: nothing of it is ever lost.
 pub fn one_reply_in_memory()
     ensures { OneReplyInMemory }
+{}
+
+/// A medium in memory of which nothing is lost stays one behind each request, and the request has one reply.
+pub fn stays_in_memory()
+    ensures { StaysInMemory }
 {}

@@ -12,4 +12,6 @@ mod show;
 mod unmap;
 
 pub use engine::Engine;
-pub use laws::{one_reply, one_reply_in_memory, some_reply, stays_told, whole_reply};
+pub use laws::{
+    one_reply, one_reply_in_memory, some_reply, stays_in_memory, stays_told, whole_reply,
+};

@@ -2,11 +2,13 @@
 ghost use Rattle.std.specs.Prelude.{◌≡◌, ℕ, [], ◌∷◌, ◌++◌, length, OnOk, OnErr, codes};
 ghost use Rattle.std.specs.List.{flat_map};
 ghost use Rattle.tcmu_types.specs.Views.{event_data, answer_data};
-ghost use Rattle.tcmu_model.specs.Text.{spaced, line, payload_text, completion_text, event_line as event_spelling, entry_text as entry_spelling, end_text as end_spelling, dump_text as dump_spelling};
+ghost use Rattle.tcmu_model.specs.Text.{spaced, line, payload_text, completion_text, event_line as event_spelling, entry_text as entry_spelling, end_text as end_spelling, dump_text as dump_spelling, device_text as device_spelling};
 
+use crate::devices::push_device;
 use crate::dumps::push_dump;
 use crate::events::{push_answer, push_event};
 use crate::pieces::{push_all, push_field, push_number_field, push_payload, push_result};
+use scenario_text::DeviceLine;
 use std::alloc::Global;
 use tcmu_types::{Answer, Bytes, Done, Dump, Entry, Event, Name, NoMemory};
 
@@ -96,6 +98,16 @@ pub fn runs_text(alloc: Global, bytes: &[u8], into: &mut Bytes) -> Result<(), No
 {
     let mut text = Vec::new(alloc);
     push_payload(alloc, &mut text, bytes)?;
+    append(into, &text)
+}
+
+/// Appends the line of a device: its one spelling, whichever way it was spelled in a scenario. NoMemory changes nothing.
+pub fn device_text(alloc: Global, device: &DeviceLine, into: &mut Bytes) -> Result<(), NoMemory>
+    ensures ok { OnOk result (into.new.items ≡ into.old.items ++ device_spelling device.now) }
+    ensures err { OnErr result (into.new.items ≡ into.old.items) }
+{
+    let mut text = Vec::new(alloc);
+    push_device(alloc, &mut text, device)?;
     append(into, &text)
 }
 

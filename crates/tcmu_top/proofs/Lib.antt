@@ -1,11 +1,8 @@
-pub mod Fields
-pub mod ReadLines
-pub mod Every
 pub mod Telling
 pub mod RunTexts
+pub mod Outcomes
+pub mod OpenCounts
+pub mod Playing
 pub mod Whole
 pub mod Scenarios
 pub mod One
-pub mod OpenCounts
-pub mod Playing
-pub mod Outcomes

@@ -10,7 +10,7 @@ use Rattle.tcmu_model.specs.States.{same_state}
 use Rattle.tcmu_model.specs.RingState.{serials_in}
 use Rattle.tcmu_model.specs.Device.{Unfinished, DeviceState, has_state}
 use Rattle.tcmu_model.specs.Events.{is_open, stat_answer, count_in_state}
-use Rattle.tcmu_top.specs.FirstReplay.{open_count}
+use Rattle.tcmu_model.specs.Replay.{open_count}
 use Rattle.tcmu_model.specs.Sound.{IsSound, Rise, delayed_serials}
 
 -- a number for a test that passes

@@ -1,6 +1,7 @@
 -- A drain and a replay, as far as they have come.
-use Rattle.std.proofs.Common.{◌≡◌, ℕ, ◌+◌, ◌<◌, ◌≤◌, List, [], ◌∷◌, ◌++◌, length, get_or, map, drop, Option, Some, None, refl, sym, ap, ◌∙◌, arith, subst, append_assoc, length-append, inl, inr, ◌⊎◌}
+use Rattle.std.proofs.Common.{◌&&◌, nat_lt, Bool, true, false, IsTrue, ⊎_elim, ◌≡◌, ℕ, ◌+◌, ◌<◌, ◌≤◌, List, [], ◌∷◌, ◌++◌, length, get_or, map, drop, Option, Some, None, refl, sym, ap, ◌∙◌, arith, subst, append_assoc, length-append, inl, inr, ◌⊎◌}
 use Rattle.std.specs.Option.{option_map}
+use Rattle.std.proofs.lemmas.Bool.{cases_Bool, ltb-true}
 use Rattle.std.proofs.lemmas.List.{append-nil, drop_more, drop_all}
 use Rattle.tcmu_types.specs.Data.{CommandData, DoneData}
 use Rattle.tcmu_types.specs.Rules.{IsCommand}
@@ -10,36 +11,42 @@ use Rattle.tcmu_types.specs.Views.{event_data}
 use Rattle.tcmu_types.specs.declared.event.Event.{Event}
 use Rattle.tcmu_types.specs.declared.stat.Todo.{Todo}
 use Rattle.edge.specs.Outside.{Gained, GainedFront}
-use Rattle.tcmu_model.specs.Device.{Device, DeviceState}
-use Rattle.tcmu_model.specs.Events.{submit_answer, after_submit}
-use Rattle.tcmu_model.specs.Steps.{HandlerRelation, Step, Run, Makes, moved}
+use Rattle.tcmu_types.specs.declared.answer.Handle.TheVariants as handle
+use Rattle.tcmu_model.specs.declared.state.CommandState.TheVariants.{Out}
+use Rattle.tcmu_model.specs.Lists.{first_of, RisesAbove, IsRising}
+use Rattle.tcmu_model.specs.Fields.{is_rising}
+use Rattle.tcmu_model.specs.Device.{Unfinished, Device, DeviceState, is_at}
+use Rattle.tcmu_model.specs.Events.{submit_answer, after_submit, enter_answer, after_enter, dispatch_answer, after_dispatch, command_out, after_handle, respond_answer, after_respond, publish_answer, after_publish, clean_answer, after_clean, tick_answer, after_tick, block_answer, after_block, reset_answer, after_reset, restart_answer, after_restart, tmr_answer, after_tmr, stat_answer}
+use Rattle.tcmu_model.specs.Steps.{HandlerRelation, Step, Run, Makes, asked, moved}
 use Rattle.tcmu_model.specs.Drain.{Drains, drain_event, todo_of, chosen}
 use Rattle.tcmu_model.specs.Sound.{IsSound, Every}
-use Rattle.tcmu_model.specs.Work.{HasOutcomes, GoesOn, work}
-use Rattle.tcmu_top.specs.FirstReplay.{Task, make, drain, DeviceLine, Plays, Replays}
+use Rattle.tcmu_model.specs.Work.{Outcome, HasOutcomes, GoesOn, work}
+use Rattle.tcmu_model.specs.ScenarioData.{DeviceLineData, LineWhat, LineData}
+use Rattle.tcmu_model.specs.ScenarioData as line
+use Rattle.tcmu_model.specs.Replay.{Plays, Replays}
 use Rattle.tcmu_model.specs.Text.{entry_text}
 use Rattle.tcmu_model.proofs.Draining.{work_falls}
 use Rattle.tcmu_model.proofs.GoesOn.{goes_on_first, goes_on_more, drains_run}
-use Rattle.tcmu_model.proofs.Logs.{after_submit_same, makes_grows}
+use Rattle.tcmu_model.proofs.Logs.{makes_grows}
 use Rattle.tcmu_top.specs.Playing.{run_text, MadeEvent, Told, ToldFront, NothingCame, Stopped, Wrote, WroteFront}
-use Rattle.tcmu_top.specs.Tasks.{IsFit, IsEvent, CanBeMade}
-use Rattle.tcmu_top.specs.Forms.{task_of}
-use Rattle.tcmu_top.specs.declared.scenario_text.LineKind.{LineKind}
+use Rattle.tcmu_model.specs.ScenarioRules.{IsEvent, IsRisingTo}
+use Rattle.tcmu_top.specs.Tasks.{IsFit, CanBeMade, asks}
 use Rattle.tcmu_top.proofs.Telling.{gained_none, gained_more, gained_as, front_none, front_whole, front_first, front_more, front_behind}
 use Rattle.tcmu_top.proofs.RunTexts.{run_append, text_more, text_one, drop_front}
 use Rattle.tcmu_model.proofs.Runs.{sound_step, sound_run}
-use Rattle.tcmu_model.proofs.DrainEnds.{drain_ends}
+use Rattle.tcmu_model.proofs.DrainEnds.{drain_ends, rows_commands}
 
 -- ==== runs
 
 pub run_one : (R : HandlerRelation) (d d' : Device) (e : EntryData) → Step R d e d' → Run R d (e ∷ []) d'
 run_one R d d' e s = (d', s, refl)
 
-pub plays_run : (R : HandlerRelation) (d d' : Device) (task : Task) (es : List EntryData) → Plays R 0 d task es d' → Run R d es d'
-plays_run R d d' (make event) es h = subst (λ (xs : List EntryData). Run R d xs d') (sym (h.4)) (run_one R d d' (h.0) (h.3))
-plays_run R d d' drain es h = drains_run R 0 d d' es h
+pub plays_run : (R : HandlerRelation) (d d' : Device) (task : LineWhat) (es : List EntryData) → Plays R 0 d task es d' → Run R d es d'
+plays_run R d d' (line.Makes event) es h = subst (λ (xs : List EntryData). Run R d xs d') (sym (h.4)) (run_one R d d' (h.0) (h.3))
+plays_run R d d' line.Drains es h = drains_run R 0 d d' es h
+plays_run R d d' line.Dumps es h = absurd h
 
-pub replays_run : (R : HandlerRelation) (d d' : Device) (tasks : List Task) (es : List EntryData) → Replays R 0 d tasks es d' → Run R d es d'
+pub replays_run : (R : HandlerRelation) (d d' : Device) (tasks : List LineWhat) (es : List EntryData) → Replays R 0 d tasks es d' → Run R d es d'
 replays_run R d d' [] es h = drains_run R 0 d d' es h
 replays_run R d d' (task ∷ tasks) es h =
     subst (λ (xs : List EntryData). Run R d xs d') (sym (h.3)) (run_append R d (h.2) d' (h.0) (h.1) (plays_run R d (h.2) task (h.0) (h.4)) (replays_run R (h.2) d' tasks (h.1) (h.5)))
@@ -48,36 +55,68 @@ replays_run R d d' (task ∷ tasks) es h =
 drained : (R : HandlerRelation) (d : Device) → HasOutcomes R → IsSound d.state → (es : List EntryData) × (end : Device) × Drains R 0 d es end
 drained R d outcomes sound = let all = drain_ends R 0 d outcomes sound in (all.entries, all.end, all.drain)
 
--- ==== every task has an outcome
+-- ==== every line has an outcome
 
--- a command that is sent has an answer
-submit_made : (R : HandlerRelation) (d : Device) (c : CommandData) → IsCommand c → (d' : Device) × MadeEvent R 0 (ev.Submit c) d d'
-submit_made R d c rules =
-    let a = submit_answer d.state c in
-    let d' = moved d (after_submit d.state c a) in
-    let e : EntryData = record { device = 0; event = ev.Submit c; answer = ev.Submitted a; logged = 0 } in
-    let same = after_submit_same d.state c a in (
+-- an event that comes out somehow has an entry
+entry_made : (R : HandlerRelation) (d d' : Device) (event : EventData) (a : AnswerData) → Makes R d event a d' → (after : Device) × MadeEvent R 0 event d after
+entry_made R d d' event a h =
+    let g = makes_grows R d d' event a h in (
       d',
       record {
-        entry = e;
+        entry = record { device = 0; event = event; answer = a; logged = length g.0 };
         device = refl;
         is = refl;
-        step = record { makes = record { command = rules; answer = refl; after = refl }; logged = omega (arith, ap length same) };
+        step = record { makes = h; logged = omega (arith, ap length g.1, length-append d.state.log g.0) };
       },
     )
 
-pub event_made : (R : HandlerRelation) (d : Device) (event : EventData) → IsEvent event → (d' : Device) × MadeEvent R 0 event d d'
-event_made R d (ev.Submit c) h = submit_made R d c h
-event_made R d _ h = absurd h
+first_every : (P : Unfinished → Type 0) (p : Unfinished → Bool) (us : List Unfinished) (u : Unfinished) → Every P us → first_of p us ≡ Some u → P u
+first_every P p [] u h e = absurd (cc)
+first_every P p (v ∷ us) u h e =
+    ⊎_elim
+    (λ (z : p v ≡ true). let k : Some v ≡ Some u = rw z at e in let q : v ≡ u = cc in subst P q h.0)
+    (λ (z : p v ≡ false). let k : first_of p us ≡ Some u = rw z at e in first_every P p us u h.1 k)
+    (cases_Bool (p v))
 
-plays_made : (R : HandlerRelation) (d d' : Device) (event : EventData) (m : MadeEvent R 0 event d d') → Plays R 0 d (make event) (m.entry ∷ []) d'
+-- the handler is asked for a command that is out, and for no other
+handled : (R : HandlerRelation) (d : Device) (s : ℕ) (o : Option Unfinished) → command_out d.state s ≡ o → HasOutcomes R → IsSound d.state → (after : Device) × MadeEvent R 0 (ev.Handle s) d after
+handled R d s None e outcomes sound = entry_made R d d (ev.Handle s) (ev.Answered (handle.NotOut s)) (refl, e, refl)
+handled R d s (Some u) e outcomes sound =
+    let c : IsCommand u.command = first_every (λ v. IsCommand v.command) (is_at s Out) d.state.unfinished u (rows_commands d.state sound) e in
+    let r : Outcome R d.name d.medium (asked u.command) = outcomes d.name d.medium u.command c in
+    let d' : Device = record { name = d.name; medium = r.after; state = after_handle d.state s r.reply } in
+    entry_made R d d' (ev.Handle s) (ev.Answered (handle.Done r.reply)) (u, record { found = e; relation = r.relation; whole = r.rules; payload = r.payload; name = refl; state = refl })
+
+-- each event within its limits can be made
+pub event_made : (R : HandlerRelation) (d : Device) (event : EventData) → HasOutcomes R → IsSound d.state → IsEvent event → (d' : Device) × MadeEvent R 0 event d d'
+event_made R d (ev.Submit c) o k h =
+    entry_made R d (moved d (after_submit d.state c (submit_answer d.state c))) (ev.Submit c) (ev.Submitted (submit_answer d.state c)) (record { command = h; answer = refl; after = refl })
+event_made R d (ev.Handle s) o k h = handled R d s (command_out d.state s) refl o k
+event_made R d ev.Dispatch o k h = entry_made R d (moved d (after_dispatch d.state)) ev.Dispatch (ev.Dispatched (dispatch_answer d.state)) (record { answer = refl; after = refl })
+event_made R d (ev.Respond s) o k h =
+    entry_made R d (moved d (after_respond d.state s)) (ev.Respond s) (ev.Responded (respond_answer d.state s)) (record { answer = refl; after = refl })
+event_made R d ev.Publish o k h = entry_made R d (moved d (after_publish d.state)) ev.Publish (ev.Published (publish_answer d.state)) (record { answer = refl; after = refl })
+event_made R d ev.Clean o k h = entry_made R d (moved d (after_clean d.state)) ev.Clean (ev.Logged (clean_answer d.state)) (record { answer = refl; after = refl })
+event_made R d (ev.Tick n) o k h = entry_made R d (moved d (after_tick d.state n)) (ev.Tick n) (ev.Logged (tick_answer d.state n)) (record { answer = refl; after = refl })
+event_made R d ev.Block o k h = entry_made R d (moved d (after_block d.state true)) ev.Block (ev.Changed (block_answer d.state true)) (record { answer = refl; after = refl })
+event_made R d ev.Unblock o k h = entry_made R d (moved d (after_block d.state false)) ev.Unblock (ev.Changed (block_answer d.state false)) (record { answer = refl; after = refl })
+event_made R d (ev.Reset level) o k h =
+    entry_made R d (moved d (after_reset d.state level)) (ev.Reset level) (ev.WasReset (reset_answer d.state level)) (record { answer = refl; after = refl })
+event_made R d ev.Restart o k h = entry_made R d (moved d (after_restart d.state)) ev.Restart (ev.Lost (restart_answer d.state)) (record { answer = refl; after = refl })
+event_made R d (ev.Tmr kind ss) o k h =
+    entry_made R d (moved d (after_tmr d.state kind ss (tmr_answer d.state ss))) (ev.Tmr kind ss) (ev.Noted (tmr_answer d.state ss)) (record { answer = refl; after = refl })
+event_made R d ev.Stat o k h = entry_made R d d ev.Stat (ev.Told (stat_answer d.state)) (record { answer = refl; after = refl })
+event_made R d ev.Enter o k h = entry_made R d (moved d (after_enter d.state (enter_answer d.state))) ev.Enter (ev.Entered (enter_answer d.state)) (record { answer = refl; after = refl })
+
+plays_made : (R : HandlerRelation) (d d' : Device) (event : EventData) (m : MadeEvent R 0 event d d') → Plays R 0 d (line.Makes event) (m.entry ∷ []) d'
 plays_made R d d' event m = (m.entry, m.device, m.is, m.step, refl)
 
-plays_total : (R : HandlerRelation) (d : Device) (task : Task) → HasOutcomes R → IsSound d.state → IsFit task → (es : List EntryData) × (d' : Device) × Plays R 0 d task es d'
-plays_total R d (make event) outcomes sound fit = let m = event_made R d event fit in (m.1.entry ∷ [], m.0, plays_made R d (m.0) event (m.1))
-plays_total R d drain outcomes sound fit = drained R d outcomes sound
+plays_total : (R : HandlerRelation) (d : Device) (task : LineWhat) → HasOutcomes R → IsSound d.state → IsFit task → (es : List EntryData) × (d' : Device) × Plays R 0 d task es d'
+plays_total R d (line.Makes event) outcomes sound fit = let m = event_made R d event outcomes sound fit in (m.1.entry ∷ [], m.0, plays_made R d (m.0) event (m.1))
+plays_total R d line.Drains outcomes sound fit = drained R d outcomes sound
+plays_total R d line.Dumps outcomes sound fit = absurd fit
 
-pub replays_total : (R : HandlerRelation) (d : Device) (tasks : List Task) → HasOutcomes R → IsSound d.state → Every IsFit tasks → (es : List EntryData) × (d' : Device) × Replays R 0 d tasks es d'
+pub replays_total : (R : HandlerRelation) (d : Device) (tasks : List LineWhat) → HasOutcomes R → IsSound d.state → Every IsFit tasks → (es : List EntryData) × (d' : Device) × Replays R 0 d tasks es d'
 replays_total R d [] outcomes sound fit = drained R d outcomes sound
 replays_total R d (task ∷ tasks) outcomes sound fit =
     let first = plays_total R d task outcomes sound fit.0 in
@@ -88,17 +127,17 @@ replays_total R d (task ∷ tasks) outcomes sound fit =
 -- ==== a drain
 
 -- what was drained so far
-pub record Draining (R : HandlerRelation) (l : DeviceLine) (start d : Device) (old now : Option (List ℕ)) : Type 0 where
+pub record Draining (R : HandlerRelation) (l : DeviceLineData) (start d : Device) (old now : Option (List ℕ)) : Type 0 where
   pub sofar : List EntryData
   pub run : Run R start sofar d
   pub goes_on : GoesOn R 0 start sofar d
   pub wrote : Gained old (run_text l start sofar d) now
   pub sound : IsSound d.state
 
-pub draining_first : (R : HandlerRelation) (l : DeviceLine) (d : Device) (old : Option (List ℕ)) → IsSound d.state → Draining R l d d old old
+pub draining_first : (R : HandlerRelation) (l : DeviceLineData) (d : Device) (old : Option (List ℕ)) → IsSound d.state → Draining R l d d old old
 draining_first R l d old sound = record { sofar = []; run = refl; goes_on = goes_on_first R 0 d; wrote = gained_none old; sound = sound }
 
-pub draining_more : (R : HandlerRelation) (l : DeviceLine) (start d d' : Device) (event : EventData) (old mid now : Option (List ℕ))
+pub draining_more : (R : HandlerRelation) (l : DeviceLineData) (start d d' : Device) (event : EventData) (old mid now : Option (List ℕ))
     → Draining R l start d old mid → drain_event d.state ≡ Some event → Told R l event d d' mid now → Draining R l start d' old now
 draining_more R l start d d' event old mid now so picked told =
     let m = told.made in
@@ -111,7 +150,7 @@ draining_more R l start d d' event old mid now so picked told =
       sound = sound_step R d d' m.entry so.sound m.step;
     }
 
-pub draining_done : (R : HandlerRelation) (l : DeviceLine) (start d : Device) (old now : Option (List ℕ)) → Draining R l start d old now → drain_event d.state ≡ None
+pub draining_done : (R : HandlerRelation) (l : DeviceLineData) (start d : Device) (old now : Option (List ℕ)) → Draining R l start d old now → drain_event d.state ≡ None
     → Wrote R l (λ es. Drains R 0 start es d) start d old now
 draining_done R l start d old now so none =
     record {
@@ -121,7 +160,7 @@ draining_done R l start d old now so none =
       wrote = so.wrote;
     }
 
-pub draining_stopped : (R : HandlerRelation) (l : DeviceLine) (start d d' : Device) (event : EventData) (old mid now : Option (List ℕ)) → HasOutcomes R
+pub draining_stopped : (R : HandlerRelation) (l : DeviceLineData) (start d d' : Device) (event : EventData) (old mid now : Option (List ℕ)) → HasOutcomes R
     → Draining R l start d old mid → drain_event d.state ≡ Some event → Stopped R l event d d' mid now → WroteFront R l (Drains R 0 start) start d' old now
 draining_stopped R l start d d' event old mid now outcomes so picked (inl nothing) =
     let rest = drained R d outcomes so.sound in
@@ -153,7 +192,7 @@ draining_stopped R l start d d' event old mid now outcomes so picked (inr told) 
     }
 
 -- each event of a drain leaves less to do
-pub falls_told : (R : HandlerRelation) (l : DeviceLine) (d d' : Device) (event : EventData) (old now : Option (List ℕ)) → IsSound d.state → drain_event d.state ≡ Some event → Told R l event d d' old now → work d'.state < work d.state
+pub falls_told : (R : HandlerRelation) (l : DeviceLineData) (d d' : Device) (event : EventData) (old now : Option (List ℕ)) → IsSound d.state → drain_event d.state ≡ Some event → Told R l event d d' old now → work d'.state < work d.state
 falls_told R l d d' event old now sound picked told =
     work_falls R d d' told.made.entry sound (picked ∙ ap (λ (x : EventData). Some x) (sym told.made.is)) told.made.step
 
@@ -183,20 +222,20 @@ made_of R d d' event a logged h is =
       step = record { makes = h; logged = log_kept R d d' event a logged h is };
     }
 
-one_text : (R : HandlerRelation) (l : DeviceLine) (d d' : Device) (event : EventData) (a : AnswerData) (logged : List DoneData) → Makes R d event a d' → logged ≡ drop (length d.state.log) d'.state.log
+one_text : (R : HandlerRelation) (l : DeviceLineData) (d d' : Device) (event : EventData) (a : AnswerData) (logged : List DoneData) → Makes R d event a d' → logged ≡ drop (length d.state.log) d'.state.log
     → entry_text l.name l.settings.qfull (entry_of event a logged) logged ≡ run_text l d (entry_of event a logged ∷ []) d'
 one_text R l d d' event a logged h is =
     ap (entry_text l.name l.settings.qfull (entry_of event a logged)) is
     ∙ sym (text_one R l d d' (entry_of event a logged) (record { makes = h; logged = log_kept R d d' event a logged h is }))
 
-pub told_of : (R : HandlerRelation) (l : DeviceLine) (d d' : Device) (event : EventData) (a : AnswerData) (logged before after : List DoneData) (old now : Option (List ℕ)) → Makes R d event a d'
+pub told_of : (R : HandlerRelation) (l : DeviceLineData) (d d' : Device) (event : EventData) (a : AnswerData) (logged before after : List DoneData) (old now : Option (List ℕ)) → Makes R d event a d'
     → before ≡ d.state.log → after ≡ d'.state.log → logged ≡ drop (length before) after
     → Gained old (entry_text l.name l.settings.qfull (entry_of event a logged) logged) now → Told R l event d d' old now
 told_of R l d d' event a logged before after old now h b c is w =
     let dropped : logged ≡ drop (length d.state.log) d'.state.log = is ∙ ap (λ (x : List DoneData). drop (length x) after) b ∙ ap (drop (length d.state.log)) c in
     record { made = made_of R d d' event a logged h dropped; wrote = gained_as old now _ _ (one_text R l d d' event a logged h dropped) w }
 
-pub stopped_of : (R : HandlerRelation) (l : DeviceLine) (d d' : Device) (event : EventData) (a : AnswerData) (logged before after : List DoneData) (old now : Option (List ℕ)) → Makes R d event a d'
+pub stopped_of : (R : HandlerRelation) (l : DeviceLineData) (d d' : Device) (event : EventData) (a : AnswerData) (logged before after : List DoneData) (old now : Option (List ℕ)) → Makes R d event a d'
     → before ≡ d.state.log → after ≡ d'.state.log → logged ≡ drop (length before) after
     → GainedFront old (entry_text l.name l.settings.qfull (entry_of event a logged) logged) now → Stopped R l event d d' old now
 stopped_of R l d d' event a logged before after old now h b c is w =
@@ -206,13 +245,13 @@ stopped_of R l d d' event a logged before after old now h b c is w =
       wrote = subst (λ (t : List ℕ). GainedFront old t now) (one_text R l d d' event a logged h dropped) w;
     })
 
-pub nothing_came : (R : HandlerRelation) (l : DeviceLine) (d d' : Device) (event : EventData) (old : Option (List ℕ)) → d' ≡ d → Stopped R l event d d' old old
+pub nothing_came : (R : HandlerRelation) (l : DeviceLineData) (d d' : Device) (event : EventData) (old : Option (List ℕ)) → d' ≡ d → Stopped R l event d d' old old
 nothing_came R l d d' event old e = inl (record { device = e; wrote = refl })
 
 -- ==== one task
 
-pub told_wrote : (R : HandlerRelation) (l : DeviceLine) (d d' : Device) (event : EventData) (old now : Option (List ℕ)) → Told R l event d d' old now
-    → Wrote R l (λ es. Plays R 0 d (make event) es d') d d' old now
+pub told_wrote : (R : HandlerRelation) (l : DeviceLineData) (d d' : Device) (event : EventData) (old now : Option (List ℕ)) → Told R l event d d' old now
+    → Wrote R l (λ es. Plays R 0 d (line.Makes event) es d') d d' old now
 told_wrote R l d d' event old now told =
     record {
       entries = told.made.entry ∷ [];
@@ -221,11 +260,11 @@ told_wrote R l d d' event old now told =
       wrote = told.wrote;
     }
 
-pub stopped_front : (R : HandlerRelation) (l : DeviceLine) (d d' : Device) (event : EventData) (old now : Option (List ℕ)) → IsEvent event → Stopped R l event d d' old now
-    → WroteFront R l (Plays R 0 d (make event)) d d' old now
-stopped_front R l d d' event old now fit (inl nothing) =
-    let m = event_made R d event fit in
-    let front : WroteFront R l (Plays R 0 d (make event)) d d old old =
+pub stopped_front : (R : HandlerRelation) (l : DeviceLineData) (d d' : Device) (event : EventData) (old now : Option (List ℕ)) → HasOutcomes R → IsSound d.state → IsEvent event → Stopped R l event d d' old now
+    → WroteFront R l (Plays R 0 d (line.Makes event)) d d' old now
+stopped_front R l d d' event old now outcomes sound fit (inl nothing) =
+    let m = event_made R d event outcomes sound fit in
+    let front : WroteFront R l (Plays R 0 d (line.Makes event)) d d old old =
     record {
       made = [];
       rest = m.1.entry ∷ [];
@@ -235,9 +274,9 @@ stopped_front R l d d' event old now fit (inl nothing) =
       more = run_one R d (m.0) m.1.entry m.1.step;
       wrote = front_none old [];
     } in
-    subst (λ (w : Option (List ℕ)). WroteFront R l (Plays R 0 d (make event)) d d' old w) (sym nothing.wrote)
-    (subst (λ (x : Device). WroteFront R l (Plays R 0 d (make event)) d x old old) (sym nothing.device) front)
-stopped_front R l d d' event old now fit (inr told) =
+    subst (λ (w : Option (List ℕ)). WroteFront R l (Plays R 0 d (line.Makes event)) d d' old w) (sym nothing.wrote)
+    (subst (λ (x : Device). WroteFront R l (Plays R 0 d (line.Makes event)) d x old old) (sym nothing.device) front)
+stopped_front R l d d' event old now outcomes sound fit (inr told) =
     record {
       made = told.made.entry ∷ [];
       rest = [];
@@ -251,17 +290,17 @@ stopped_front R l d d' event old now fit (inr told) =
 -- ==== a replay
 
 -- what was replayed so far
-pub record Playing (R : HandlerRelation) (l : DeviceLine) (start d : Device) (tasks left : List Task) (old now : Option (List ℕ)) : Type 0 where
+pub record Playing (R : HandlerRelation) (l : DeviceLineData) (start d : Device) (tasks left : List LineWhat) (old now : Option (List ℕ)) : Type 0 where
   pub sofar : List EntryData
   pub run : Run R start sofar d
   pub goes_on : (rest : List EntryData) (end : Device) → Replays R 0 d left rest end → Replays R 0 start tasks (sofar ++ rest) end
   pub wrote : Gained old (run_text l start sofar d) now
   pub sound : IsSound d.state
 
-pub playing_first : (R : HandlerRelation) (l : DeviceLine) (d : Device) (tasks : List Task) (old : Option (List ℕ)) → IsSound d.state → Playing R l d d tasks tasks old old
+pub playing_first : (R : HandlerRelation) (l : DeviceLineData) (d : Device) (tasks : List LineWhat) (old : Option (List ℕ)) → IsSound d.state → Playing R l d d tasks tasks old old
 playing_first R l d tasks old sound = record { sofar = []; run = refl; goes_on = λ rest end h. h; wrote = gained_none old; sound = sound }
 
-pub playing_more : (R : HandlerRelation) (l : DeviceLine) (start d d' : Device) (tasks left : List Task) (task : Task) (old mid now : Option (List ℕ))
+pub playing_more : (R : HandlerRelation) (l : DeviceLineData) (start d d' : Device) (tasks left : List LineWhat) (task : LineWhat) (old mid now : Option (List ℕ))
     → Playing R l start d tasks (task ∷ left) old mid → Wrote R l (λ es. Plays R 0 d task es d') d d' mid now → Playing R l start d' tasks left old now
 playing_more R l start d d' tasks left task old mid now so w =
     record {
@@ -273,7 +312,7 @@ playing_more R l start d d' tasks left task old mid now so w =
       sound = sound_run R d d' w.entries so.sound w.run;
     }
 
-pub playing_stopped : (R : HandlerRelation) (l : DeviceLine) (start d d' : Device) (tasks left : List Task) (task : Task) (old mid now : Option (List ℕ)) → HasOutcomes R → Every IsFit left
+pub playing_stopped : (R : HandlerRelation) (l : DeviceLineData) (start d d' : Device) (tasks left : List LineWhat) (task : LineWhat) (old mid now : Option (List ℕ)) → HasOutcomes R → Every IsFit left
     → Playing R l start d tasks (task ∷ left) old mid → WroteFront R l (Plays R 0 d task) d d' mid now → WroteFront R l (Replays R 0 start tasks) start d' old now
 playing_stopped R l start d d' tasks left task old mid now outcomes fit so w =
     let all_run = run_append R d d' w.end w.made w.rest w.run w.more in
@@ -292,7 +331,7 @@ playing_stopped R l start d d' tasks left task old mid now outcomes fit so w =
     regroup : (a b c x : List EntryData) → a ++ ((b ++ c) ++ x) ≡ (a ++ b) ++ (c ++ x)
     regroup a b c x = ap (λ (l : List EntryData). a ++ l) (append_assoc b c x) ∙ sym (append_assoc a b (c ++ x))
 
-pub playing_done : (R : HandlerRelation) (l : DeviceLine) (start d d' : Device) (tasks : List Task) (old mid now : Option (List ℕ))
+pub playing_done : (R : HandlerRelation) (l : DeviceLineData) (start d d' : Device) (tasks : List LineWhat) (old mid now : Option (List ℕ))
     → Playing R l start d tasks [] old mid → Wrote R l (λ es. Drains R 0 d es d') d d' mid now → Wrote R l (λ es. Replays R 0 start tasks es d') start d' old now
 playing_done R l start d d' tasks old mid now so w =
     record {
@@ -302,7 +341,7 @@ playing_done R l start d d' tasks old mid now so w =
       wrote = gained_as old now _ _ (sym (text_more R l start d d' so.sofar w.entries so.run w.run)) (gained_more old mid now _ _ so.wrote w.wrote);
     }
 
-pub playing_end_stopped : (R : HandlerRelation) (l : DeviceLine) (start d d' : Device) (tasks : List Task) (old mid now : Option (List ℕ))
+pub playing_end_stopped : (R : HandlerRelation) (l : DeviceLineData) (start d d' : Device) (tasks : List LineWhat) (old mid now : Option (List ℕ))
     → Playing R l start d tasks [] old mid → WroteFront R l (Drains R 0 d) d d' mid now → WroteFront R l (Replays R 0 start tasks) start d' old now
 playing_end_stopped R l start d d' tasks old mid now so w =
     record {
@@ -317,11 +356,11 @@ playing_end_stopped R l start d d' tasks old mid now so w =
 
 -- ==== the lines that are left
 
-pub tasks_at : (ls : List LineKind) (i : ℕ) (l : LineKind) → i < length ls → l ≡ get_or ls i l → map task_of (drop i ls) ≡ task_of l ∷ map task_of (drop (i + 1) ls)
-tasks_at ls i l lt is = ap (map task_of) (drop_more ls i l lt ∙ ap (λ (x : LineKind). x ∷ drop (i + 1) ls) (sym is))
+pub lines_at : (ls : List LineData) (i : ℕ) (l : LineData) → i < length ls → l ≡ get_or ls i l → asks (drop i ls) ≡ l.what ∷ asks (drop (i + 1) ls)
+lines_at ls i l lt is = ap asks (drop_more ls i l lt ∙ ap (λ (x : LineData). x ∷ drop (i + 1) ls) (sym is))
 
-pub none_left : (ls : List LineKind) (i : ℕ) → length ls ≤ i → map task_of (drop i ls) ≡ []
-none_left ls i le = ap (map task_of) (drop_all i ls le)
+pub none_left : (ls : List LineData) (i : ℕ) → length ls ≤ i → asks (drop i ls) ≡ []
+none_left ls i le = ap asks (drop_all i ls le)
 
 -- ==== from what the code finds
 
@@ -329,19 +368,43 @@ pub picked_by : (d : DeviceState) (t : Todo) (o : Option Event) → t ≡ todo_o
 unfolding drain_event
 picked_by d t o is value = sym (value ∙ ap chosen is)
 
-pub can_of_fit : (event : EventData) (task : Task) → task ≡ make event → IsFit task → CanBeMade event
-can_of_fit event task is fit = go event (subst IsFit is fit)
+rises : (n : ℕ) (ns : List ℕ) → is_rising (n ∷ ns) ≡ true → RisesAbove n ns
+rises n [] h = tt
+rises n (m ∷ ns) h = let both = both_true (nat_lt n m) (is_rising (m ∷ ns)) h in (ltb-true n m both.0, rises m ns both.1)
   where
-    go : (e : EventData) → IsEvent e → CanBeMade e
-    go (ev.Submit c) h = tt
-    go _ h = absurd h
+    both_true : (a b : Bool) → (a && b) ≡ true → (a ≡ true) × (b ≡ true)
+    both_true true b e = (refl, e)
+    both_true false b e = absurd (cc)
 
-pub told_task : (R : HandlerRelation) (l : DeviceLine) (d d' : Device) (event : EventData) (task : Task) (old now : Option (List ℕ)) → task ≡ make event → Told R l event d d' old now
+rising_is : (ns : List ℕ) → is_rising ns ≡ true → IsRising ns
+rising_is [] h = tt
+rising_is (n ∷ ns) h = rises n ns h
+
+can_be_made : (e : EventData) → IsEvent e → CanBeMade e
+can_be_made (ev.Reset level) h = (h.least, h.most)
+can_be_made (ev.Tmr kind ss) h = (h.known.least, h.known.most, rising_is ss h.rising.rising)
+can_be_made (ev.Submit c) h = tt
+can_be_made ev.Dispatch h = tt
+can_be_made (ev.Handle s) h = tt
+can_be_made (ev.Respond s) h = tt
+can_be_made ev.Publish h = tt
+can_be_made ev.Clean h = tt
+can_be_made (ev.Tick n) h = tt
+can_be_made ev.Block h = tt
+can_be_made ev.Unblock h = tt
+can_be_made ev.Restart h = tt
+can_be_made ev.Stat h = tt
+can_be_made ev.Enter h = tt
+
+pub can_of_fit : (event : EventData) (task : LineWhat) → task ≡ line.Makes event → IsFit task → CanBeMade event
+can_of_fit event task is fit = can_be_made event (subst IsFit is fit)
+
+pub told_task : (R : HandlerRelation) (l : DeviceLineData) (d d' : Device) (event : EventData) (task : LineWhat) (old now : Option (List ℕ)) → task ≡ line.Makes event → Told R l event d d' old now
     → Wrote R l (λ es. Plays R 0 d task es d') d d' old now
 told_task R l d d' event task old now is told =
-    subst (λ (t : Task). Wrote R l (λ es. Plays R 0 d t es d') d d' old now) (sym is) (told_wrote R l d d' event old now told)
+    subst (λ (t : LineWhat). Wrote R l (λ es. Plays R 0 d t es d') d d' old now) (sym is) (told_wrote R l d d' event old now told)
 
-pub stopped_task : (R : HandlerRelation) (l : DeviceLine) (d d' : Device) (event : EventData) (task : Task) (old now : Option (List ℕ)) → task ≡ make event → IsFit task → Stopped R l event d d' old now
+pub stopped_task : (R : HandlerRelation) (l : DeviceLineData) (d d' : Device) (event : EventData) (task : LineWhat) (old now : Option (List ℕ)) → task ≡ line.Makes event → HasOutcomes R → IsSound d.state → IsFit task → Stopped R l event d d' old now
     → WroteFront R l (Plays R 0 d task) d d' old now
-stopped_task R l d d' event task old now is fit stopped =
-    subst (λ (t : Task). WroteFront R l (Plays R 0 d t) d d' old now) (sym is) (stopped_front R l d d' event old now (subst IsFit is fit) stopped)
+stopped_task R l d d' event task old now is outcomes sound fit stopped =
+    subst (λ (t : LineWhat). WroteFront R l (Plays R 0 d t) d d' old now) (sym is) (stopped_front R l d d' event old now outcomes sound (subst IsFit is fit) stopped)

@@ -7,7 +7,7 @@ use Rattle.tcmu_types.specs.Data.{DoneData}
 use Rattle.tcmu_types.specs.Events.{EventData, EntryData}
 use Rattle.tcmu_model.specs.Device.{Device}
 use Rattle.tcmu_model.specs.Steps.{HandlerRelation, Step, Run}
-use Rattle.tcmu_top.specs.FirstReplay.{DeviceLine}
+use Rattle.tcmu_model.specs.ScenarioData.{DeviceLineData}
 use Rattle.tcmu_model.specs.Text.{entry_text, entries_text}
 use Rattle.tcmu_model.proofs.Logs.{makes_grows}
 use Rattle.tcmu_top.specs.Playing.{run_text}
@@ -79,13 +79,13 @@ pub run_append : (R : HandlerRelation) (d m d' : Device) (xs ys : List EntryData
 run_append R d m d' [] ys h k = subst (λ (x : Device). Run R x ys d') h k
 run_append R d m d' (x ∷ xs) ys h k = (h.0, h.1, run_append R h.0 m d' xs ys h.2 k)
 
-text_of : (l : DeviceLine) (d d' : Device) (es : List EntryData) (done : List DoneData) → d'.state.log ≡ d.state.log ++ done
+text_of : (l : DeviceLineData) (d d' : Device) (es : List EntryData) (done : List DoneData) → d'.state.log ≡ d.state.log ++ done
     → run_text l d es d' ≡ entries_text l.name l.settings.qfull es done
 text_of l d d' es done e =
     ap (entries_text l.name l.settings.qfull es) (ap (drop (length d.state.log)) e ∙ drop_front d.state.log done (length d.state.log) refl)
 
 -- one run behind another: their texts stand behind one another
-pub text_more : (R : HandlerRelation) (l : DeviceLine) (d m d' : Device) (xs ys : List EntryData) → Run R d xs m → Run R m ys d'
+pub text_more : (R : HandlerRelation) (l : DeviceLineData) (d m d' : Device) (xs ys : List EntryData) → Run R d xs m → Run R m ys d'
     → run_text l d (xs ++ ys) d' ≡ run_text l d xs m ++ run_text l m ys d'
 text_more R l d m d' xs ys h k =
     let a = run_logged R d m xs h in
@@ -97,7 +97,7 @@ text_more R l d m d' xs ys h k =
     ∙ ap (λ (x : List ℕ). run_text l d xs m ++ x) (sym (text_of l m d' ys b.done b.log))
 
 -- the text of one entry, with the completions that it logged
-pub text_one : (R : HandlerRelation) (l : DeviceLine) (d d' : Device) (e : EntryData) → Step R d e d'
+pub text_one : (R : HandlerRelation) (l : DeviceLineData) (d d' : Device) (e : EntryData) → Step R d e d'
     → run_text l d (e ∷ []) d' ≡ entry_text l.name l.settings.qfull e (drop (length d.state.log) d'.state.log)
 text_one R l d d' e s =
     let one = step_logged R d d' e s in

@@ -1,10 +1,11 @@
--- What a device can be asked, and the tasks that a scenario gives it so far: commands that keep their rules, and drains.
-use Rattle.std.specs.Prelude.{ℕ, ◌≤◌}
-use Rattle.tcmu_types.specs.Rules.{IsCommand}
+-- What can be asked of a device: the lines that are served.
+use Rattle.std.specs.Prelude.{ℕ, ◌≤◌, List, map}
 use Rattle.tcmu_types.specs.Events.{EventData}
 use Rattle.tcmu_types.specs.Events as ev
 use Rattle.tcmu_model.specs.Lists.{IsRising}
-use Rattle.tcmu_top.specs.FirstReplay.{Task, make, drain}
+use Rattle.tcmu_model.specs.ScenarioData.{LineData, LineWhat}
+use Rattle.tcmu_model.specs.ScenarioData as line
+use Rattle.tcmu_model.specs.ScenarioRules.{IsEvent}
 
 -- a reset is of level 1 or 2, and a note of kind 1 to 7 on rising serials
 abbrev pub CanBeMade : EventData → Type 0
@@ -17,10 +18,12 @@ abbrev pub accepted_by : EventData → ℕ
 accepted_by (ev.Submit c) = 1
 accepted_by _ = 0
 
-abbrev pub IsEvent : EventData → Type 0
-IsEvent (ev.Submit c) = IsCommand c
-IsEvent _ = ⊥
+-- an event within its limits, or a drain; dumps are not served yet
+abbrev pub IsFit : LineWhat → Type 0
+IsFit (line.Makes event) = IsEvent event
+IsFit line.Drains = Unit {0}
+IsFit line.Dumps = ⊥
 
-abbrev pub IsFit : Task → Type 0
-IsFit (make event) = IsEvent event
-IsFit drain = Unit {0}
+-- what these lines ask for
+abbrev pub asks : List LineData → List LineWhat
+asks ls = map (λ l. l.what) ls

@@ -1,31 +1,38 @@
 -- What the top call says of what it read and wrote.
-use Rattle.std.specs.Prelude.{◌≡◌, ◌≢◌, ◌⊎◌, ℕ, ◌<◌, ◌≤◌, Bool, true, false, List, [], ◌∷◌, ◌++◌, length, Option, None, Some, IfSome, bytes_eq, codes}
+use Rattle.std.specs.Prelude.{◌≡◌, ◌≢◌, ◌⊎◌, ℕ, ◌*◌, Bool, true, false, List, [], ◌∷◌, ◌++◌, replicate, Option, IfSome, Ok, Err, bytes_eq, codes}
+use Rattle.std.specs.Fmt.{decimal}
 use Rattle.tcmu_types.specs.Numbered.{Rose}
 use Rattle.tcmu_types.specs.Events.{EntryData}
 use Rattle.edge.specs.Outside.{Tells, Gained, GainedFront}
+use Rattle.tcmu_model.specs.MediumState.{MediumState}
+use Rattle.tcmu_model.specs.Medium.{memory_state}
+use Rattle.tcmu_model.specs.Scsi.{Serves}
 use Rattle.tcmu_model.specs.Device.{Device, opening}
 use Rattle.tcmu_model.specs.Steps.{HandlerRelation, Run}
-use Rattle.tcmu_top.specs.FirstReplay.{Task, DeviceLine, IsReplayText}
-use Rattle.tcmu_top.specs.FirstForm.{ScenarioData, scenario_of}
-use Rattle.tcmu_top.specs.Serving.{Serves, memory_medium, blank}
-use Rattle.tcmu_top.specs.declared.status.Why.{Why}
-use Rattle.tcmu_top.specs.declared.status.Why.TheVariants as why
+use Rattle.tcmu_model.specs.Config.{MediumData, InMemory, InFile}
+use Rattle.tcmu_model.specs.ScenarioData.{DeviceLineData, LineWhat, ScenarioData}
+use Rattle.tcmu_model.specs.Scenario.{Bad, scenario_of}
+use Rattle.tcmu_model.specs.Words.{why_word}
+use Rattle.tcmu_model.specs.Replay.{IsReplayText}
+use Rattle.tcmu_model.specs.declared.faults.Why.{Why}
+use Rattle.tcmu_model.specs.declared.faults.Why.TheVariants as why
+use Rattle.tcmu_top.specs.Tasks.{asks}
 use Rattle.tcmu_top.specs.declared.status.Status.{Status}
 use Rattle.tcmu_top.specs.declared.status.Status.TheVariants as status
 
 -- ==== one device, over any handler
 
 -- the whole text of a replay was written, and the device is as the replay ended
-pub record Replayed (R : HandlerRelation) (l : DeviceLine) (opened : Device) (tasks : List Task) (d' : Device) (old new : Option (List ℕ)) : Type 0 where
+pub record Replayed (R : HandlerRelation) (l : DeviceLineData) (opened : Device) (lines : List LineWhat) (d' : Device) (old new : Option (List ℕ)) : Type 0 where
   pub text : List ℕ
-  pub is : IsReplayText R l opened tasks text
+  pub is : IsReplayText R l opened lines text
   pub end : is.end ≡ d'
   pub gained : Gained old text new
 
 -- a front of such a text was written, and the device is the end of the run of those of its entries that were made
-pub record ReplayedInPart (R : HandlerRelation) (l : DeviceLine) (opened : Device) (tasks : List Task) (d' : Device) (old new : Option (List ℕ)) : Type 0 where
+pub record ReplayedInPart (R : HandlerRelation) (l : DeviceLineData) (opened : Device) (lines : List LineWhat) (d' : Device) (old new : Option (List ℕ)) : Type 0 where
   pub text : List ℕ
-  pub is : IsReplayText R l opened tasks text
+  pub is : IsReplayText R l opened lines text
   pub made : List EntryData
   pub rest : List EntryData
   pub order : is.entries ≡ made ++ rest
@@ -34,33 +41,41 @@ pub record ReplayedInPart (R : HandlerRelation) (l : DeviceLine) (opened : Devic
 
 -- ==== a scenario
 
--- a device of a device line, as it opens: its medium is memory, and zero
-abbrev pub opened : DeviceLine → Device
-opened l = opening l.settings l.name (memory_medium (blank l.blocks))
+-- a medium as it opens: memory, all zeros; files are not served yet
+abbrev pub IsBlank : MediumData → MediumState → Type 0
+IsBlank (InMemory blocks) m = m ≡ memory_state blocks (replicate (512 * blocks) 0) 0
+IsBlank (InFile name) m = ⊥
 
--- the text is one of a replay of these tasks on these devices, so far at most one
-abbrev pub IsTextOf : List DeviceLine → List Task → List ℕ → Type 0
-IsTextOf [] tasks text = text ≡ []
-IsTextOf (l ∷ more) tasks text = IsReplayText Serves l (opened l) tasks text
+-- the device of a device line, as it opens
+abbrev pub Opens : DeviceLineData → Device → Type 0
+Opens l d = (medium : MediumState) × IsBlank l.config.kind medium × (d ≡ opening l.settings l.name medium)
+
+-- the text is one of a replay of these lines on these devices, so far at most one
+abbrev pub IsTextOn : List DeviceLineData → List LineWhat → List ℕ → Type 0
+IsTextOn [] lines text = text ≡ []
+IsTextOn (l ∷ []) lines text = (opened : Device) × Opens l opened × IsReplayText Serves l opened lines text
+IsTextOn (l ∷ k ∷ more) lines text = ⊥
+
+abbrev pub IsTextOf : ScenarioData → List ℕ → Type 0
+IsTextOf s text = IsTextOn s.devices (asks s.lines) text
 
 -- the whole text of a scenario's replay was written
 pub record TextWritten (s : ScenarioData) (old new : Option (List ℕ)) : Type 0 where
   pub text : List ℕ
-  pub is : IsTextOf s.devices s.tasks text
+  pub is : IsTextOf s text
   pub gained : Gained old text new
 
 -- a front of such a text was written
 pub record TextWrittenInPart (s : ScenarioData) (old new : Option (List ℕ)) : Type 0 where
   pub text : List ℕ
-  pub is : IsTextOf s.devices s.tasks text
+  pub is : IsTextOf s text
   pub gained : GainedFront old text new
 
--- The source had these bytes, and no more than a scenario has. They are this scenario.
+-- all that the source had is this scenario
 pub record HadScenario (left : Option (List ℕ)) (s : ScenarioData) : Type 0 where
   pub bytes : List ℕ
   pub told : Tells left bytes
-  pub short : length bytes ≤ 4194304
-  pub reads : scenario_of bytes ≡ Some s
+  pub reads : scenario_of bytes ≡ Ok s
 
 -- all that the source had is a scenario, and the whole text of its replay was written
 pub record Wrote (left : Option (List ℕ)) (old new : Option (List ℕ)) : Type 0 where
@@ -74,10 +89,14 @@ pub record WroteInPart (left : Option (List ℕ)) (old new : Option (List ℕ)) 
   pub had : HadScenario left scenario
   pub wrote : TextWrittenInPart scenario old new
 
--- the source had too much; or all that it had is no scenario of the form that is served
-abbrev pub IsNoScenario : Why → Option (List ℕ) → Type 0
-IsNoScenario why.TooLong left = IfSome left (λ bytes. 4194304 < length bytes)
-IsNoScenario why.NotYet left = (bytes : List ℕ) × Tells left bytes × (length bytes ≤ 4194304) × (scenario_of bytes ≡ None)
+-- the fault of bytes that are more than a scenario has
+abbrev pub too_long : Bad
+too_long = record { line = 0; why = why.TooLong }
+
+-- what the source had is no scenario, for this fault: it had more than a scenario has, or it was read to its end
+abbrev pub IsNoScenario : Option (List ℕ) → Bad → Type 0
+IsNoScenario left bad =
+    ((bad ≡ too_long) × IfSome left (λ bytes. scenario_of bytes ≡ Err bad)) ⊎ ((bytes : List ℕ) × Tells left bytes × (scenario_of bytes ≡ Err bad))
 
 -- ==== the statuses
 
@@ -101,15 +120,15 @@ pub record Ends (left : Option (List ℕ)) (read read' : ℕ) (old new : Option 
   -- memory was wanting: before the scenario was read, and then nothing was written, or while it was replayed
   pub no_memory : ended ≡ status.NoMemory → (new ≡ old) ⊎ WroteInPart left old new
   -- what the source had is no scenario, and nothing was written
-  pub bad_scenario : (line : ℕ) (reason : Why) → ended ≡ status.BadScenario line reason → (line ≡ 0) × IsNoScenario reason left × (new ≡ old)
+  pub bad_scenario : (line : ℕ) (reason : Why) → ended ≡ status.BadScenario line reason → IsNoScenario left (record { line = line; why = reason }) × (new ≡ old)
   pub words : ended ≢ status.BadWords
 
 -- the same, where the bytes are at hand
 pub record BytesEnd (bytes : List ℕ) (old new : Option (List ℕ)) (wrote wrote' : ℕ) (ended : Status) : Type 0 where
-  pub ok : ended ≡ status.Ok → (s : ScenarioData) × (scenario_of bytes ≡ Some s) × TextWritten s old new
-  pub write_fault : ended ≡ status.WriteFault → Rose wrote wrote' × ((s : ScenarioData) × (scenario_of bytes ≡ Some s) × TextWrittenInPart s old new)
-  pub no_memory : ended ≡ status.NoMemory → (new ≡ old) ⊎ ((s : ScenarioData) × (scenario_of bytes ≡ Some s) × TextWrittenInPart s old new)
-  pub bad_scenario : (line : ℕ) (reason : Why) → ended ≡ status.BadScenario line reason → (line ≡ 0) × (reason ≡ why.NotYet) × (scenario_of bytes ≡ None) × (new ≡ old)
+  pub ok : ended ≡ status.Ok → (s : ScenarioData) × (scenario_of bytes ≡ Ok s) × TextWritten s old new
+  pub write_fault : ended ≡ status.WriteFault → Rose wrote wrote' × ((s : ScenarioData) × (scenario_of bytes ≡ Ok s) × TextWrittenInPart s old new)
+  pub no_memory : ended ≡ status.NoMemory → (new ≡ old) ⊎ ((s : ScenarioData) × (scenario_of bytes ≡ Ok s) × TextWrittenInPart s old new)
+  pub bad_scenario : (line : ℕ) (reason : Why) → ended ≡ status.BadScenario line reason → (scenario_of bytes ≡ Err (record { line = line; why = reason })) × (new ≡ old)
   pub words : ended ≢ status.BadWords
   pub reads : ended ≢ status.ReadFault
 
@@ -122,13 +141,9 @@ are_replay (word ∷ other ∷ more) = false
 
 -- ==== the fault line
 
-abbrev pub why_text : Why → List ℕ
-why_text why.NotYet = codes "notyet"
-why_text why.TooLong = codes "toolong"
-
--- the line that goes to the error stream; a fault names no place yet
+-- the line that goes to the error stream
 abbrev pub fault_text : Status → List ℕ
-fault_text (status.BadScenario line why) = codes "tcmu_lab: line 0: " ++ why_text why ++ 10 ∷ []
+fault_text (status.BadScenario line why) = codes "tcmu_lab: line " ++ decimal line ++ codes ": " ++ why_word why ++ 10 ∷ []
 fault_text status.BadWords = codes "tcmu_lab: words" ++ 10 ∷ []
 fault_text status.Ok = []
 fault_text status.ReadFault = []

@@ -1,7 +1,7 @@
 //! How many commands are open.
 ghost use Rattle.std.specs.Prelude.{◌≡◌, ◌+◌, ◌-◌, ◌^◌, ◌≤◌, ◌<◌};
 ghost use Rattle.tcmu_model.specs.Sound.{IsSound};
-ghost use Rattle.tcmu_top.specs.FirstReplay.{open_count};
+ghost use Rattle.tcmu_model.specs.Replay.{open_count};
 
 use tcmu_path::Path;
 use tcmu_types::Stat;

@@ -8,15 +8,14 @@ ghost use Rattle.tcmu_model.specs.Steps.{Makes};
 ghost use Rattle.tcmu_model.specs.Drain.{chosen, Drains};
 ghost use Rattle.tcmu_model.specs.Sound.{IsSound, Every};
 ghost use Rattle.tcmu_model.specs.Work.{HasOutcomes};
-ghost use Rattle.tcmu_top.specs.FirstReplay.{Plays, Replays};
+ghost use Rattle.tcmu_model.specs.Replay.{Plays, Replays};
 ghost use Rattle.tcmu_path.specs.Calls.{Accepts};
-ghost use Rattle.tcmu_top.specs.Forms.{task_of};
-ghost use Rattle.tcmu_top.specs.Tasks.{CanBeMade, accepted_by, IsEvent, IsFit};
+ghost use Rattle.tcmu_top.specs.Tasks.{CanBeMade, accepted_by, IsFit, asks};
 ghost use Rattle.tcmu_top.specs.Playing.{Told, Stopped, Wrote, WroteFront};
 
-use crate::scenario_text::{DeviceLine, LineKind};
 use crate::writing::{Stop, write_entry};
 use edge::Sink;
+use scenario_text::{DeviceLine, Line, LineKind};
 use std::alloc::Global;
 use tcmu_path::Path;
 use tcmu_types::{Answer, Done, Event, NoMemory, Todo};
@@ -85,15 +84,15 @@ fn behind(log: &[Done], before: usize) -> &[Done]
 /// Makes an event and writes it.
 fn play<P: Path, K: Sink>(
     alloc: Global,
-    line: &DeviceLine,
+    device: &DeviceLine,
     path: &mut P,
     event: &Event,
     out: &mut K,
 ) -> Result<(), Stop>
     requires few { (P.device path.old).state.accepted < 2 ^ 63 }
     requires can { CanBeMade (event_data event.now) }
-    ensures ok { OnOk result (Told P.relation line.now (event_data event.now) (P.device path.old) (P.device path.new) (K.written out.old) (K.written out.new)) }
-    ensures err { OnErr result (Stopped P.relation line.now (event_data event.now) (P.device path.old) (P.device path.new) (K.written out.old) (K.written out.new)) }
+    ensures ok { OnOk result (Told P.relation device.now (event_data event.now) (P.device path.old) (P.device path.new) (K.written out.old) (K.written out.new)) }
+    ensures err { OnErr result (Stopped P.relation device.now (event_data event.now) (P.device path.old) (P.device path.new) (K.written out.old) (K.written out.new)) }
     ensures fault { IsErrOf result Stop.WriteFault → Rose (K.faults out.old) (K.faults out.new) }
     ensures later { K.faults out.old ≤ K.faults out.new }
     ensures accepts { Accepts (accepted_by (event_data event.now)) (P.device path.old) (P.device path.new) }
@@ -101,27 +100,27 @@ fn play<P: Path, K: Sink>(
     let before = path.log().len();
     let answer = make(alloc, path, event)?;
     let logged = behind(path.log(), before);
-    write_entry(alloc, line, event, &answer, logged, out)
+    write_entry(alloc, device, event, &answer, logged, out)
 }
 
 /// Makes and writes what a drain asks for.
 fn drain<P: Path, K: Sink>(
     alloc: Global,
-    line: &DeviceLine,
+    device: &DeviceLine,
     path: &mut P,
     out: &mut K,
 ) -> Result<(), Stop>
     requires few { (P.device path.old).state.accepted < 2 ^ 63 }
     requires sound { IsSound (P.device path.old).state }
     requires outcomes { HasOutcomes P.relation }
-    ensures ok { OnOk result (Wrote P.relation line.now (λ es. Drains P.relation 0 (P.device path.old) es (P.device path.new)) (P.device path.old) (P.device path.new) (K.written out.old) (K.written out.new)) }
-    ensures err { OnErr result (WroteFront P.relation line.now (Drains P.relation 0 (P.device path.old)) (P.device path.old) (P.device path.new) (K.written out.old) (K.written out.new)) }
+    ensures ok { OnOk result (Wrote P.relation device.now (λ es. Drains P.relation 0 (P.device path.old) es (P.device path.new)) (P.device path.old) (P.device path.new) (K.written out.old) (K.written out.new)) }
+    ensures err { OnErr result (WroteFront P.relation device.now (Drains P.relation 0 (P.device path.old)) (P.device path.old) (P.device path.new) (K.written out.old) (K.written out.new)) }
     ensures fault { IsErrOf result Stop.WriteFault → Rose (K.faults out.old) (K.faults out.new) }
     ensures later { K.faults out.old ≤ K.faults out.new }
     ensures accepts { Accepts 0 (P.device path.old) (P.device path.new) }
 {
     while let Some(event) = next_event(&path.todo()) {
-        play(alloc, line, path, &event, out)?;
+        play(alloc, device, path, &event, out)?;
     }
     Ok(())
 }
@@ -129,48 +128,49 @@ fn drain<P: Path, K: Sink>(
 /// Makes and writes what a line asks for.
 fn play_line<P: Path, K: Sink>(
     alloc: Global,
-    line: &DeviceLine,
+    device: &DeviceLine,
     path: &mut P,
-    what: &LineKind,
+    line: &Line,
     out: &mut K,
 ) -> Result<(), Stop>
     requires few { (P.device path.old).state.accepted < 2 ^ 63 }
     requires sound { IsSound (P.device path.old).state }
     requires outcomes { HasOutcomes P.relation }
-    requires fit { IsFit (task_of what.now) }
-    ensures ok { OnOk result (Wrote P.relation line.now (λ es. Plays P.relation 0 (P.device path.old) (task_of what.now) es (P.device path.new)) (P.device path.old) (P.device path.new) (K.written out.old) (K.written out.new)) }
-    ensures err { OnErr result (WroteFront P.relation line.now (Plays P.relation 0 (P.device path.old) (task_of what.now)) (P.device path.old) (P.device path.new) (K.written out.old) (K.written out.new)) }
+    requires fit { IsFit line.now.what }
+    ensures ok { OnOk result (Wrote P.relation device.now (λ es. Plays P.relation 0 (P.device path.old) line.now.what es (P.device path.new)) (P.device path.old) (P.device path.new) (K.written out.old) (K.written out.new)) }
+    ensures err { OnErr result (WroteFront P.relation device.now (Plays P.relation 0 (P.device path.old) line.now.what) (P.device path.old) (P.device path.new) (K.written out.old) (K.written out.new)) }
     ensures fault { IsErrOf result Stop.WriteFault → Rose (K.faults out.old) (K.faults out.new) }
     ensures later { K.faults out.old ≤ K.faults out.new }
     ensures accepts { Accepts 1 (P.device path.old) (P.device path.new) }
 {
-    match what {
-        LineKind::Event(event) => play(alloc, line, path, event, out),
-        LineKind::Drain => drain(alloc, line, path, out),
+    match &line.what {
+        LineKind::Event(event) => play(alloc, device, path, event, out),
+        LineKind::Drain => drain(alloc, device, path, out),
+        LineKind::Dump => unreachable!(),
     }
 }
 
 /// Makes and writes what the lines ask for, and drains the device behind the last.
 pub fn replay<P: Path, K: Sink>(
     alloc: Global,
-    line: &DeviceLine,
+    device: &DeviceLine,
     path: &mut P,
-    lines: &[LineKind],
+    lines: &[Line],
     out: &mut K,
 ) -> Result<(), Stop>
     requires few { (P.device path.old).state.accepted + length lines.now < 2 ^ 63 }
     requires sound { IsSound (P.device path.old).state }
     requires outcomes { HasOutcomes P.relation }
-    requires fit { Every IsFit (map task_of lines.now) }
-    ensures ok { OnOk result (Wrote P.relation line.now (λ es. Replays P.relation 0 (P.device path.old) (map task_of lines.now) es (P.device path.new)) (P.device path.old) (P.device path.new) (K.written out.old) (K.written out.new)) }
-    ensures err { OnErr result (WroteFront P.relation line.now (Replays P.relation 0 (P.device path.old) (map task_of lines.now)) (P.device path.old) (P.device path.new) (K.written out.old) (K.written out.new)) }
+    requires fit { Every IsFit (asks lines.now) }
+    ensures ok { OnOk result (Wrote P.relation device.now (λ es. Replays P.relation 0 (P.device path.old) (asks lines.now) es (P.device path.new)) (P.device path.old) (P.device path.new) (K.written out.old) (K.written out.new)) }
+    ensures err { OnErr result (WroteFront P.relation device.now (Replays P.relation 0 (P.device path.old) (asks lines.now)) (P.device path.old) (P.device path.new) (K.written out.old) (K.written out.new)) }
     ensures fault { IsErrOf result Stop.WriteFault → Rose (K.faults out.old) (K.faults out.new) }
     ensures later { K.faults out.old ≤ K.faults out.new }
     ensures still_sound { OnOk result (IsSound (P.device path.new).state) }
     ensures still_few { OnOk result ((P.device path.new).state.accepted < 2 ^ 63) }
 {
-    for what in lines {
-        play_line(alloc, line, path, what, out)?;
+    for line in lines {
+        play_line(alloc, device, path, line, out)?;
     }
-    drain(alloc, line, path, out)
+    drain(alloc, device, path, out)
 }

@@ -2,14 +2,7 @@
 ghost use Rattle.std.specs.Prelude.{◌≡◌};
 ghost use Rattle.tcmu_top.specs.Top.{code_of};
 
-/// Why bytes are no scenario that is served.
-#[derive(Clone, Copy, Debug, PartialEq, Eq)]
-pub enum Why {
-    /// They may be a scenario, but are not of the one form that is served so far.
-    NotYet,
-    /// They are more than 4,194,304.
-    TooLong,
-}
+use tcmu_model::Why;
 
 /// How a run ends.
 #[derive(Clone, Copy, Debug, PartialEq, Eq)]
@@ -22,7 +15,7 @@ pub enum Status {
     WriteFault,
     /// Memory was wanting; a front of the text is written.
     NoMemory,
-    /// The bytes are no scenario. A fault names no line yet: it is 0.
+    /// The bytes are no scenario: the first bad line, counted from 1, and the first rule that it breaks. Line 0 where they are too long.
     BadScenario { line: u32, why: Why },
     /// The words are none that the program knows.
     BadWords,

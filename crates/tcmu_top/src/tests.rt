@@ -7,10 +7,10 @@ use tcmu_types::{Bytes, NoMemory, Serials, Words};
 
 const DEVICE: &str = "device d0 tcm-user/0/d0/mem/64 ring=4096 blocks=16 flags=ooo timeout=30\n";
 
-const NOT_YET: Status = Status::BadScenario {
-    line: 0,
-    why: Why::NotYet,
-};
+/// The fault of a line.
+fn bad(line: u32, why: Why) -> Status {
+    Status::BadScenario { line, why }
+}
 
 /// The status of a replay, and the sink that it left. The call of the source with the first number fails, and that of the sink
 /// with the second.
@@ -22,46 +22,29 @@ fn replayed(
 ) -> Result<(Status, MemSink), NoMemory> {
     let bytes = Bytes::from_slice(alloc, input)?;
     let mut src = MemSource::new(bytes, Serials::from_slice(alloc, &[read])?);
-    let mut out = MemSink::new(alloc, 8192, Serials::from_slice(alloc, &[write])?)?;
+    let mut out = MemSink::new(alloc, 16384, Serials::from_slice(alloc, &[write])?)?;
     let status = run_replay(alloc, &mut src, &mut out);
     Ok((status, out))
-}
-
-/// The device line, and so many equal lines behind it.
-fn with_lines(alloc: Global, line: &str, count: usize) -> Result<Bytes, NoMemory> {
-    let mut text = Vec::from_slice(alloc, DEVICE.as_bytes())?;
-    for _ in 0..count {
-        text.extend_from_slice(line.as_bytes())?;
-    }
-    Ok(Bytes::from_vec(text))
 }
 
 fn lines_in(text: &[u8]) -> u64 {
     text.iter().filter(|byte| **byte == b'\n').count() as u64
 }
 
-/// What the status is of inputs that are and are not of the form that is served.
+/// Each line is handed over by one call of the sink, whichever events the lines ask for.
 #[test]
-fn statuses(rt: HostRuntime) -> Result<(), Fail> {
+fn writes(rt: HostRuntime) -> Result<(), Fail> {
     let alloc = rt.alloc();
-    let submit = "submit d0 a 1 28000000000000000100 in=512\n";
-    for (line, count, want) in [
-        (submit, 0, Status::Ok),
-        (submit, 8, Status::Ok),
-        (submit, 9, NOT_YET),
-        ("drain d0\n", 64, Status::Ok),
-        ("drain d0\n", 65, NOT_YET),
-        ("drain d1\n", 1, NOT_YET),
-        ("drain  d0\n", 1, NOT_YET),
-        ("drain d0", 1, NOT_YET),
-        ("submit d0 a 01 28000000000000000100 in=512\n", 1, NOT_YET),
-        ("submit d0 a 1 28000000000000000100 in=4097\n", 1, NOT_YET),
-        ("submit d0 a 1 2a000000000000000100 out=5a*0\n", 1, NOT_YET),
+    for lines in [
+        "",
+        "submit d0 a 1 28000000000000000100 in=512\n",
+        "submit d0 a 1 28000000000000000100 in=512\ntick d0 30\nstat d0\ndrain d0",
+        "block d0\nreset d0 1\nrestart d0\ntmr d0 1 none # off\n\nenter d0\nhandle d0 1\n",
     ] {
-        let input = with_lines(alloc, line, count)?;
-        let (status, out) = replayed(alloc, input.as_slice(), 0, 0)?;
-        assert_eq!(rt; status, want, "at {count} times {line}");
-        assert_eq!(rt; out.calls(), lines_in(out.written()));
+        let input = format!(in alloc; "{DEVICE}{lines}")?;
+        let (status, out) = replayed(alloc, input.as_bytes(), 0, 0)?;
+        assert_eq!(rt; status, Status::Ok, "at {lines}");
+        assert_eq!(rt; out.calls(), lines_in(out.written()), "at {lines}");
     }
     Ok(())
 }
@@ -70,21 +53,20 @@ fn statuses(rt: HostRuntime) -> Result<(), Fail> {
 #[test]
 fn faults(rt: HostRuntime) -> Result<(), Fail> {
     let alloc = rt.alloc();
+    let ready = "device d0 tcm-user/0/d0/mem/64 ring=4096 blocks=16 flags=ooo timeout=30 # ready\n";
+    let submit = "submit d0 a 1 2a000000000000000300 out=11*512,22*512,33*512";
+    let queued = format!(in alloc; "{ready}{submit} # queued 1\n")?;
+    let input = format!(in alloc; "{DEVICE}{submit}\ndrain d0\n")?;
     for (input, read, write, want, written) in [
         ("", 0, 0, Status::Ok, ""),
-        (DEVICE, 1, 0, Status::ReadFault, ""),
-        (DEVICE, 0, 1, Status::WriteFault, ""),
-        (
-            DEVICE,
-            0,
-            2,
-            Status::WriteFault,
-            "device d0 tcm-user/0/d0/mem/64 ring=4096 blocks=16 flags=ooo timeout=30 # ready\n",
-        ),
+        (input.as_str(), 1, 0, Status::ReadFault, ""),
+        (input.as_str(), 0, 1, Status::WriteFault, ""),
+        (input.as_str(), 0, 2, Status::WriteFault, ready),
+        (input.as_str(), 0, 3, Status::WriteFault, queued.as_str()),
     ] {
         let (status, out) = replayed(alloc, input.as_bytes(), read, write)?;
-        assert_eq!(rt; status, want, "at {input} {read} {write}");
-        assert_eq!(rt; out.written(), written.as_bytes());
+        assert_eq!(rt; status, want, "at {read} {write}");
+        assert_eq!(rt; out.written(), written.as_bytes(), "at {read} {write}");
     }
     Ok(())
 }
@@ -94,14 +76,8 @@ fn faults(rt: HostRuntime) -> Result<(), Fail> {
 fn longest(rt: HostRuntime) -> Result<(), Fail> {
     let alloc = rt.alloc();
     for (length, want) in [
-        (4_194_304, NOT_YET),
-        (
-            4_194_305,
-            Status::BadScenario {
-                line: 0,
-                why: Why::TooLong,
-            },
-        ),
+        (4_194_304, bad(1, Why::Verb)),
+        (4_194_305, bad(0, Why::TooLong)),
     ] {
         let input = vec![in alloc; b'a'; length]?;
         let (status, _out) = replayed(alloc, &input, 0, 0)?;
@@ -110,23 +86,77 @@ fn longest(rt: HostRuntime) -> Result<(), Fail> {
     Ok(())
 }
 
+/// A fault names its line and its rule, and nothing is written to the journal.
+#[test]
+fn fault_lines(rt: HostRuntime) -> Result<(), Fail> {
+    let alloc = rt.alloc();
+    for (line, why, text) in [
+        ("dispatch d9", Why::Name, "tcmu_lab: line 2: name\n"),
+        (
+            "submit d0 a 1 28000000000000000100 in=1048577",
+            Why::Number,
+            "tcmu_lab: line 2: number\n",
+        ),
+        (
+            "submit d0 a 1 2a000000000000000100 out=zz*3",
+            Why::Runs,
+            "tcmu_lab: line 2: runs\n",
+        ),
+        (
+            "submit d0 a 1 2800000000",
+            Why::Cdb,
+            "tcmu_lab: line 2: cdb\n",
+        ),
+        (
+            "submit d0 a 1 28000000000000000100 out=00*512",
+            Why::Direction,
+            "tcmu_lab: line 2: direction\n",
+        ),
+        ("dump d0", Why::NotYet, "tcmu_lab: line 2: notyet\n"),
+    ] {
+        let input = format!(in alloc; "{DEVICE}{line}\nstat d0\n")?;
+        let (status, out, err) = run_words(alloc, "replay", input.as_bytes())?;
+        assert_eq!(rt; status, bad(2, why), "at {line}");
+        assert_eq!(rt; status.code(), 4);
+        assert_eq!(rt; out.written(), b"".as_slice());
+        assert_eq!(rt; err.written(), text.as_bytes(), "at {line}");
+    }
+    Ok(())
+}
+
+/// The status of the program's call with one word, what it wrote, and what it told.
+fn run_words(
+    alloc: Global,
+    word: &str,
+    input: &[u8],
+) -> Result<(Status, MemSink, MemSink), NoMemory> {
+    let mut words = Words::new(alloc);
+    words.reserve(1)?;
+    words.push(Bytes::from_slice(alloc, word.as_bytes())?);
+    let bytes = Bytes::from_slice(alloc, input)?;
+    let mut src = MemSource::new(bytes, Serials::new(alloc));
+    let mut out = MemSink::new(alloc, 4096, Serials::new(alloc))?;
+    let mut err = MemSink::new(alloc, 64, Serials::new(alloc))?;
+    let status = tcmu_top(alloc, &words, &mut src, &mut out, &mut err);
+    Ok((status, out, err))
+}
+
 /// The words, their fault line, and the codes.
 #[test]
 fn words(rt: HostRuntime) -> Result<(), Fail> {
     let alloc = rt.alloc();
     for (word, input, want, code, line) in [
         ("replay", "", Status::Ok, 0, ""),
-        ("replay", "x", NOT_YET, 4, "tcmu_lab: line 0: notyet\n"),
+        (
+            "replay",
+            "x",
+            bad(1, Why::Verb),
+            4,
+            "tcmu_lab: line 1: verb\n",
+        ),
         ("live", "", Status::BadWords, 5, "tcmu_lab: words\n"),
     ] {
-        let mut words = Words::new(alloc);
-        words.reserve(1)?;
-        words.push(Bytes::from_slice(alloc, word.as_bytes())?);
-        let bytes = Bytes::from_slice(alloc, input.as_bytes())?;
-        let mut src = MemSource::new(bytes, Serials::new(alloc));
-        let mut out = MemSink::new(alloc, 0, Serials::new(alloc))?;
-        let mut err = MemSink::new(alloc, 64, Serials::new(alloc))?;
-        let status = tcmu_top(alloc, &words, &mut src, &mut out, &mut err);
+        let (status, _out, err) = run_words(alloc, word, input.as_bytes())?;
         assert_eq!(rt; status, want);
         assert_eq!(rt; status.code(), code);
         assert_eq!(rt; err.written(), line.as_bytes());

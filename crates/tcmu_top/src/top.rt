@@ -1,56 +1,50 @@
 //! The top call: words, reading, replaying, and the status.
-ghost use Rattle.std.specs.Prelude.{◌≡◌, ◌≤◌, ◌<◌, true, false, length, map, OnOk, OnErr, IsErrOf};
+ghost use Rattle.std.specs.Prelude.{◌≡◌, ◌≤◌, true, false, OnOk, OnErr, IsErrOf};
 ghost use Rattle.tcmu_types.specs.Data.{texts_of};
 ghost use Rattle.tcmu_types.specs.Numbered.{Rose};
-ghost use Rattle.tcmu_model.specs.Sound.{Every};
-ghost use Rattle.tcmu_top.specs.Forms.{task_of, scenario_of_form};
-ghost use Rattle.tcmu_top.specs.Tasks.{IsFit};
-ghost use Rattle.tcmu_top.specs.Top.{TextWritten, TextWrittenInPart, BytesEnd, Ends, are_replay, fault_text, Reported};
+ghost use Rattle.tcmu_model.specs.ScenarioRules.{IsScenario, IsServed};
+ghost use Rattle.tcmu_top.specs.Top.{TextWritten, TextWrittenInPart, BytesEnd, Ends, are_replay, Reported};
 
-use crate::block_engine::Engine;
 use crate::device::replay_device;
+use crate::faults::report;
+use crate::opening::open_device;
 use crate::reading::{Unread, read_all};
-use crate::scenario_text::{DeviceLine, Scenario, read_scenario};
-use crate::status::{Status, Why};
+use crate::status::Status;
 use crate::writing::Stop;
 use edge::{Sink, Source};
+use scenario_text::{Scenario, ScenarioFault, read_scenario};
 use std::alloc::Global;
-use tcmu_path::PlainPath;
+use tcmu_model::Why;
 use tcmu_types::Words;
 
-/// Replays a scenario on a new device, and writes its text.
+/// Replays a scenario on its device, as it opens, and writes its text. Without a device there is none.
 fn replay_scenario<K: Sink>(alloc: Global, scenario: &Scenario, out: &mut K) -> Result<(), Stop>
-    requires few { length scenario.now.lines.items ≤ 64 }
-    requires fit { Every IsFit (map task_of scenario.now.lines.items) }
-    ensures ok { OnOk result (TextWritten (scenario_of_form scenario.now) (K.written out.old) (K.written out.new)) }
-    ensures err { OnErr result (TextWrittenInPart (scenario_of_form scenario.now) (K.written out.old) (K.written out.new)) }
+    requires limits { IsScenario scenario.now }
+    requires served { IsServed scenario.now }
+    ensures ok { OnOk result (TextWritten scenario.now (K.written out.old) (K.written out.new)) }
+    ensures err { OnErr result (TextWrittenInPart scenario.now (K.written out.old) (K.written out.new)) }
     ensures fault { IsErrOf result Stop.WriteFault → Rose (K.faults out.old) (K.faults out.new) }
     ensures later { K.faults out.old ≤ K.faults out.new }
 {
-    if !scenario.has_device {
-        return Ok(());
+    match scenario.devices.as_slice() {
+        [] => Ok(()),
+        [device] => {
+            let mut path = open_device(alloc, device)?;
+            replay_device(alloc, device, &mut path, scenario.lines.as_slice(), out)
+        }
+        _ => unreachable!(),
     }
-    let line = DeviceLine::first();
-    let engine = Engine::new(alloc, line.name().copy(), line.blocks())?;
-    let mut path = PlainPath::new(alloc, line.settings(), engine);
-    replay_device(alloc, &line, &mut path, &scenario.lines, out)
 }
 
 /// Replays the scenario that the bytes are.
 fn replay_bytes<K: Sink>(alloc: Global, bytes: &[u8], out: &mut K) -> Status
-    requires { length bytes.now ≤ 4194304 }
     ensures ends { BytesEnd bytes.now (K.written out.old) (K.written out.new) (K.faults out.old) (K.faults out.new) result }
     ensures later { K.faults out.old ≤ K.faults out.new }
 {
     let scenario = match read_scenario(alloc, bytes) {
-        Ok(Some(scenario)) => scenario,
-        Ok(None) => {
-            return Status::BadScenario {
-                line: 0,
-                why: Why::NotYet,
-            };
-        }
-        Err(_) => return Status::NoMemory,
+        Ok(scenario) => scenario,
+        Err(ScenarioFault::Bad { line, why }) => return Status::BadScenario { line, why },
+        Err(ScenarioFault::NoMemory) => return Status::NoMemory,
     };
     match replay_scenario(alloc, &scenario, out) {
         Ok(()) => Status::Ok,
@@ -84,32 +78,6 @@ fn are_replay(words: &Words) -> bool
         [word] => word.as_slice() == b"replay".as_slice(),
         _ => false,
     }
-}
-
-/// The line of a fault, and nothing for other statuses.
-fn fault_line(status: Status) -> &'static [u8]
-    ensures { result.now ≡ fault_text status }
-{
-    match status {
-        Status::BadScenario { why, .. } => match why {
-            Why::NotYet => b"tcmu_lab: line 0: notyet\n",
-            Why::TooLong => b"tcmu_lab: line 0: toolong\n",
-        },
-        Status::BadWords => b"tcmu_lab: words\n",
-        _ => b"",
-    }
-}
-
-/// Hands the line of a fault to the error stream; a failure there is let be.
-fn report<E: Sink>(err: &mut E, status: Status)
-    ensures line { Reported status (E.written err.old) (E.written err.new) (Rose (E.faults err.old) (E.faults err.new)) }
-    ensures later { E.faults err.old ≤ E.faults err.new }
-{
-    let line = fault_line(status);
-    if line.is_empty() {
-        return;
-    }
-    let _ = err.write(line);
 }
 
 /// All that the program does: the words decide what. `replay` reads a scenario from the source and writes its journal to the sink. The

@@ -5,12 +5,11 @@ ghost use Rattle.tcmu_types.specs.Numbered.{Rose};
 ghost use Rattle.tcmu_types.specs.Views.{event_data, answer_data};
 ghost use Rattle.edge.specs.Outside.{Gained, GainedFront};
 ghost use Rattle.tcmu_model.specs.Text as spelled;
-ghost use Rattle.tcmu_top.specs.FirstReplay.{ready_text};
 ghost use Rattle.tcmu_top.specs.declared.writing.Stop.TheVariants.{NoMemory as Wanting};
 
-use crate::scenario_text::DeviceLine;
 use edge::Sink;
-use report_text::{completion_line, end_text, event_line};
+use report_text::{completion_line, device_text, end_text, event_line};
+use scenario_text::DeviceLine;
 use std::alloc::Global;
 use tcmu_types::{Answer, Bytes, Done, Event, NoMemory};
 
@@ -42,73 +41,71 @@ pub fn write_line<K: Sink>(out: &mut K, line: &[u8]) -> Result<(), Stop>
     }
 }
 
-fn ready_line(alloc: Global, line: &DeviceLine) -> Result<Bytes, NoMemory>
-    ensures { IfOk result (λ text. text.items ≡ ready_text line.now) }
-{
-    let mut text = Bytes::from_slice(alloc, line.spelling())?;
-    let ready = b" # ready\n";
-    text.reserve(ready.len() as u64)?;
-    text.extend(ready);
-    Ok(text)
-}
-
 /// Writes the line of a device.
-pub fn write_ready<K: Sink>(alloc: Global, line: &DeviceLine, out: &mut K) -> Result<(), Stop>
-    ensures ok { OnOk result (Gained (K.written out.old) (ready_text line.now) (K.written out.new)) }
-    ensures err { OnErr result (GainedFront (K.written out.old) (ready_text line.now) (K.written out.new)) }
+pub fn write_ready<K: Sink>(alloc: Global, device: &DeviceLine, out: &mut K) -> Result<(), Stop>
+    ensures ok { OnOk result (Gained (K.written out.old) (spelled.device_text device.now) (K.written out.new)) }
+    ensures err { OnErr result (GainedFront (K.written out.old) (spelled.device_text device.now) (K.written out.new)) }
     ensures fault { IsErrOf result Stop.WriteFault → Rose (K.faults out.old) (K.faults out.new) }
     ensures later { K.faults out.old ≤ K.faults out.new }
 {
-    let text = ready_line(alloc, line)?;
+    let mut text = Bytes::new(alloc);
+    device_text(alloc, device, &mut text)?;
     write_line(out, text.as_slice())
 }
 
 fn write_event<K: Sink>(
     alloc: Global,
-    line: &DeviceLine,
+    device: &DeviceLine,
     event: &Event,
     answer: &Answer,
     out: &mut K,
 ) -> Result<(), Stop>
-    ensures ok { OnOk result (Gained (K.written out.old) (spelled.event_line line.now.name line.now.settings.qfull (event_data event.now) (answer_data answer.now)) (K.written out.new)) }
-    ensures err { OnErr result (GainedFront (K.written out.old) (spelled.event_line line.now.name line.now.settings.qfull (event_data event.now) (answer_data answer.now)) (K.written out.new)) }
+    ensures ok { OnOk result (Gained (K.written out.old) (spelled.event_line device.now.name device.now.settings.qfull (event_data event.now) (answer_data answer.now)) (K.written out.new)) }
+    ensures err { OnErr result (GainedFront (K.written out.old) (spelled.event_line device.now.name device.now.settings.qfull (event_data event.now) (answer_data answer.now)) (K.written out.new)) }
     ensures fault { IsErrOf result Stop.WriteFault → Rose (K.faults out.old) (K.faults out.new) }
     ensures later { K.faults out.old ≤ K.faults out.new }
 {
     let mut text = Bytes::new(alloc);
-    event_line(alloc, line.name(), line.qfull(), event, answer, &mut text)?;
+    event_line(
+        alloc,
+        &device.name,
+        device.settings.qfull,
+        event,
+        answer,
+        &mut text,
+    )?;
     write_line(out, text.as_slice())
 }
 
 fn write_completion<K: Sink>(
     alloc: Global,
-    line: &DeviceLine,
+    device: &DeviceLine,
     done: &Done,
     out: &mut K,
 ) -> Result<(), Stop>
-    ensures ok { OnOk result (Gained (K.written out.old) (spelled.completion_text line.now.name done.now) (K.written out.new)) }
-    ensures err { OnErr result (GainedFront (K.written out.old) (spelled.completion_text line.now.name done.now) (K.written out.new)) }
+    ensures ok { OnOk result (Gained (K.written out.old) (spelled.completion_text device.now.name done.now) (K.written out.new)) }
+    ensures err { OnErr result (GainedFront (K.written out.old) (spelled.completion_text device.now.name done.now) (K.written out.new)) }
     ensures fault { IsErrOf result Stop.WriteFault → Rose (K.faults out.old) (K.faults out.new) }
     ensures later { K.faults out.old ≤ K.faults out.new }
 {
     let mut text = Bytes::new(alloc);
-    completion_line(alloc, line.name(), done, &mut text)?;
+    completion_line(alloc, &device.name, done, &mut text)?;
     write_line(out, text.as_slice())
 }
 
 fn write_completions<K: Sink>(
     alloc: Global,
-    line: &DeviceLine,
+    device: &DeviceLine,
     logged: &[Done],
     out: &mut K,
 ) -> Result<(), Stop>
-    ensures ok { OnOk result (Gained (K.written out.old) (flat_map (spelled.completion_text line.now.name) logged.now) (K.written out.new)) }
-    ensures err { OnErr result (GainedFront (K.written out.old) (flat_map (spelled.completion_text line.now.name) logged.now) (K.written out.new)) }
+    ensures ok { OnOk result (Gained (K.written out.old) (flat_map (spelled.completion_text device.now.name) logged.now) (K.written out.new)) }
+    ensures err { OnErr result (GainedFront (K.written out.old) (flat_map (spelled.completion_text device.now.name) logged.now) (K.written out.new)) }
     ensures fault { IsErrOf result Stop.WriteFault → Rose (K.faults out.old) (K.faults out.new) }
     ensures later { K.faults out.old ≤ K.faults out.new }
 {
     for done in logged {
-        write_completion(alloc, line, done, out)?;
+        write_completion(alloc, device, done, out)?;
     }
     Ok(())
 }
@@ -116,34 +113,34 @@ fn write_completions<K: Sink>(
 /// Writes an event with its answer, and the completions that it logged.
 pub fn write_entry<K: Sink>(
     alloc: Global,
-    line: &DeviceLine,
+    device: &DeviceLine,
     event: &Event,
     answer: &Answer,
     logged: &[Done],
     out: &mut K,
 ) -> Result<(), Stop>
-    ensures ok { OnOk result (Gained (K.written out.old) (spelled.entry_text line.now.name line.now.settings.qfull (record { device = 0; event = event_data event.now; answer = answer_data answer.now; logged = length logged.now }) logged.now) (K.written out.new)) }
-    ensures err { OnErr result (GainedFront (K.written out.old) (spelled.entry_text line.now.name line.now.settings.qfull (record { device = 0; event = event_data event.now; answer = answer_data answer.now; logged = length logged.now }) logged.now) (K.written out.new)) }
+    ensures ok { OnOk result (Gained (K.written out.old) (spelled.entry_text device.now.name device.now.settings.qfull (record { device = 0; event = event_data event.now; answer = answer_data answer.now; logged = length logged.now }) logged.now) (K.written out.new)) }
+    ensures err { OnErr result (GainedFront (K.written out.old) (spelled.entry_text device.now.name device.now.settings.qfull (record { device = 0; event = event_data event.now; answer = answer_data answer.now; logged = length logged.now }) logged.now) (K.written out.new)) }
     ensures fault { IsErrOf result Stop.WriteFault → Rose (K.faults out.old) (K.faults out.new) }
     ensures later { K.faults out.old ≤ K.faults out.new }
 {
-    write_event(alloc, line, event, answer, out)?;
-    write_completions(alloc, line, logged, out)
+    write_event(alloc, device, event, answer, out)?;
+    write_completions(alloc, device, logged, out)
 }
 
 /// Writes the last line of a device.
 pub fn write_end<K: Sink>(
     alloc: Global,
-    line: &DeviceLine,
+    device: &DeviceLine,
     count: u64,
     out: &mut K,
 ) -> Result<(), Stop>
-    ensures ok { OnOk result (Gained (K.written out.old) (spelled.end_text line.now.name count) (K.written out.new)) }
-    ensures err { OnErr result (GainedFront (K.written out.old) (spelled.end_text line.now.name count) (K.written out.new)) }
+    ensures ok { OnOk result (Gained (K.written out.old) (spelled.end_text device.now.name count) (K.written out.new)) }
+    ensures err { OnErr result (GainedFront (K.written out.old) (spelled.end_text device.now.name count) (K.written out.new)) }
     ensures fault { IsErrOf result Stop.WriteFault → Rose (K.faults out.old) (K.faults out.new) }
     ensures later { K.faults out.old ≤ K.faults out.new }
 {
     let mut text = Bytes::new(alloc);
-    end_text(alloc, line.name(), count, &mut text)?;
+    end_text(alloc, &device.name, count, &mut text)?;
     write_line(out, text.as_slice())
 }

@@ -11,7 +11,7 @@ use Rattle.tcmu_top.proofs.lines.drain.Goals as goal
 pub loop-event-init : goal.loop-event-init
 loop-event-init g c =
     record {
-      sofar = draining_first g.P.Path.relation c.args.line.now (g.P.Path.device c.args.path.now) _ c.requires.sound;
+      sofar = draining_first g.P.Path.relation c.args.device.now (g.P.Path.device c.args.path.now) _ c.requires.sound;
       later = omega arith;
       accepts = record { least = omega arith; most = omega arith };
     }
@@ -19,19 +19,19 @@ loop-event-init g c =
 pub returns-in_err-play-clause-err : goal.returns-in_err-play-clause-err
 returns-in_err-play-clause-err g c =
     let picked = picked_by (g.P.Path.device c.loop-event.path).state _ (Some c.in-Some.event) c.todo.ensures c.in-Some.ensures.value in
-    on_err c.from_residual.result (draining_stopped g.P.Path.relation c.args.line.now _ (g.P.Path.device c.loop-event.path) _ (event_data c.in-Some.event) _ _ _ c.requires.outcomes c.loop-event.invariant.sofar picked c.in_err-play.ensures.err)
+    on_err c.from_residual.result (draining_stopped g.P.Path.relation c.args.device.now _ (g.P.Path.device c.loop-event.path) _ (event_data c.in-Some.event) _ _ _ c.requires.outcomes c.loop-event.invariant.sofar picked c.in_err-play.ensures.err)
 
 pub loop-event-smaller : goal.loop-event-smaller
 loop-event-smaller g c =
     let picked = picked_by (g.P.Path.device c.loop-event.path).state _ (Some c.in-Some.event) c.todo.ensures c.in-Some.ensures.value in
-    falls_told g.P.Path.relation c.args.line.now (g.P.Path.device c.loop-event.path) _ (event_data c.in-Some.event) _ _ c.loop-event.invariant.sofar.sound picked c.in_ok-play.ensures.ok
+    falls_told g.P.Path.relation c.args.device.now (g.P.Path.device c.loop-event.path) _ (event_data c.in-Some.event) _ _ c.loop-event.invariant.sofar.sound picked c.in_ok-play.ensures.ok
 
 pub loop-event-preserved : goal.loop-event-preserved
 loop-event-preserved g c =
     let picked = picked_by (g.P.Path.device c.loop-event.path).state _ (Some c.in-Some.event) c.todo.ensures c.in-Some.ensures.value in
     let none = c.in-Some.ensures.accepts in
     record {
-      sofar = draining_more g.P.Path.relation c.args.line.now _ (g.P.Path.device c.loop-event.path) _ (event_data c.in-Some.event) _ _ _ c.loop-event.invariant.sofar picked c.in_ok-play.ensures.ok;
+      sofar = draining_more g.P.Path.relation c.args.device.now _ (g.P.Path.device c.loop-event.path) _ (event_data c.in-Some.event) _ _ _ c.loop-event.invariant.sofar picked c.in_ok-play.ensures.ok;
       later = omega (arith, c.loop-event.invariant.later, c.in_ok-play.ensures.later);
       accepts = record {
         least = omega (arith, c.loop-event.invariant.accepts.least, c.in_ok-play.ensures.accepts.least);
@@ -41,4 +41,4 @@ loop-event-preserved g c =
 
 pub returns-clause-ok : goal.returns-clause-ok
 returns-clause-ok g c =
-    draining_done g.P.Path.relation c.args.line.now _ (g.P.Path.device c.loop-event.path) _ _ c.loop-event.invariant.sofar (picked_by (g.P.Path.device c.loop-event.path).state _ None c.todo.ensures c.in_default.ensures.value)
+    draining_done g.P.Path.relation c.args.device.now _ (g.P.Path.device c.loop-event.path) _ _ c.loop-event.invariant.sofar (picked_by (g.P.Path.device c.loop-event.path).state _ None c.todo.ensures c.in_default.ensures.value)

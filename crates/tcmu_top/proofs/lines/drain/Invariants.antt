@@ -6,7 +6,7 @@ use Rattle.tcmu_top.proofs.lines.drain.Given as goal
 
 abbrev pub invariant-loop-event : goal.invariant-loop-event
 invariant-loop-event g l = record {
-  sofar : Draining g.P.Path.relation l.line (g.P.Path.device l.fn.path) (g.P.Path.device l.path) (g.K.Sink.written l.fn.out) (g.K.Sink.written l.out);
+  sofar : Draining g.P.Path.relation l.device (g.P.Path.device l.fn.path) (g.P.Path.device l.path) (g.K.Sink.written l.fn.out) (g.K.Sink.written l.out);
   later : g.K.Sink.faults l.fn.out ≤ g.K.Sink.faults l.out;
   accepts : Accepts 0 (g.P.Path.device l.fn.path) (g.P.Path.device l.path);
 }

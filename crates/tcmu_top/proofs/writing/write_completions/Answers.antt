@@ -6,7 +6,7 @@ use Rattle.tcmu_top.proofs.writing.write_completions.Goals as goal
 
 pub returns-in_err-write_completion-clause-err : goal.returns-in_err-write_completion-clause-err
 returns-in_err-write_completion-clause-err g c =
-    let text = completion_text c.args.line.now.name in
+    let text = completion_text c.args.device.now.name in
     let i = c.loop-done.done-index in
     let ds = c.args.logged.now in
     on_err c.from_residual.result (front_more _ _ _ (flat_map text (take i ds)) (text c.done-item.result) (flat_map text (drop (i + 1) ds)) _

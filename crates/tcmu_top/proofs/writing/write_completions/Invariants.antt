@@ -6,6 +6,6 @@ use Rattle.tcmu_top.proofs.writing.write_completions.Given as goal
 
 abbrev pub invariant-loop-done : goal.invariant-loop-done
 invariant-loop-done g l = record {
-  gained : Gained (g.K.Sink.written l.fn.out) (flat_map (completion_text l.line.name) (take l.done-index l.logged)) (g.K.Sink.written l.out);
+  gained : Gained (g.K.Sink.written l.fn.out) (flat_map (completion_text l.device.name) (take l.done-index l.logged)) (g.K.Sink.written l.out);
   later : g.K.Sink.faults l.fn.out ≤ g.K.Sink.faults l.out;
 }

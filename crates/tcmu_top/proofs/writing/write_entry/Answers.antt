@@ -9,7 +9,7 @@ use Rattle.tcmu_top.proofs.writing.write_entry.Goals as goal
 pub returns-in_err-write_event-clause-err : goal.returns-in_err-write_event-clause-err
 unfolding entry_text
 returns-in_err-write_event-clause-err g c =
-    on_err c.from_residual.result (front_first _ _ (event_line c.args.line.now.name c.args.line.now.settings.qfull (event_data c.args.event.now) (answer_data c.args.answer.now)) (flat_map (completion_text c.args.line.now.name) c.args.logged.now) _ refl c.in_err-write_event.ensures.err)
+    on_err c.from_residual.result (front_first _ _ (event_line c.args.device.now.name c.args.device.now.settings.qfull (event_data c.args.event.now) (answer_data c.args.answer.now)) (flat_map (completion_text c.args.device.now.name) c.args.logged.now) _ refl c.in_err-write_event.ensures.err)
 
 pub returns-clause-ok : goal.returns-clause-ok
 unfolding entry_text
