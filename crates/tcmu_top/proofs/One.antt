@@ -1,6 +1,5 @@
 -- Over the engine every event has one outcome, so a scenario has one text.
-use Rattle.std.proofs.Common.{◌≡◌, ℕ, List, [], ◌∷◌, ◌++◌, length, Option, Some, None, refl, sym, ap, ◌∙◌, subst, arith}
-use Rattle.tcmu_types.specs.Data.{ReplyData}
+use Rattle.std.proofs.Common.{◌≡◌, ℕ, List, [], ◌∷◌, ◌++◌, length, Some, None, refl, sym, ap, ◌∙◌, subst, arith}
 use Rattle.tcmu_types.specs.Events.{EventData, AnswerData, EntryData}
 use Rattle.tcmu_types.specs.Events as ev
 use Rattle.tcmu_types.specs.declared.answer.Handle.{Handle}
@@ -10,13 +9,12 @@ use Rattle.tcmu_types.specs.declared.answer.Enter.{Enter}
 use Rattle.tcmu_types.specs.declared.answer.Tmr.{Tmr}
 use Rattle.tcmu_model.specs.MediumState.{MediumState}
 use Rattle.tcmu_model.specs.Device.{Unfinished, DeviceState, Device, opening}
-use Rattle.tcmu_model.specs.Events.{submit_answer, after_submit, enter_answer, after_enter, dispatch_answer, after_dispatch, command_out, after_handle, respond_answer, after_respond, publish_answer, after_publish, clean_answer, after_clean, tick_answer, after_tick, block_answer, after_block, reset_answer, after_reset, restart_answer, after_restart, tmr_answer, after_tmr, stat_answer}
+use Rattle.tcmu_model.specs.Events.{after_submit, after_enter, after_handle, after_tmr}
 use Rattle.tcmu_model.specs.Steps.{Step, Makes, Handles, asked, moved}
-use Rattle.tcmu_model.specs.Drain.{Drains, drain_event}
+use Rattle.tcmu_model.specs.Drain.{Drains}
 use Rattle.tcmu_model.specs.Config.{MediumData, InMemory, InFile}
 use Rattle.tcmu_model.specs.ScenarioData.{DeviceLineData, LineWhat, ScenarioData}
 use Rattle.tcmu_model.specs.ScenarioData as line
-use Rattle.tcmu_model.specs.Scenario.{Bad}
 use Rattle.tcmu_model.specs.Medium.{memory_state}
 use Rattle.tcmu_model.specs.Scsi.{Serves}
 use Rattle.tcmu_model.specs.Replay.{Plays, Replays, IsReplayText, open_count}
@@ -24,7 +22,7 @@ use Rattle.tcmu_model.specs.Text.{device_text, entries_text, end_text}
 use Rattle.tcmu_model.proofs.Readings.{same_ok}
 use Rattle.block_engine.specs.Determined.{IsInMemory}
 use Rattle.block_engine.proofs.Settling.{stays_in_memory}
-use Rattle.std.proofs.Common.{true, false, replicate, ◌*◌}
+use Rattle.std.proofs.Common.{replicate, ◌*◌}
 use Rattle.tcmu_top.specs.Tasks.{asks}
 use Rattle.tcmu_top.specs.Top.{IsBlank, Opens, IsTextOn, IsTextOf}
 use Rattle.tcmu_top.specs.Laws.{OneText}

@@ -1,9 +1,9 @@
 -- A drain and a replay, as far as they have come.
-use Rattle.std.proofs.Common.{◌&&◌, nat_lt, Bool, true, false, IsTrue, ⊎_elim, ◌≡◌, ℕ, ◌+◌, ◌<◌, ◌≤◌, List, [], ◌∷◌, ◌++◌, length, get_or, map, drop, Option, Some, None, refl, sym, ap, ◌∙◌, arith, subst, append_assoc, length-append, inl, inr, ◌⊎◌}
+use Rattle.std.proofs.Common.{◌&&◌, nat_lt, Bool, true, false, ⊎_elim, ◌≡◌, ℕ, ◌+◌, ◌<◌, ◌≤◌, List, [], ◌∷◌, ◌++◌, length, get_or, drop, Option, Some, None, refl, sym, ap, ◌∙◌, arith, subst, append_assoc, length-append, inl, inr}
 use Rattle.std.specs.Option.{option_map}
 use Rattle.std.proofs.lemmas.Bool.{cases_Bool, ltb-true}
 use Rattle.std.proofs.lemmas.List.{append-nil, drop_more, drop_all}
-use Rattle.tcmu_types.specs.Data.{CommandData, DoneData}
+use Rattle.tcmu_types.specs.Data.{DoneData}
 use Rattle.tcmu_types.specs.Rules.{IsCommand}
 use Rattle.tcmu_types.specs.Events.{EventData, AnswerData, EntryData}
 use Rattle.tcmu_types.specs.Events as ev
@@ -28,10 +28,10 @@ use Rattle.tcmu_model.specs.Text.{entry_text}
 use Rattle.tcmu_model.proofs.Draining.{work_falls}
 use Rattle.tcmu_model.proofs.GoesOn.{goes_on_first, goes_on_more, drains_run}
 use Rattle.tcmu_model.proofs.Logs.{makes_grows}
-use Rattle.tcmu_top.specs.Playing.{run_text, MadeEvent, Told, ToldFront, NothingCame, Stopped, Wrote, WroteFront}
-use Rattle.tcmu_model.specs.ScenarioRules.{IsEvent, IsRisingTo}
+use Rattle.tcmu_top.specs.Playing.{run_text, MadeEvent, Told, Stopped, Wrote, WroteFront}
+use Rattle.tcmu_model.specs.ScenarioRules.{IsEvent}
 use Rattle.tcmu_top.specs.Tasks.{IsFit, CanBeMade, asks}
-use Rattle.tcmu_top.proofs.Telling.{gained_none, gained_more, gained_as, front_none, front_whole, front_first, front_more, front_behind}
+use Rattle.tcmu_top.proofs.Telling.{gained_none, gained_more, gained_as, front_none, front_whole, front_behind}
 use Rattle.tcmu_top.proofs.RunTexts.{run_append, text_more, text_one, drop_front}
 use Rattle.tcmu_model.proofs.Runs.{sound_step, sound_run}
 use Rattle.tcmu_model.proofs.DrainEnds.{drain_ends, rows_commands}

@@ -1,13 +1,12 @@
 -- The text of a scenario, from the replay of its device.
-use Rattle.std.proofs.Common.{◌≡◌, ◌∙◌, ℕ, ◌*◌, ◌≤◌, get_or, arith, Bool, true, false, ◌&&◌, not, nat_eq, List, [], ◌∷◌, length, replicate, Option, Ok, refl, sym, ap, subst, lit<}
+use Rattle.std.proofs.Common.{◌≡◌, ◌∙◌, ℕ, ◌*◌, ◌≤◌, get_or, arith, Bool, true, false, ◌&&◌, not, nat_eq, List, [], ◌∷◌, length, replicate, Option, refl, sym, ap, subst, lit<}
 use Rattle.std.specs.List.{All}
 use Rattle.std.proofs.lemmas.Bool.{lt-ltb}
 use Rattle.std.proofs.lemmas.List.Elements.{All-tail}
-use Rattle.edge.specs.Outside.{Gained, GainedFront}
 use Rattle.tcmu_model.specs.MediumState.{MediumState}
 use Rattle.tcmu_model.specs.Device.{Device, opening}
 use Rattle.tcmu_model.specs.Sound.{IsSound, Every}
-use Rattle.tcmu_model.specs.Config.{ConfigData, MediumData, InMemory, InFile}
+use Rattle.tcmu_model.specs.Config.{MediumData, InMemory, InFile}
 use Rattle.tcmu_model.specs.ScenarioData.{DeviceLineData, LineWhat, LineData, ScenarioData}
 use Rattle.tcmu_model.specs.ScenarioData as line
 use Rattle.tcmu_model.specs.Scenario.{is_plain_memory, is_dump}
@@ -64,13 +63,13 @@ opens_none l d o = ap (λ (x : Device). x.state.accepted) o.2
 -- ==== its lines
 
 fit_line : (w : LineWhat) (l : LineData) → l.what ≡ w → IsWhat w → is_dump l ≡ false → IsFit w
-fit_line (line.Makes e) l is k calm = k
-fit_line line.Drains l is k calm = tt
-fit_line line.Dumps l is k calm = let yes : is_dump l ≡ true = rw is refl in absurd (cc)
+fit_line (line.Makes e) l is k dumpless = k
+fit_line line.Drains l is k dumpless = tt
+fit_line line.Dumps l is k dumpless = let yes : is_dump l ≡ true = rw is refl in absurd (cc)
 
 pub all_fit : (ds : List DeviceLineData) (ls : List LineData) → All (IsLine ds) ls → All (λ l. is_dump l ≡ false) ls → Every IsFit (asks ls)
-all_fit ds [] k calm = tt
-all_fit ds (l ∷ ls) k calm = (fit_line l.what l refl (k 0 l (omega arith)).what (calm 0 l (omega arith)), all_fit ds ls (All-tail (IsLine ds) l ls k) (All-tail (λ x. is_dump x ≡ false) l ls calm))
+all_fit ds [] k dumpless = tt
+all_fit ds (l ∷ ls) k dumpless = (fit_line l.what l refl (k 0 l (omega arith)).what (dumpless 0 l (omega arith)), all_fit ds ls (All-tail (IsLine ds) l ls k) (All-tail (λ x. is_dump x ≡ false) l ls dumpless))
 
 pub lines_fit : (s : ScenarioData) (ls : List LineData) → ls ≡ s.lines → IsScenario s → IsServed s → Every IsFit (asks ls)
 lines_fit s ls e k served = subst (λ (xs : List LineData). Every IsFit (asks xs)) (sym e) (all_fit s.devices s.lines k.lines served.no_dumps)

@@ -1,11 +1,11 @@
 -- The text of a whole replay of a device, and fronts of one.
-use Rattle.std.proofs.Common.{◌≡◌, ℕ, List, [], ◌∷◌, ◌++◌, length, drop, Option, refl, sym, ap, ◌∙◌, subst, append_assoc}
+use Rattle.std.proofs.Common.{◌≡◌, ℕ, List, [], ◌++◌, length, drop, Option, refl, sym, ap, ◌∙◌, append_assoc}
 use Rattle.std.proofs.lemmas.List.{append-nil}
 use Rattle.edge.specs.Outside.{Gained, GainedFront}
 use Rattle.tcmu_types.specs.Data.{DoneData}
 use Rattle.tcmu_types.specs.Events.{EntryData}
 use Rattle.tcmu_model.specs.Device.{Device}
-use Rattle.tcmu_model.specs.Steps.{HandlerRelation, Run}
+use Rattle.tcmu_model.specs.Steps.{HandlerRelation}
 use Rattle.tcmu_model.specs.Sound.{IsSound, Every}
 use Rattle.tcmu_model.specs.Work.{HasOutcomes}
 use Rattle.tcmu_model.specs.Replay.{Replays, IsReplayText, open_count}
@@ -16,7 +16,7 @@ use Rattle.tcmu_top.specs.Tasks.{IsFit}
 use Rattle.tcmu_top.specs.Top.{Replayed, ReplayedInPart}
 use Rattle.tcmu_top.proofs.Playing.{replays_run, replays_total}
 use Rattle.tcmu_top.proofs.RunTexts.{text_more}
-use Rattle.tcmu_top.proofs.Telling.{gained_none, gained_more, gained_as, front_none, front_first, front_more, front_behind}
+use Rattle.tcmu_top.proofs.Telling.{gained_more, front_first, front_more, front_behind}
 
 abbrev last_text : DeviceLineData → Device → List ℕ
 last_text l d = end_text l.name (open_count d.state)

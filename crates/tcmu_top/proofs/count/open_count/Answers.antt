@@ -1,4 +1,4 @@
-use Rattle.std.proofs.Common.{◌≡◌, ◌+◌, ◌-◌, ◌≤◌, ap, sym, ◌∙◌, arith, subst}
+use Rattle.std.proofs.Common.{arith}
 use Rattle.tcmu_top.proofs.OpenCounts.{expired_within, delayed_few, open_counted}
 use Rattle.tcmu_top.proofs.count.open_count.Goals as goal
 

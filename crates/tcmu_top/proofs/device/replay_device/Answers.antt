@@ -1,5 +1,4 @@
 use Rattle.std.proofs.lemmas.Result.{on_ok_weaker, on_err_weaker}
-use Rattle.std.proofs.Common.{map, ap, ◌≡◌}
 use Rattle.tcmu_top.specs.Tasks.{asks}
 use Rattle.tcmu_top.proofs.Telling.{on_err}
 use Rattle.tcmu_top.proofs.Whole.{front_of_ready, front_of_run, front_of_last, whole}

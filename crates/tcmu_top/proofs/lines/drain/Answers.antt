@@ -1,9 +1,5 @@
-use Rattle.std.proofs.Common.{◌≡◌, sym, ◌∙◌, ap, Some, None, arith, Option}
-use Rattle.std.specs.Option.{option_map}
+use Rattle.std.proofs.Common.{Some, None, arith}
 use Rattle.tcmu_types.specs.Views.{event_data}
-use Rattle.tcmu_types.specs.Events.{EventData}
-use Rattle.tcmu_types.specs.declared.stat.Todo.{Todo}
-use Rattle.tcmu_model.specs.Drain.{drain_event, chosen}
 use Rattle.tcmu_top.proofs.Telling.{on_err}
 use Rattle.tcmu_top.proofs.Playing.{picked_by, draining_first, draining_more, draining_done, draining_stopped, falls_told}
 use Rattle.tcmu_top.proofs.lines.drain.Goals as goal

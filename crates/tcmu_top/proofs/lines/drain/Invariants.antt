@@ -1,4 +1,4 @@
-use Rattle.std.proofs.Common.{◌≡◌, ◌≤◌, ◌<◌, ◌^◌}
+use Rattle.std.proofs.Common.{◌≤◌}
 use Rattle.tcmu_model.specs.Work.{work}
 use Rattle.tcmu_path.specs.Calls.{Accepts}
 use Rattle.tcmu_top.proofs.Playing.{Draining}

@@ -1,8 +1,7 @@
-use Rattle.std.proofs.Common.{◌≡◌, ◌+◌, map, drop, subst, List, arith, sym}
+use Rattle.std.proofs.Common.{◌+◌, drop, arith}
 use Rattle.std.proofs.lemmas.Result.{on_ok_weaker, on_err_weaker}
-use Rattle.tcmu_model.specs.Sound.{Every}
 use Rattle.tcmu_model.proofs.Runs.{sound_run}
-use Rattle.tcmu_top.specs.Tasks.{IsFit, asks}
+use Rattle.tcmu_top.specs.Tasks.{asks}
 use Rattle.tcmu_top.proofs.Telling.{on_err}
 use Rattle.tcmu_top.proofs.Playing.{playing_first, playing_more, playing_stopped, playing_done, playing_end_stopped, lines_at, none_left}
 use Rattle.tcmu_top.proofs.lines.replay.Goals as goal

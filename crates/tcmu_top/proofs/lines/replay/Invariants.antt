@@ -1,4 +1,4 @@
-use Rattle.std.proofs.Common.{◌≡◌, ◌≤◌, ◌+◌, map, drop}
+use Rattle.std.proofs.Common.{◌≤◌, ◌+◌, drop}
 use Rattle.tcmu_model.specs.Sound.{Every}
 use Rattle.tcmu_top.specs.Tasks.{IsFit, asks}
 use Rattle.tcmu_top.proofs.Playing.{Playing}
