@@ -124,6 +124,37 @@ fn fault_lines(rt: HostRuntime) -> Result<(), Fail> {
     Ok(())
 }
 
+#[test]
+fn faults_of_whole_lines(rt: HostRuntime) -> Result<(), Fail> {
+    let alloc = rt.alloc();
+    for (input, line, why, text) in [
+        (
+            "device d0 tcm-user/0/d0/mem/64 ring=69632 blocks=16 flags=ooo timeout=30\ndump d0\n",
+            2,
+            Why::Dump,
+            "tcmu_lab: line 2: dump\n",
+        ),
+        (
+            "device d0 tcm-user/0/d0/mem/64 ring=4096 blocks=16 flags=ooo timeout=30\nstat d0\ndevice d1 tcm-user/0/d1/mem/64 ring=4096 blocks=16 flags=ooo timeout=30\n",
+            3,
+            Why::Order,
+            "tcmu_lab: line 3: order\n",
+        ),
+        (
+            "device d0 tcm-user/0/d1/mem/64 ring=4096 blocks=16 flags=ooo timeout=30",
+            1,
+            Why::Config,
+            "tcmu_lab: line 1: config\n",
+        ),
+    ] {
+        let (status, out, err) = run_words(alloc, "replay", input.as_bytes())?;
+        assert_eq!(rt; status, bad(line, why), "at {input}");
+        assert_eq!(rt; out.written(), b"".as_slice());
+        assert_eq!(rt; err.written(), text.as_bytes(), "at {input}");
+    }
+    Ok(())
+}
+
 /// The status of the program's call with one word, what it wrote, and what it told.
 fn run_words(
     alloc: Global,
