@@ -1,6 +1,6 @@
 -- Bytes copied in along iovecs, as bytes of the whole region.
-use Rattle.std.proofs.Common.{◌≡◌, ℕ, zero, suc, ◌+◌, ◌-◌, ◌*◌, ◌<◌, ◌≤◌, ◌⊎◌, ⊎_elim, inl, inr, List, [], ◌∷◌, ◌++◌, length, drop, take, min, Option, Some, None, refl, ap, ◌∙◌, sym, subst, arith, append_assoc, length-append}
-use Rattle.std.specs.Prelude.{slice_get, option_map}
+use Rattle.std.proofs.Common.{◌≡◌, ℕ, zero, suc, ◌+◌, ◌-◌, ◌*◌, ◌<◌, ◌≤◌, ◌⊎◌, ⊎_elim, inl, inr, List, [], ◌∷◌, ◌++◌, length, drop, take, min, Option, Some, None, refl, ap, ◌∙◌, sym, subst, arith}
+use Rattle.std.specs.Prelude.{slice_get}
 use Rattle.std.proofs.Math.Nat.{mul-suc}
 use Rattle.std.proofs.Math.Seq.{take-append_seam, take-append-add}
 use Rattle.std.proofs.lemmas.Bool.{cases_lt}
@@ -8,7 +8,7 @@ use Rattle.std.proofs.lemmas.List.{drop-drop, drop_all, drop-take, take-take, ta
 use Rattle.tcmu_types.specs.declared.iovec.Iov.{Iov}
 use Rattle.tcmu_model.specs.Layout.{put, zeros}
 use Rattle.tcmu_model.specs.Iovecs.{along, total_of}
-use Rattle.tcmu_model.specs.Regions.{RegionState, IsRegion, IsLent, AreSized, size_of, shown, bytes_of, overlaid, blocks_over, wrote, copied_in, LieInRegion}
+use Rattle.tcmu_model.specs.Regions.{RegionState, AreSized, size_of, shown, bytes_of, overlaid, blocks_over, wrote, copied_in, LieInRegion}
 use Rattle.tcmu_model.proofs.Written.{length-zeros, length-put, put-nothing, take-put, drop-put}
 use Rattle.shm_region.specs.Copies.{ShareNone, LeaveOut, AreDisjoint, NameNoLent}
 use Rattle.shm_region.proofs.Over.{over_past, over_before, length-overlaid}
