@@ -3,3 +3,4 @@ mod Opening
 mod Lent
 mod Over
 mod Shown
+mod Copied

@@ -9,5 +9,5 @@ mod region;
 #[cfg(test)]
 mod tests;
 
-pub use laws::lends_and_takes_back;
+pub use laws::{copies_back, lends_and_takes_back};
 pub use region::Region;
