@@ -7,7 +7,7 @@ use media::MemMedium;
 use std::alloc::Global;
 use std::test::Fail;
 use tcmu_path::PlainPath;
-use tcmu_types::{Bytes, Cdb, Command, Flags, Name, Settings, Submit};
+use tcmu_types::{Bytes, Cdb, Command, Done, Enter, Flags, Name, Settings, Submit};
 
 type Disk = Rig<PlainPath<Engine<MemMedium>>>;
 
@@ -83,5 +83,53 @@ fn a_ring_of_4096_bytes_holds_31_entries_of_128(rt: HostRuntime) -> Result<(), F
         free: 127,
     };
     assert_eq!(rt; disk.submit(alloc, &command)?, full);
+    Ok(())
+}
+
+/// The serial, the status, and the sense codes of a completion.
+fn told(done: &Done) -> (u64, u8, (u8, u8, u8)) {
+    let codes = match done.sense {
+        Some(sense) => (sense.key, sense.asc, sense.ascq),
+        None => (0, 0, 0),
+    };
+    (done.serial, done.status.0, codes)
+}
+
+/// One command holds the only data block, and another waits for it, up to 5 ticks.
+fn one_waits(alloc: Global) -> Result<(Submit, Submit, Disk), Fail> {
+    let mut disk = disk(alloc, 64, settings(1, 30, 5, true, false))?;
+    let command = read_one(alloc, 1)?;
+    let first = disk.submit(alloc, &command)?;
+    let second = disk.submit(alloc, &command)?;
+    Ok((first, second, disk))
+}
+
+#[test]
+fn a_command_waits_for_room_and_leaves_in_time(rt: HostRuntime) -> Result<(), Fail> {
+    let alloc = rt.alloc();
+    let (first, second, mut disk) = one_waits(alloc)?;
+    assert_eq!(rt; (first, second), (Submit::Queued(1), Submit::Delayed(2)));
+    let full = Enter::FullBlocks { need: 1, free: 0 };
+    assert_eq!(rt; disk.enter(alloc)?, full);
+    assert_eq!(rt; (disk.tick(4), disk.tick(1)), (0, 1));
+    assert_eq!(rt;
+        told(disk.log().first().ok_or("a completion")?),
+        (2, 0x28, (0, 0, 0))
+    );
+    assert_eq!(rt; disk.enter(alloc)?, Enter::Empty);
+    Ok(())
+}
+
+#[test]
+fn an_expired_command_holds_its_blocks(rt: HostRuntime) -> Result<(), Fail> {
+    let alloc = rt.alloc();
+    let mut disk = disk(alloc, 128, settings(16, 30, 0, true, false))?;
+    disk.submit(alloc, &read(alloc, 1, 0, 128, 65536)?)?;
+    assert_eq!(rt; disk.tick(30), 1);
+    let full = Submit::FullBlocks { need: 1, free: 0 };
+    let command = read_one(alloc, 2)?;
+    assert_eq!(rt; disk.submit(alloc, &command)?, full);
+    disk.drain(alloc)?;
+    assert_eq!(rt; disk.submit(alloc, &command)?, Submit::Queued(2));
     Ok(())
 }
