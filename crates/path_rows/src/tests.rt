@@ -9,7 +9,7 @@ use std::test::Fail;
 use tcmu_path::PlainPath;
 use tcmu_types::{
     Bytes, Cdb, Command, Dispatch, Done, Enter, Flags, Handle, Name, Publish, Reset, Respond,
-    Settings, Stat, Submit, Tmr,
+    Settings, Stat, Submit,
 };
 
 type Disk = Rig<PlainPath<Engine<MemMedium>>>;
