@@ -1,0 +1,22 @@
+//! Worked examples: what the definitions give for bytes that the other side has no right to write.
+ghost use Rattle.ring_laws.specs.Hostile.{IdOfNone, TailInside, IdTwice, LengthPastData, SaidUnknown, NoLength, HeadUnaligned, OpUnknown, IovecBefore, OtherSize, AreaGone};
+
+/// The target over bytes that a user side wrote: a wrong id, a wrong tail, an id twice, a length past the data, an unknown entry.
+pub fn target_examples()
+    ensures id_of_none { IdOfNone }
+    ensures tail_inside { TailInside }
+    ensures id_twice { IdTwice }
+    ensures length_past_data { LengthPastData }
+    ensures said_unknown { SaidUnknown }
+{}
+
+/// The user side over bytes that a target wrote: a length of 0, heads and sizes that break the mailbox's rules, an unknown opcode,
+/// an iovec outside the data area, and a data area that goes away under a job.
+pub fn user_examples()
+    ensures no_length { NoLength }
+    ensures head_unaligned { HeadUnaligned }
+    ensures op_unknown { OpUnknown }
+    ensures iovec_before { IovecBefore }
+    ensures other_size { OtherSize }
+    ensures area_gone { AreaGone }
+{}
