@@ -3,7 +3,7 @@
 use Rattle.std.specs.Prelude.{ℕ, ◌+◌, ◌-◌, ◌/◌, ◌%◌, ◌==◌, ◌&&◌, not, Bool, true, false, List, [], ◌∷◌, ◌++◌, length, take, drop, Option, Some, None, Result, Ok, Err, if◌then◌else◌}
 use Rattle.std.specs.List.{sum_by, count_by, list_all}
 use Rattle.std.specs.Option.{is_some}
-use Rattle.tcmu_types.specs.Data.{ReplyData}
+use Rattle.tcmu_types.specs.Data.{ReplyData, SettingsData}
 use Rattle.tcmu_types.specs.declared.settings.Flags.{Flags}
 use Rattle.tcmu_types.specs.declared.dump.ItemKind.{ItemKind}
 use Rattle.tcmu_types.specs.declared.dump.ItemKind.TheVariants as kind
@@ -16,7 +16,7 @@ use Rattle.tcmu_model.specs.declared.mailbox.Mailbox.{Mailbox}
 use Rattle.tcmu_model.specs.declared.mailbox.MailboxFault.{MailboxFault}
 use Rattle.tcmu_model.specs.declared.mailbox.MailboxFault.TheVariants.{Size}
 use Rattle.tcmu_model.specs.Lists.{first_of, without_first, with_first}
-use Rattle.tcmu_model.specs.Layout.{le, put, tail_place, with_response}
+use Rattle.tcmu_model.specs.Layout.{le, put, tail_place, device_mailbox, with_response}
 use Rattle.tcmu_model.specs.MailboxReading.{mailbox_read}
 use Rattle.tcmu_model.specs.EntryReading.{lies_inside}
 use Rattle.tcmu_model.specs.Iovecs.{scattered}
@@ -56,6 +56,10 @@ user_of pages m =
       placed = 0;
       published = 0;
     }
+
+-- attached to a region as it opens
+unfoldable pub opening_user : SettingsData → UserState
+opening_user s = user_of s.pages (device_mailbox s.flags s.ring 0 0)
 
 abbrev pub attached_to : ℕ → Result Mailbox MailboxFault → Result UserState MailboxFault
 attached_to pages (Err fault) = Err fault
