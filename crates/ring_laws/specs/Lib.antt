@@ -8,3 +8,4 @@ pub mod UserSteps
 pub mod UserNext
 pub mod Owned
 pub mod Hostile
+pub mod Shown

@@ -7,4 +7,4 @@ mod laws;
 mod worked;
 
 pub use laws::opening_law;
-pub use worked::{target_examples, user_examples};
+pub use worked::{picture_examples, target_examples, user_examples, way_examples};

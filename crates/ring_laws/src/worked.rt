@@ -1,4 +1,5 @@
-//! Worked examples: what the definitions give for bytes that the other side has no right to write.
+//! Worked examples: what the definitions give for bytes that the other side has no right to write, for dumps, and for a command on its way.
+ghost use Rattle.ring_laws.specs.Shown.{ShowsMailbox, ShowsPadding, Clears, Serves};
 ghost use Rattle.ring_laws.specs.Hostile.{IdOfNone, TailInside, IdTwice, LengthPastData, SaidUnknown, NoLength, HeadUnaligned, OpUnknown, IovecBefore, OtherSize, AreaGone};
 
 /// The target over bytes that a user side wrote: a wrong id, a wrong tail, an id twice, a length past the data, an unknown entry.
@@ -19,4 +20,17 @@ pub fn user_examples()
     ensures iovec_before { IovecBefore }
     ensures other_size { OtherSize }
     ensures area_gone { AreaGone }
+{}
+
+/// The picture of a device as it opens, and of one whose entry stands behind padding.
+pub fn picture_examples()
+    ensures mailbox { ShowsMailbox }
+    ensures padding { ShowsPadding }
+{}
+
+/// A command on its way through a region whose block an earlier one left full: the block is cleared, and what the reply does not fill
+/// stays zeros.
+pub fn way_examples()
+    ensures clears { Clears }
+    ensures serves { Serves }
 {}
