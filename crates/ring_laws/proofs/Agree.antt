@@ -1,0 +1,73 @@
+-- What the target computes from its record is what the device's ring says.
+use Rattle.std.proofs.Common.{◌≡◌, ◌≢◌, ℕ, ◌+◌, ◌-◌, ◌*◌, ◌/◌, ◌%◌, ◌^◌, ◌≤◌, ◌<◌, ◌⊎◌, ◌==◌, ◌||◌, inl, inr, max, min, Bool, true, false, not, cond, List, [], ◌∷◌, ◌++◌, length, take, drop, map, refl, sym, ap, ◌∙◌, arith, suc, zero, Option, Some, None, slice_get, append_assoc, length-append, length-drop, length-take, subst, ⊎_elim, eqb, ltb}
+use Rattle.std.specs.List.{sum_by, flat_map, list_any}
+use Rattle.std.proofs.Math.Nat.{mul-le-mul_left, add-mul-mod_self_left}
+use Rattle.std.proofs.lemmas.Bool.{cases_Bool, eqb-true, eqb-false, ltb-true, ltb-false, cases_lt, eq-eqb, ne_eqb, false≢true, or_parts}
+use Rattle.std.proofs.lemmas.List.{take_at, drop_at, take-append-le, drop-append-le, take_all, drop_all, take-append-drop, take-take, drop-drop, drop-take, length-take-le, length-replicate, map-append}
+use Rattle.std.proofs.lemmas.List.Sums.{sum_by-append, sum_by_push, sum_by-take-le, sum_by-cons}
+use Rattle.std.proofs.lemmas.Option.{slice_get_past}
+use Rattle.tcmu_types.specs.Data.{CommandData, ReplyData, SettingsData}
+use Rattle.tcmu_types.specs.Rules.{payload_length, IsSettings}
+use Rattle.tcmu_types.specs.declared.settings.Flags.{Flags}
+use Rattle.tcmu_types.specs.declared.dump.ItemKind.{ItemKind}
+use Rattle.tcmu_types.specs.declared.dump.ItemKind.TheVariants as kind
+use Rattle.tcmu_model.specs.Lists.{first_of}
+use Rattle.tcmu_model.specs.Lengths.{blocks_of, block_size, round_up, entry_length}
+use Rattle.tcmu_model.specs.RingState.{RingState, Item, Laid, lengths, head, used, free, need, pads, with_item, commands_in, is_command}
+use Rattle.tcmu_model.specs.RingState as ring
+use Rattle.tcmu_model.specs.Device.{Unfinished, DeviceState, has_serial}
+use Rattle.tcmu_model.specs.BlockLists.{Taken, list_of, held_by, least_free, blocks_taken, with_taken}
+use Rattle.tcmu_model.specs.Layout.{le, field, put, zeros, ring_start, data_start, head_place, pad_bytes, mailbox_bytes, device_mailbox}
+use Rattle.tcmu_model.specs.Pending.{PendingData}
+use Rattle.ring_laws.specs.Picture.{place_of, tail, item_bytes, entry_of, with_answer, request_of, ids_named, shown_mailbox, command_iovs}
+use Rattle.ring_laws.specs.Sides.{Recorded, PendingRow, TargetState}
+use Rattle.ring_laws.specs.Represents.{RingStands, StandsAt, recorded, entry_at, id_in, ids_in, TargetKeeps, pending_of, id_at, id_of, row_has, IsId, IdsStand}
+use Rattle.ring_laws.specs.TargetSteps.{with_pad, pads_of, used_in, head_in, free_in, pad_in, need_in, blocks_held, blocks_given, place_in, length_in, deadline_in, front_with, region_laid, target_laid}
+use Rattle.ring_laws.proofs.Layouts.{add-mod}
+use Rattle.ring_laws.proofs.Places.{used_is}
+
+sum-recorded : (xs : List Item) → sum_by (λ x. x.len) (map recorded xs) ≡ lengths xs
+sum-recorded [] = refl
+sum-recorded (x ∷ xs) =
+    let a : sum_by (λ (y : Recorded). y.len) (recorded x ∷ map recorded xs) ≡ x.len + sum_by (λ (y : Recorded). y.len) (map recorded xs) = sum_by-cons (λ (y : Recorded). y.len) (recorded x) (map recorded xs) in
+    let b : lengths (x ∷ xs) ≡ x.len + lengths xs = sum_by-cons (λ (y : Item). y.len) x xs in
+    let c : sum_by (λ (y : Recorded). y.len) (map recorded xs) ≡ lengths xs = sum-recorded xs in
+    omega arith
+
+-- what the target's record says of the ring
+pub record Agrees (t : TargetState) (d : DeviceState) : Type 0 where
+  pub size : t.settings.ring ≡ d.ring.size
+  pub used : used_in t ≡ used d.ring
+  pub head : head_in t ≡ head d.ring
+  pub pad : (n : ℕ) → pad_in t n ≡ ring.pad d.ring n
+
+pub agrees : (front : List ℕ) (t : TargetState) (d : DeviceState) (lists : List Taken) → RingStands front t.items d lists → TargetKeeps t d lists → d.ring.size ≡ d.settings.ring → Agrees t d
+agrees front t d lists shape keeps size =
+    let s : t.settings.ring ≡ d.ring.size = ap (λ z. z.ring) keeps.settings ∙ sym size in
+    let u : used_in t ≡ used d.ring = ap (λ (xs : List Recorded). sum_by (λ (x : Recorded). x.len) xs) shape.recorded ∙ sum-recorded (drop d.ring.cleared d.ring.laid) in
+    let h : head_in t ≡ head d.ring =
+    ap (λ z. (t.cleaned + used_in t) % z) s ∙ ap (λ z. (z + used_in t) % d.ring.size) keeps.cleaned ∙ ap (λ z. (place_of d.ring d.ring.cleared + z) % d.ring.size) u
+    ∙ add-mod (lengths (take d.ring.cleared d.ring.laid)) (used d.ring) d.ring.size ∙ ap (λ z. z % d.ring.size) (used_is d.ring) in
+    record {
+      size = s;
+      used = u;
+      head = h;
+      pad = λ n. ap (λ z. cond (ltb (z - head_in t) n) (z - head_in t) 0) s ∙ ap (λ z. cond (ltb (d.ring.size - z) n) (d.ring.size - z) 0) h;
+    }
+
+-- ==== the blocks that are held
+
+held-entries : (es : List PendingRow) → blocks_held es ≡ flat_map (λ (p : PendingData). p.blocks) (map (λ (e : PendingRow). e.pending) es)
+held-entries [] = refl
+held-entries (e ∷ es) = ap (λ xs. e.pending.blocks ++ xs) (held-entries es)
+
+held-unfinished : (lists : List Taken) (us : List Unfinished) → flat_map (λ (p : PendingData). p.blocks) (map (pending_of lists) us) ≡ held_by lists us
+held-unfinished lists [] = refl
+held-unfinished lists (u ∷ us) = ap (λ xs. list_of lists u.serial ++ xs) (held-unfinished lists us)
+
+pub held-same : (t : TargetState) (d : DeviceState) (lists : List Taken) → TargetKeeps t d lists → blocks_held t.rows ≡ held_by lists d.unfinished
+held-same t d lists k = held-entries t.rows ∙ ap (flat_map (λ (p : PendingData). p.blocks)) k.rows ∙ held-unfinished lists d.unfinished
+
+pub blocks-same : (t : TargetState) (d : DeviceState) (lists : List Taken) (c : CommandData) → TargetKeeps t d lists → blocks_given t c ≡ least_free d.settings.blocks (held_by lists d.unfinished) (blocks_of d.settings.pages c)
+blocks-same t d lists c k =
+    ap (λ s. least_free s.blocks (blocks_held t.rows) (blocks_of s.pages c)) k.settings ∙ ap (λ h. least_free d.settings.blocks h (blocks_of d.settings.pages c)) (held-same t d lists k)

@@ -1,0 +1,81 @@
+-- Bytes written over others.
+use Rattle.std.proofs.Common.{◌≡◌, ◌≢◌, ℕ, ◌+◌, ◌-◌, ◌*◌, ◌/◌, ◌%◌, ◌^◌, ◌≤◌, ◌<◌, ◌⊎◌, ◌==◌, ◌||◌, inl, inr, max, min, Bool, true, false, not, cond, List, [], ◌∷◌, ◌++◌, length, take, drop, map, refl, sym, ap, ◌∙◌, arith, suc, zero, Option, Some, None, slice_get, append_assoc, length-append, length-drop, length-take, subst, ⊎_elim, eqb, ltb}
+use Rattle.std.specs.List.{sum_by, flat_map, list_any}
+use Rattle.std.proofs.Math.Nat.{mul-le-mul_left, add-mul-mod_self_left}
+use Rattle.std.proofs.lemmas.Bool.{cases_Bool, eqb-true, eqb-false, ltb-true, ltb-false, cases_lt, eq-eqb, ne_eqb, false≢true, or_parts}
+use Rattle.std.proofs.lemmas.List.{take_at, drop_at, take-append-le, drop-append-le, take_all, drop_all, take-append-drop, take-take, drop-drop, drop-take, length-take-le, length-replicate, map-append}
+use Rattle.std.proofs.lemmas.List.Sums.{sum_by-append, sum_by_push, sum_by-take-le, sum_by-cons}
+use Rattle.std.proofs.lemmas.Option.{slice_get_past}
+use Rattle.tcmu_types.specs.Data.{CommandData, ReplyData, SettingsData}
+use Rattle.tcmu_types.specs.Rules.{payload_length, IsSettings}
+use Rattle.tcmu_types.specs.declared.settings.Flags.{Flags}
+use Rattle.tcmu_types.specs.declared.dump.ItemKind.{ItemKind}
+use Rattle.tcmu_types.specs.declared.dump.ItemKind.TheVariants as kind
+use Rattle.tcmu_model.specs.Lists.{first_of}
+use Rattle.tcmu_model.specs.Lengths.{blocks_of, block_size, round_up, entry_length}
+use Rattle.tcmu_model.specs.RingState.{RingState, Item, Laid, lengths, head, used, free, need, pads, with_item, commands_in, is_command}
+use Rattle.tcmu_model.specs.RingState as ring
+use Rattle.tcmu_model.specs.Device.{Unfinished, DeviceState, has_serial}
+use Rattle.tcmu_model.specs.BlockLists.{Taken, list_of, held_by, least_free, blocks_taken, with_taken}
+use Rattle.tcmu_model.specs.Layout.{le, field, put, zeros, ring_start, data_start, head_place, pad_bytes, mailbox_bytes, device_mailbox}
+use Rattle.tcmu_model.specs.Pending.{PendingData}
+use Rattle.ring_laws.specs.Picture.{place_of, tail, item_bytes, entry_of, with_answer, request_of, ids_named, shown_mailbox, command_iovs}
+use Rattle.ring_laws.specs.Sides.{Recorded, PendingRow, TargetState}
+use Rattle.ring_laws.specs.Represents.{RingStands, StandsAt, recorded, entry_at, id_in, ids_in, TargetKeeps, pending_of, id_at, id_of, row_has, IsId, IdsStand}
+use Rattle.ring_laws.specs.TargetSteps.{with_pad, pads_of, used_in, head_in, free_in, pad_in, need_in, blocks_held, blocks_given, place_in, length_in, deadline_in, front_with, region_laid, target_laid}
+
+-- n bytes from a place on
+abbrev pub part : List ℕ → ℕ → ℕ → List ℕ
+part xs at n = take n (drop at xs)
+
+pub length-written : (xs : List ℕ) (at : ℕ) (ys : List ℕ) → at + length ys ≤ length xs → length (put xs at ys) ≡ length xs
+unfolding put
+length-written xs at ys h =
+    let a : length (take at xs) ≡ at = length-take-le at xs (omega arith) in
+    let b : length (drop (at + length ys) xs) ≡ length xs - (at + length ys) = length-drop (at + length ys) xs in
+    let c : length (take at xs ++ ys ++ drop (at + length ys) xs) ≡ length (take at xs ++ ys) + length (drop (at + length ys) xs) = length-append (take at xs ++ ys) (drop (at + length ys) xs) in
+    let e : length (take at xs ++ ys) ≡ length (take at xs) + length ys = length-append (take at xs) ys in
+    omega (arith, a, b, c, e)
+
+-- what was written
+pub part-written : (xs : List ℕ) (at : ℕ) (ys : List ℕ) → at + length ys ≤ length xs → part (put xs at ys) at (length ys) ≡ ys
+unfolding put
+part-written xs at ys h =
+    let a : length (take at xs) ≡ at = length-take-le at xs (omega arith) in
+    let e : drop at (take at xs ++ ys ++ drop (at + length ys) xs) ≡ ys ++ drop (at + length ys) xs =
+    ap (drop at) (append_assoc (take at xs) ys (drop (at + length ys) xs)) ∙ drop_at (take at xs) (ys ++ drop (at + length ys) xs) at a in
+    ap (take (length ys)) e ∙ take_at ys (drop (at + length ys) xs) (length ys) refl
+
+-- what lies before it
+pub take-written : (xs : List ℕ) (at : ℕ) (ys : List ℕ) (n : ℕ) → n ≤ at → at ≤ length xs → take n (put xs at ys) ≡ take n xs
+unfolding put
+take-written xs at ys n h l =
+    let a : length (take at xs) ≡ at = length-take-le at xs l in
+    let e : take at xs ++ ys ++ drop (at + length ys) xs ≡ take at xs ++ (ys ++ drop (at + length ys) xs) = append_assoc (take at xs) ys (drop (at + length ys) xs) in
+    ap (take n) e ∙ take-append-le n (take at xs) (ys ++ drop (at + length ys) xs) (omega arith) ∙ take-take n at xs h
+
+pub part_of_front : (xs ys : List ℕ) (m p n : ℕ) → p + n ≤ m → take m xs ≡ take m ys → part xs p n ≡ part ys p n
+part_of_front xs ys m p n h e =
+    let f : (zs : List ℕ) → take n (drop p (take m zs)) ≡ take n (drop p zs) = λ zs.
+    let k : m ≡ p + (m - p) = omega arith in
+    let a : drop p (take (p + (m - p)) zs) ≡ take (m - p) (drop p zs) = drop-take p (m - p) zs in
+    let b : drop p (take m zs) ≡ take (m - p) (drop p zs) = ap (λ t. drop p (take t zs)) k ∙ a in
+    ap (take n) b ∙ take-take n (m - p) (drop p zs) (omega arith) in
+    sym (f xs) ∙ ap (λ zs. take n (drop p zs)) e ∙ f ys
+
+pub part-written_before : (xs : List ℕ) (at : ℕ) (ys : List ℕ) (p n : ℕ) → p + n ≤ at → at ≤ length xs → part (put xs at ys) p n ≡ part xs p n
+part-written_before xs at ys p n h l = part_of_front (put xs at ys) xs at p n h (take-written xs at ys at (omega arith) l)
+
+-- what lies behind it
+pub drop-written : (xs : List ℕ) (at : ℕ) (ys : List ℕ) (p : ℕ) → at + length ys ≤ p → at ≤ length xs → drop p (put xs at ys) ≡ drop p xs
+unfolding put
+drop-written xs at ys p h l =
+    let a : length (take at xs) ≡ at = length-take-le at xs l in
+    let e : length (take at xs ++ ys) ≡ at + length ys = length-append (take at xs) ys ∙ ap (λ t. t + length ys) a in
+    let f : drop (at + length ys) (take at xs ++ ys ++ drop (at + length ys) xs) ≡ drop (at + length ys) xs = drop_at (take at xs ++ ys) (drop (at + length ys) xs) (at + length ys) e in
+    let k : p ≡ (at + length ys) + (p - (at + length ys)) = omega arith in
+    ap (λ t. drop t (put xs at ys)) k ∙ sym (drop-drop (p - (at + length ys)) (at + length ys) (put xs at ys)) ∙ ap (drop (p - (at + length ys))) f
+    ∙ drop-drop (p - (at + length ys)) (at + length ys) xs ∙ ap (λ t. drop t xs) (sym k)
+
+pub part-written_behind : (xs : List ℕ) (at : ℕ) (ys : List ℕ) (p n : ℕ) → at + length ys ≤ p → at ≤ length xs → part (put xs at ys) p n ≡ part xs p n
+part-written_behind xs at ys p n h l = ap (take n) (drop-written xs at ys p h l)

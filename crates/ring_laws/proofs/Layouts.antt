@@ -1,0 +1,122 @@
+-- The lengths of what is written into a ring, and where its ids stand.
+use Rattle.std.proofs.Common.{◌≡◌, ◌≢◌, ℕ, ◌+◌, ◌-◌, ◌*◌, ◌/◌, ◌%◌, ◌^◌, ◌≤◌, ◌<◌, ◌⊎◌, ◌==◌, ◌||◌, inl, inr, max, min, Bool, true, false, not, cond, List, [], ◌∷◌, ◌++◌, length, take, drop, map, refl, sym, ap, ◌∙◌, arith, suc, zero, Option, Some, None, slice_get, append_assoc, length-append, length-drop, length-take, subst, ⊎_elim, eqb, ltb}
+use Rattle.std.specs.List.{sum_by, flat_map, list_any}
+use Rattle.std.proofs.Math.Nat.{mul-le-mul_left, add-mul-mod_self_left}
+use Rattle.std.proofs.lemmas.Bool.{cases_Bool, eqb-true, eqb-false, ltb-true, ltb-false, cases_lt, eq-eqb, ne_eqb, false≢true, or_parts}
+use Rattle.std.proofs.lemmas.List.{take_at, drop_at, take-append-le, drop-append-le, take_all, drop_all, take-append-drop, take-take, drop-drop, drop-take, length-take-le, length-replicate, map-append}
+use Rattle.std.proofs.lemmas.List.Sums.{sum_by-append, sum_by_push, sum_by-take-le, sum_by-cons}
+use Rattle.std.proofs.lemmas.Option.{slice_get_past}
+use Rattle.tcmu_types.specs.Data.{CommandData, ReplyData, SettingsData}
+use Rattle.tcmu_types.specs.Rules.{payload_length, IsSettings}
+use Rattle.tcmu_types.specs.declared.settings.Flags.{Flags}
+use Rattle.tcmu_types.specs.declared.dump.ItemKind.{ItemKind}
+use Rattle.tcmu_types.specs.declared.dump.ItemKind.TheVariants as kind
+use Rattle.tcmu_model.specs.Lists.{first_of}
+use Rattle.tcmu_model.specs.Lengths.{blocks_of, block_size, round_up, entry_length}
+use Rattle.tcmu_model.specs.RingState.{RingState, Item, Laid, lengths, head, used, free, need, pads, with_item, commands_in, is_command}
+use Rattle.tcmu_model.specs.RingState as ring
+use Rattle.tcmu_model.specs.Device.{Unfinished, DeviceState, has_serial}
+use Rattle.tcmu_model.specs.BlockLists.{Taken, list_of, held_by, least_free, blocks_taken, with_taken}
+use Rattle.tcmu_model.specs.Layout.{le, field, put, zeros, ring_start, data_start, head_place, pad_bytes, mailbox_bytes, device_mailbox}
+use Rattle.tcmu_model.specs.Pending.{PendingData}
+use Rattle.ring_laws.specs.Picture.{place_of, tail, item_bytes, entry_of, with_answer, request_of, ids_named, shown_mailbox, command_iovs}
+use Rattle.ring_laws.specs.Sides.{Recorded, PendingRow, TargetState}
+use Rattle.ring_laws.specs.Represents.{RingStands, StandsAt, recorded, entry_at, id_in, ids_in, TargetKeeps, pending_of, id_at, id_of, row_has, IsId, IdsStand}
+use Rattle.ring_laws.specs.TargetSteps.{with_pad, pads_of, used_in, head_in, free_in, pad_in, need_in, blocks_held, blocks_given, place_in, length_in, deadline_in, front_with, region_laid, target_laid}
+use Rattle.tcmu_types.specs.declared.iovec.Iov.{Iov}
+use Rattle.tcmu_model.specs.Layout.{padded, entry_header, iovs_bytes, command_head, cdb_place, command_length, command_bytes}
+use Rattle.tcmu_model.specs.Iovecs.{piece, merged, iovs_along}
+use Rattle.tcmu_model.proofs.Written.{lengths as writes, length-le, length-zeros, length-padded, length-entry_header, length-command_head, field-in, field-front}
+
+pub add-mod : (a b n : ℕ) → (a % n + b) % n ≡ (a + b) % n
+add-mod a b n = let e : (a % n + b) + n * (a / n) ≡ a + b = omega arith in sym (add-mul-mod_self_left (a % n + b) n (a / n)) ∙ ap (λ t. t % n) e
+
+pub take-past : (p q : List ℕ) (n m : ℕ) → length p ≡ m → m ≤ n → take n (p ++ q) ≡ p ++ take (n - m) q
+take-past [] q n m e h = let z : n - m ≡ n = let k : m ≡ 0 = sym e in omega arith in ap (λ t. take t q) (sym z)
+take-past (x ∷ p) q n zero e h = absurd (omega arith)
+take-past (x ∷ p) q zero (suc m) e h = absurd (omega arith)
+take-past (x ∷ p) q (suc n) (suc m) e h = let d : suc n - suc m ≡ n - m = omega arith in ap (λ zs. x ∷ zs) (take-past p q n m (omega arith) (omega arith)) ∙ ap (λ t. x ∷ (p ++ take t q)) (sym d)
+
+-- writing within a front
+pub take-written_inside : (xs : List ℕ) (at : ℕ) (ys : List ℕ) (n : ℕ) → at + length ys ≤ n → n ≤ length xs → take n (put xs at ys) ≡ put (take n xs) at ys
+unfolding put
+take-written_inside xs at ys n h l =
+    let m : ℕ = at + length ys in
+    let k : n ≡ m + (n - m) = omega arith in
+    let tk : take n xs ≡ take (m + (n - m)) xs = ap (λ t. take t xs) k in
+    let a : take at (take n xs) ≡ take at xs = take-take at n xs (omega arith) in
+    let b : drop m (take n xs) ≡ take (n - m) (drop m xs) = ap (drop m) tk ∙ drop-take m (n - m) xs in
+    let la : length (take at xs) ≡ at = length-take-le at xs (omega arith) in
+    let lp : length (take at xs ++ ys) ≡ m = length-append (take at xs) ys ∙ ap (λ t. t + length ys) la in
+    let c : take n (take at xs ++ ys ++ drop m xs) ≡ take at xs ++ ys ++ take (n - m) (drop m xs) = take-past (take at xs ++ ys) (drop m xs) n m lp (omega arith) in
+    c ∙ ap (λ zs. take at xs ++ ys ++ zs) (sym b) ∙ ap (λ zs. zs ++ ys ++ drop m (take n xs)) (sym a)
+
+-- the mailbox with its head moved
+pub mailbox_moved : (f : Flags) (size head tail head' : ℕ) → put (mailbox_bytes (device_mailbox f size head tail)) head_place (le 4 head') ≡ mailbox_bytes (device_mailbox f size head' tail)
+unfolding put le zeros mailbox_bytes
+mailbox_moved f size head tail head' = refl
+
+pub length-pad : (n : ℕ) → 8 ≤ n → length (pad_bytes n) ≡ n
+unfolding pad_bytes
+length-pad n h = length-append (entry_header 0 n 0) (zeros (n - 8)) ∙ omega (arith, length-entry_header 0 n 0, length-zeros (n - 8))
+
+-- ==== a command's entry
+
+length-iovs_bytes : (iovs : List Iov) → length (iovs_bytes iovs) ≡ 16 * length iovs
+length-iovs_bytes [] = refl
+length-iovs_bytes (iov ∷ iovs) =
+    let rest : length (iovs_bytes iovs) ≡ 16 * length iovs = length-iovs_bytes iovs in
+    let one : length (le 8 iov.base ++ le 8 iov.len) ≡ length (le 8 iov.base) + length (le 8 iov.len) = length-append (le 8 iov.base) (le 8 iov.len) in
+    length-append (le 8 iov.base ++ le 8 iov.len) (iovs_bytes iovs) ∙ omega (arith, rest, one, length-le 8 iov.base, length-le 8 iov.len)
+
+pub length-merged : (e : Iov) (es : List Iov) → length (merged e es) ≤ length es + 1
+unfolding merged
+length-merged e [] = omega arith
+length-merged e (f ∷ fs) =
+    ⊎_elim
+    (λ (z : eqb (e.base + e.len) f.base ≡ true). rw z (omega arith))
+    (λ (z : eqb (e.base + e.len) f.base ≡ false). rw z (omega arith))
+    (cases_Bool (eqb (e.base + e.len) f.base))
+
+pub length-iovs : (start size : ℕ) (bs : List ℕ) (n : ℕ) → length (iovs_along start size bs n) ≤ length bs
+unfolding iovs_along
+length-iovs start size [] n = omega arith
+length-iovs start size (b ∷ bs) n = omega (arith, length-merged (piece start size b n) (iovs_along start size bs (n - size)), length-iovs start size bs (n - size))
+
+front_long : (at id slots : ℕ) (iovs : List Iov) (cdb : List ℕ) → length iovs ≤ slots →
+    length (command_head (command_length slots (length cdb)) id (length iovs) (ring_start + at + cdb_place slots) ++ iovs_bytes iovs) ≤ cdb_place slots
+front_long at id slots iovs cdb h =
+    let a : length (command_head (command_length slots (length cdb)) id (length iovs) (ring_start + at + cdb_place slots) ++ iovs_bytes iovs) ≡
+        length (command_head (command_length slots (length cdb)) id (length iovs) (ring_start + at + cdb_place slots)) + length (iovs_bytes iovs) =
+        length-append (command_head (command_length slots (length cdb)) id (length iovs) (ring_start + at + cdb_place slots)) (iovs_bytes iovs) in
+    let b : length (command_head (command_length slots (length cdb)) id (length iovs) (ring_start + at + cdb_place slots)) ≡ 48 = length-command_head (command_length slots (length cdb)) id (length iovs) (ring_start + at + cdb_place slots) in
+    let c : length (iovs_bytes iovs) ≡ 16 * length iovs = length-iovs_bytes iovs in
+    let big : 48 + 16 * slots ≤ cdb_place slots = omega arith in
+    omega (arith, a, b, c, big, h)
+
+pub length-request : (at id slots : ℕ) (iovs : List Iov) (cdb : List ℕ) → length iovs ≤ slots → length (command_bytes at id slots iovs cdb) ≡ cdb_place slots + round_up (length cdb)
+unfolding command_bytes
+length-request at id slots iovs cdb h =
+    let f : List ℕ = command_head (command_length slots (length cdb)) id (length iovs) (ring_start + at + cdb_place slots) ++ iovs_bytes iovs in
+    let a : length (padded (cdb_place slots) f) ≡ cdb_place slots = length-padded (cdb_place slots) f (front_long at id slots iovs cdb h) in
+    let up : length cdb ≤ round_up (length cdb) = omega arith in
+    let b : length (padded (round_up (length cdb)) cdb) ≡ round_up (length cdb) = length-padded (round_up (length cdb)) cdb up in
+    length-append (padded (cdb_place slots) f) (padded (round_up (length cdb)) cdb) ∙ omega (arith, a, b)
+
+head-id : (len id count off : ℕ) → id < 2 ^ 16 → field 2 4 (command_head len id count off) ≡ id
+unfolding command_head entry_header le zeros
+head-id len id count off h =
+    field-front 2 4 (((le 4 (len + 1) ++ le 2 id) ++ zeros 2)) (le 4 count ++ le 4 0 ++ le 4 0 ++ zeros 4 ++ le 8 off ++ zeros 16) (omega writes) ∙ field-in 2 4 id (le 4 (len + 1)) (zeros 2) ((le 4 (len + 1) ++ le 2 id) ++ zeros 2) refl (sym (length-le 4 (len + 1))) h
+
+pub id_of_request : (at id slots : ℕ) (iovs : List Iov) (cdb : List ℕ) → id < 2 ^ 16 → field 2 4 (command_bytes at id slots iovs cdb) ≡ id
+unfolding command_bytes padded
+id_of_request at id slots iovs cdb h =
+    let c : List ℕ = command_head (command_length slots (length cdb)) id (length iovs) (ring_start + at + cdb_place slots) in
+    let l : length c ≡ 48 = length-command_head (command_length slots (length cdb)) id (length iovs) (ring_start + at + cdb_place slots) in
+    let z : List ℕ = zeros (cdb_place slots - length (c ++ iovs_bytes iovs)) in
+    let l1 : length (c ++ iovs_bytes iovs) ≡ length c + length (iovs_bytes iovs) = length-append c (iovs_bytes iovs) in
+    let l2 : length ((c ++ iovs_bytes iovs) ++ z) ≡ length (c ++ iovs_bytes iovs) + length z = length-append (c ++ iovs_bytes iovs) z in
+    field-front 2 4 ((c ++ iovs_bytes iovs) ++ z) (cdb ++ zeros (round_up (length cdb) - length cdb)) (omega (arith, l, l1, l2))
+    ∙ field-front 2 4 (c ++ iovs_bytes iovs) z (omega (arith, l, l1))
+    ∙ field-front 2 4 c (iovs_bytes iovs) (omega (arith, l))
+    ∙ head-id (command_length slots (length cdb)) id (length iovs) (ring_start + at + cdb_place slots) h

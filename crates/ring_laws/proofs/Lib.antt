@@ -1,0 +1,10 @@
+pub mod Computed
+pub mod Opening
+pub mod Bytes
+pub mod Places
+pub mod Held
+pub mod Layouts
+pub mod Laying
+pub mod RingLaid
+pub mod Agree
+pub mod Showing

@@ -1,0 +1,11 @@
+pub mod Sides
+pub mod Areas
+pub mod Picture
+pub mod Represents
+pub mod TargetSteps
+pub mod TargetCleans
+pub mod UserSteps
+pub mod UserNext
+pub mod Owned
+pub mod Hostile
+pub mod Shown

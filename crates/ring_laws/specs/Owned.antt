@@ -1,0 +1,18 @@
+-- What holds of the block lists of every device, beside the soundness of the device itself.
+use Rattle.std.specs.Prelude.{◌≡◌, ℕ, ◌≤◌, ◌<◌, List, length, slice_get, Some}
+use Rattle.tcmu_types.specs.Data.{CommandData}
+use Rattle.tcmu_model.specs.Lengths.{blocks_of, entry_length}
+use Rattle.tcmu_model.specs.RingState.{Cmd, fits}
+use Rattle.tcmu_model.specs.Device.{Unfinished, DeviceState}
+use Rattle.tcmu_model.specs.BlockLists.{Taken, list_of, held_by}
+use Rattle.tcmu_model.specs.Sound.{Every, Differ}
+
+pub record ListsSound (d : DeviceState) (lists : List Taken) : Type 0 where
+  -- no block stands twice in the lists of unfinished commands, and each is below the limit
+  pub differ : Differ (held_by lists d.unfinished)
+  pub below : Every (λ n. n < d.settings.blocks) (held_by lists d.unfinished)
+  -- an unfinished command has as many as it needs
+  pub sizes : Every (λ u. length (list_of lists u.serial) ≡ blocks_of d.settings.pages u.command) d.unfinished
+  -- so has one whose entry is not cleared, since the entry's iovecs stand there until then
+  pub spans : (i n s : ℕ) (c : CommandData) → d.ring.cleared ≤ i → slice_get d.ring.laid i ≡ Some (record { len = n; laid = Cmd s c })
+    → length (list_of lists s) ≡ blocks_of d.settings.pages c

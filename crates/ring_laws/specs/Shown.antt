@@ -1,0 +1,93 @@
+-- Worked examples: what the definitions give for a dump, and for a command on its whole way through a region.
+use Rattle.std.specs.Prelude.{◌≡◌, ℕ, suc, zero, List, [], ◌∷◌, ◌++◌, map, replicate, Some, None, Ok, Err, Result}
+use Rattle.tcmu_types.specs.Data.{CommandData, ReplyData}
+use Rattle.tcmu_types.specs.Dumps.{ItemData, HeldData, DumpData}
+use Rattle.tcmu_types.specs.declared.dump.ItemKind.TheVariants as kind
+use Rattle.tcmu_model.specs.declared.mailbox.MailboxFault.{MailboxFault}
+use Rattle.tcmu_model.specs.Device.{DeviceState, opening_state}
+use Rattle.tcmu_model.specs.BlockLists.{Taken}
+use Rattle.tcmu_model.specs.Regions.{RegionState, opening_region}
+use Rattle.tcmu_model.specs.Examples.{dev, read_of, submits, after, afterwards, drained}
+use Rattle.ring_laws.specs.Picture.{picture_of}
+use Rattle.ring_laws.specs.Sides.{TargetState, Copied, JobState, UserState}
+use Rattle.ring_laws.specs.TargetSteps.{opening_target, target_laid, region_laid}
+use Rattle.ring_laws.specs.TargetCleans.{target_cleaned, target_clean_answer, CleanAnswer, Logged}
+use Rattle.ring_laws.specs.UserSteps.{user_attached, user_responded, user_published, region_published}
+use Rattle.ring_laws.specs.UserNext.{NextAnswer, Job, Note, Nothing, BadMailbox, BadEntry, nexted}
+
+-- ==== dumps
+
+unfoldable pub times_zero : ℕ → List ℕ
+times_zero n = replicate n 0
+
+-- a device as it opens shows its mailbox alone
+abbrev pub ShowsMailbox : Type 0
+ShowsMailbox = picture_of (opening_state dev) [] ≡ record { mailbox = 2 ∷ 0 ∷ 1 ∷ 0 ∷ 0x80 ∷ 0 ∷ 0 ∷ 0 ∷ 0 ∷ 0x10 ∷ times_zero 118; items = []; held = [] }
+
+-- READ(10) that asks for 40 logical blocks
+unfoldable pub read_forty : CommandData
+read_forty = record (read_of 1 20480) { cdb = 0x28 ∷ 0 ∷ 0 ∷ 0 ∷ 0 ∷ 0 ∷ 0 ∷ 0 ∷ 0x28 ∷ 0 ∷ [] }
+
+-- so many of them, one after another to its end
+unfoldable pub after_reads : ℕ → DeviceState
+after_reads zero = opening_state dev
+after_reads (suc n) = afterwards (after (after_reads n) (submits read_forty)) (drained (after (after_reads n) (submits read_forty)))
+
+-- the 29th entry of 144 bytes does not fit before the ring's end: padding, the entry at 0, and its five blocks
+abbrev pub ShowsPadding : Type 0
+ShowsPadding =
+    picture_of (after (after_reads 28) (submits read_forty)) (record { serial = 29; blocks = 0 ∷ 1 ∷ 2 ∷ 3 ∷ 4 ∷ [] } ∷ [])
+    ≡ record {
+      mailbox = (2 ∷ 0 ∷ 1 ∷ 0 ∷ 0x80 ∷ 0 ∷ 0 ∷ 0 ∷ 0 ∷ 0x10 ∷ 0 ∷ 0 ∷ 0x90 ∷ times_zero 51) ++ (0xc0 ∷ 0x0f ∷ times_zero 62);
+      items =
+          record { at = 4032; kind = kind.Pad; bytes = 0x40 ∷ times_zero 63 }
+          ∷ record { at = 0; kind = kind.Cmd; bytes = (0x91 ∷ times_zero 7) ++ (1 ∷ times_zero 16) ++ (1 ∷ times_zero 23) ++ (0x20 ∷ times_zero 7) ++ (0x50 ∷ times_zero 70) ++ (0x28 ∷ times_zero 7) ++ (0x28 ∷ times_zero 7) }
+          ∷ [];
+      held = record { serial = 29; blocks = 0 ∷ 1 ∷ 2 ∷ 3 ∷ 4 ∷ []; payload = times_zero 20480 } ∷ [];
+    }
+
+-- ==== a command on its way
+
+-- INQUIRY that asks for 64 bytes
+unfoldable pub inquiry : CommandData
+inquiry = record (read_of 1 64) { cdb = 0x12 ∷ 0 ∷ 0 ∷ 0 ∷ 0x24 ∷ 0 ∷ [] }
+
+-- block 0 is full of what an earlier command left there
+unfoldable pub used_region : RegionState
+used_region = record (opening_region dev) { blocks = Some (replicate 4096 0xff) ∷ [] }
+
+unfoldable pub laid_region : RegionState
+laid_region = region_laid used_region (opening_target dev) inquiry 1
+
+-- the blocks of a command that reads are cleared when it is laid
+abbrev pub Clears : Type 0
+Clears = laid_region.blocks ≡ Some (times_zero 4096) ∷ []
+
+unfoldable pub job_of : NextAnswer → JobState
+job_of (Job job) = job
+job_of (Note type_ ids) = record { id = 0; cdb = []; iovs = []; carried = Copied []; in_len = 0 }
+job_of Nothing = record { id = 0; cdb = []; iovs = []; carried = Copied []; in_len = 0 }
+job_of (BadMailbox fault) = record { id = 0; cdb = []; iovs = []; carried = Copied []; in_len = 0 }
+job_of (BadEntry at fault) = record { id = 0; cdb = []; iovs = []; carried = Copied []; in_len = 0 }
+
+unfoldable pub reply_of : ReplyData
+reply_of = record { status = 0; sense = None; payload = replicate 36 5 }
+
+-- dispatched, responded and published
+unfoldable pub served : Result UserState MailboxFault → RegionState
+served (Err fault) = laid_region
+served (Ok u) =
+    let n = nexted laid_region u in
+    let k = user_responded n.region n.user (record { job = job_of n.answer; reply = reply_of }) in
+    region_published k.region k.user
+
+unfoldable pub served_region : RegionState
+served_region = served (user_attached (opening_region dev))
+
+unfoldable pub laid_target : TargetState
+laid_target = target_laid (opening_target dev) 1 inquiry 1
+
+-- the completion has the reply's bytes, and zeros behind them
+pub record Serves : Type 0 where
+  pub answer : target_clean_answer served_region laid_target ≡ Logged 1
+  pub payload : map (λ e. e.payload) (target_cleaned served_region laid_target).log ≡ (replicate 36 5 ++ replicate 28 0) ∷ []

@@ -1,0 +1,10 @@
+//! The laws of a region that represents a device: what each event of the device keeps of it. They are about definitions alone, and
+//! the contracts of the two sides and of the ring path cite both. The definitions in specs/ are to stand in tcmu_model, and are here
+//! as long as nothing else cites them.
+#![tactic(auto)]
+
+mod laws;
+mod worked;
+
+pub use laws::opening_law;
+pub use worked::{picture_examples, target_examples, user_examples, way_examples};

@@ -1,0 +1,36 @@
+//! Worked examples: what the definitions give for bytes that the other side has no right to write, for dumps, and for a command on its way.
+ghost use Rattle.ring_laws.specs.Shown.{ShowsMailbox, ShowsPadding, Clears, Serves};
+ghost use Rattle.ring_laws.specs.Hostile.{IdOfNone, TailInside, IdTwice, LengthPastData, SaidUnknown, NoLength, HeadUnaligned, OpUnknown, IovecBefore, OtherSize, AreaGone};
+
+/// The target over bytes that a user side wrote: a wrong id, a wrong tail, an id twice, a length past the data, an unknown entry.
+pub fn target_examples()
+    ensures id_of_none { IdOfNone }
+    ensures tail_inside { TailInside }
+    ensures id_twice { IdTwice }
+    ensures length_past_data { LengthPastData }
+    ensures said_unknown { SaidUnknown }
+{}
+
+/// The user side over bytes that a target wrote: a length of 0, heads and sizes that break the mailbox's rules, an unknown opcode,
+/// an iovec outside the data area, and a data area that goes away under a job.
+pub fn user_examples()
+    ensures no_length { NoLength }
+    ensures head_unaligned { HeadUnaligned }
+    ensures op_unknown { OpUnknown }
+    ensures iovec_before { IovecBefore }
+    ensures other_size { OtherSize }
+    ensures area_gone { AreaGone }
+{}
+
+/// The picture of a device as it opens, and of one whose entry stands behind padding.
+pub fn picture_examples()
+    ensures mailbox { ShowsMailbox }
+    ensures padding { ShowsPadding }
+{}
+
+/// A command on its way through a region whose block an earlier one left full: the block is cleared, and what the reply does not fill
+/// stays zeros.
+pub fn way_examples()
+    ensures clears { Clears }
+    ensures serves { Serves }
+{}
