@@ -39,7 +39,7 @@ number_lacks at n low lt = λ k d in_it.
 abbrev AreWithin : ℕ → List ℕ → Type 0
 AreWithin high ns = Every (IsWithin 1 high) ns
 
-within_each : (high : ℕ) (ns : List ℕ) → All (IsWithin 1 high) ns → AreWithin high ns
+pub within_each : (high : ℕ) (ns : List ℕ) → All (IsWithin 1 high) ns → AreWithin high ns
 within_each high [] h = tt
 within_each high (n ∷ ns) h = (All-head (IsWithin 1 high) n ns h, within_each high ns (All-tail (IsWithin 1 high) n ns h))
 
@@ -77,7 +77,7 @@ unfolding numbers_text
 joined at n [] = ([], sym (append-nil (decimal n)))
 joined at n (m ∷ ns) = (at ∷ join_with_byte at (map decimal (m ∷ ns)), refl)
 
-shown : (n : ℕ) (ns : List ℕ) → serials_text (n ∷ ns) ≡ numbers_text 44 (n ∷ ns)
+pub shown : (n : ℕ) (ns : List ℕ) → serials_text (n ∷ ns) ≡ numbers_text 44 (n ∷ ns)
 unfolding serials_text
 shown n ns = cond-false _ _ _ (ne_eqb (length (n ∷ ns)) 0 (λ e. omega (arith, e)))
 

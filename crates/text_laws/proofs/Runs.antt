@@ -14,7 +14,7 @@ use Rattle.text_laws.proofs.Lists.{Lacks, EachLacks, pieces_again, number_lacks}
 abbrev of_run : ℕ × ℕ → List ℕ
 of_run r = replicate r.1 r.0
 
-abbrev AreRuns : ℕ → List (ℕ × ℕ) → Type 0
+abbrev pub AreRuns : ℕ → List (ℕ × ℕ) → Type 0
 AreRuns most [] = Unit {0}
 AreRuns most (r ∷ rs) = (r.0 < 256) × (1 ≤ r.1) × (r.1 ≤ most) × AreRuns most rs
 
@@ -38,11 +38,11 @@ run_lacks b n lt (suc zero) d in_it = ne_eqb _ _ (λ e. omega (arith, hex_big (b
 run_lacks b n lt (suc (suc zero)) d in_it = refl
 run_lacks b n lt (suc (suc (suc k))) d in_it = number_lacks 44 n (omega arith) lt k d (omega (arith, in_it))
 
-more_room : (a b : ℕ) (rs : List (ℕ × ℕ)) → a ≤ b → AreRuns a rs → AreRuns b rs
+pub more_room : (a b : ℕ) (rs : List (ℕ × ℕ)) → a ≤ b → AreRuns a rs → AreRuns b rs
 more_room a b [] le h = tt
 more_room a b (r ∷ rs) le h = (h.0, h.1, omega (arith, le, h.2), more_room a b rs le h.3)
 
-are_runs : (bytes : List ℕ) → AreBytes bytes → AreRuns (length bytes) (runs bytes)
+pub are_runs : (bytes : List ℕ) → AreBytes bytes → AreRuns (length bytes) (runs bytes)
 unfolding runs
 are_runs [] h = tt
 are_runs (b ∷ bytes) h = onto (runs bytes) (are_runs bytes h.1)
@@ -98,7 +98,7 @@ onto_some : (b : ℕ) (rs : List (ℕ × ℕ)) → onto_run b rs ≡ [] → ⊥
 onto_some b [] q = absurd (cc)
 onto_some b (r ∷ rs) q = two_ways b r rs (nat_eq r.0 b) q
 
-none_left : (bytes : List ℕ) → 0 < length bytes → runs bytes ≡ [] → ⊥
+pub none_left : (bytes : List ℕ) → 0 < length bytes → runs bytes ≡ [] → ⊥
 unfolding runs
 none_left [] s e = omega (arith, s)
 none_left (b ∷ bytes) s e = onto_some b (runs bytes) e
