@@ -34,7 +34,7 @@ or_cases : (a b : Bool) {P : Type 0} → (a || b) ≡ true → (a ≡ true → P
 or_cases true b e f g = f refl
 or_cases false b e f g = g e
 
-name_byte : (x : ℕ) → is_name_byte x ≡ true → is_field_byte x ≡ true
+pub name_byte : (x : ℕ) → is_name_byte x ≡ true → is_field_byte x ≡ true
 name_byte x h =
     or_cases (is_letter x || (nat_le 48 x && nat_le x 57)) (nat_eq x 95) h
     (λ e. or_cases (is_letter x) (nat_le 48 x && nat_le x 57) e (λ l. letter l) (λ d. digit_in_field x d))

@@ -6,3 +6,6 @@ pub mod Flags
 pub mod Words
 pub mod Fields
 pub mod Events
+pub mod Cuts
+pub mod Configs
+pub mod Devices

@@ -69,7 +69,7 @@ not_none n rest lt = go (decimal n) (decimal_nonempty n (omega (arith, lt))) (al
     go : (ds : List ℕ) → 0 < length ds → list_all is_digit ds ≡ true → bytes_eq (ds ++ rest) (codes "none") ≡ false
     go [] some all = absurd (omega (arith, some))
     go (d ∷ ds) some all =
-        let small : d ≤ 57 = leb-true _ _ (and_parts _ _ (and_parts _ _ all).0).1 in
+        let small : d ≤ 57 = leb-true d 57 (and_parts (nat_le 48 d) (nat_le d 57) (and_parts (is_digit d) (list_all is_digit ds) all).0).1 in
         ap (λ b. b && bytes_eq (ds ++ rest) (codes "one")) (ne_eqb d 110 (λ e. omega (arith, small, e)))
 
 joined : (at n : ℕ) (ns : List ℕ) → (rest : List ℕ) × (numbers_text at (n ∷ ns) ≡ decimal n ++ rest)

@@ -2,3 +2,5 @@ pub mod Bytes
 pub mod Words
 pub mod Pieces
 pub mod Lines
+pub mod Configs
+pub mod Devices

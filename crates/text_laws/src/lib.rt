@@ -4,7 +4,7 @@
 mod lines;
 mod pieces;
 
-pub use lines::events_again;
+pub use lines::{configs_again, devices_again, events_again};
 pub use pieces::{
     cdbs_again, flags_again, hex_again, numbers_again, rising_again, runs_again, serials_again,
 };
