@@ -105,8 +105,8 @@ pub name_byte_is : (x : ℕ) {P : Type 0} → is_name_byte x ≡ true → (97 �
 name_byte_is x h letter digit score =
     or_cases (is_letter x || (nat_le 48 x && nat_le x 57)) (nat_eq x 95) h
     (λ e. or_cases (is_letter x) (nat_le 48 x && nat_le x 57) e
-      (λ l. letter (leb-true 97 x (and_parts (nat_le 97 x) (nat_le x 122) l).0) (leb-true x 122 (and_parts (nat_le 97 x) (nat_le x 122) l).1))
-      (λ d. digit (leb-true 48 x (and_parts (nat_le 48 x) (nat_le x 57) d).0) (leb-true x 57 (and_parts (nat_le 48 x) (nat_le x 57) d).1)))
+    (λ l. letter (leb-true 97 x (and_parts (nat_le 97 x) (nat_le x 122) l).0) (leb-true x 122 (and_parts (nat_le 97 x) (nat_le x 122) l).1))
+    (λ d. digit (leb-true 48 x (and_parts (nat_le 48 x) (nat_le x 57) d).0) (leb-true x 57 (and_parts (nat_le 48 x) (nat_le x 57) d).1)))
     (λ e. score (eqb-true _ _ e))
 
 no_colon : (x : ℕ) → is_name_byte x ≡ true → is_other 58 x ≡ true

@@ -132,10 +132,15 @@ blocks_few t is =
 
 settings_words : (t : SettingsData) → IsSettings t → AreWords (settings_list t)
 settings_words t is = (
-      words_join (codes "ring=") (decimal t.ring) refl (number_word t.ring (omega (arith, is.ring_high))),
-      (words_join (codes "blocks=") (decimal t.blocks) refl (number_word t.blocks (omega (arith, blocks_few t is))),
-      (flags_word t.flags,
-      (words_join (codes "timeout=") (decimal t.timeout) refl (number_word t.timeout (omega (arith, is.timeout))), last_words t is))))
+  words_join (codes "ring=") (decimal t.ring) refl (number_word t.ring (omega (arith, is.ring_high))),
+  (
+    words_join (codes "blocks=") (decimal t.blocks) refl (number_word t.blocks (omega (arith, blocks_few t is))),
+    (
+      flags_word t.flags,
+      (words_join (codes "timeout=") (decimal t.timeout) refl (number_word t.timeout (omega (arith, is.timeout))), last_words t is),
+    ),
+  ),
+)
 
 -- ---- what they say
 
@@ -213,5 +218,5 @@ unfolding with_fields verb_of said_by
 devices_again s d answer is new =
     ap (λ t. with_text s (t ++ (codes " # " ++ answer))) (spelled d)
     ∙ line_again s (codes "device") (d.name ∷ config_text d.config ∷ settings_list d.settings) (32 ∷ answer) (record { some = omega arith; bytes = refl })
-        (name_word d.name is.line.name, (config_word d is, settings_words d.settings is.line.settings))
+    (name_word d.name is.line.name, (config_word d is, settings_words d.settings is.line.settings))
     ∙ rw (line_says s d is new) refl

@@ -109,7 +109,7 @@ tmr_again : (s : ScenarioData) (at : ℕ) (name answer : List ℕ) (kind : ℕ) 
 unfolding event_text with_fields verb_of said_by tmr_line
 tmr_again s at name answer kind serials d n is =
     line_again s (codes "tmr") (name ∷ decimal kind ∷ serials_text serials ∷ []) (32 ∷ answer) (record { some = omega arith; bytes = refl })
-      (name_word name n, (number_word kind (omega (arith, is.known.most)), (serials_word serials is.rising, tt)))
+    (name_word name n, (number_word kind (omega (arith, is.known.most)), (serials_word serials is.rising, tt)))
     ∙ rw (d, number_again 1 7 kind is.known.least is.known.most (omega arith), serials_again serials is.rising) refl
 
 -- ---- submits
@@ -183,7 +183,7 @@ submit_again : (s : ScenarioData) (at : ℕ) (name answer : List ℕ) (c : Comma
 unfolding event_text command_text with_fields verb_of said_by
 submit_again s at name answer c d n is h =
     line_again s (codes "submit") (name ∷ c.init ∷ decimal c.tag ∷ flat_map hex_byte c.cdb ∷ data_fields c) (32 ∷ answer) (record { some = omega arith; bytes = refl })
-      (name_word name n, (name_word c.init is.init, (number_word c.tag (omega (arith, h.tag)), (hex_word c.cdb h.cdb is.cdb.some, data_words c is h))))
+    (name_word name n, (name_word c.init is.init, (number_word c.tag (omega (arith, h.tag)), (hex_word c.cdb h.cdb is.cdb.some, data_words c is h))))
     ∙ rw (submit_said s at name c d is h) refl
 
 pub events_again : EventsAgain

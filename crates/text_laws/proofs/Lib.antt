@@ -9,3 +9,4 @@ pub mod Events
 pub mod Cuts
 pub mod Configs
 pub mod Devices
+pub mod Unbroken
