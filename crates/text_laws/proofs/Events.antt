@@ -1,0 +1,203 @@
+-- The lines of events are read again.
+use Rattle.std.proofs.Common.{◌≡◌, ℕ, ◌<◌, ◌≤◌, Bool, true, false, cond, ◌&&◌, nat_eq, List, [], ◌∷◌, ◌++◌, length, Option, Some, None, Result, Ok, Err, refl, sym, ap, subst, ◌∙◌, arith, codes}
+use Rattle.std.specs.List.{list_all, flat_map, position}
+use Rattle.std.specs.Option.{option_map, option_and_then, ok_or}
+use Rattle.std.specs.Fmt.{decimal}
+use Rattle.std.proofs.lemmas.Bool.{and_from, and_parts, cond-true, cond-false, eqb-true, eq-eqb}
+use Rattle.tcmu_types.specs.Naming.{is_name}
+use Rattle.tcmu_types.specs.Rules.{IsCommand, is_directed, takes_payload}
+use Rattle.tcmu_types.specs.Data.{CommandData}
+use Rattle.tcmu_types.specs.Events.{EventData}
+use Rattle.tcmu_types.specs.Events as ev
+use Rattle.tcmu_model.specs.declared.faults.Why.{Why}
+use Rattle.tcmu_model.specs.declared.faults.Why.TheVariants as why
+use Rattle.tcmu_model.specs.Reading.{◌>>=◌}
+use Rattle.tcmu_model.specs.Fields.{number_of, cdb_of, name_of, only_if, runs_of}
+use Rattle.tcmu_model.specs.Words.{verb_of}
+use Rattle.tcmu_model.specs.Lines.{is_allowed, before_hash, fields_of, submit_fields, PayloadField, NoPayload, InBytes, OutRuns, payload_fields}
+use Rattle.tcmu_model.specs.ScenarioData.{ScenarioData, LineData, LineWhat, Makes}
+use Rattle.tcmu_model.specs.ScenarioRules.{IsWithin, IsNote, IsEvent}
+use Rattle.tcmu_model.specs.Said.{Said, Adds, device_at, said_by, plain_line, number_at, number_line, tmr_line, submit_line, payload_of}
+use Rattle.tcmu_model.specs.Scenario.{with_said, with_fields, with_text}
+use Rattle.tcmu_model.specs.Text.{spaced, event_text, command_text, data_fields, serials_text, runs_text, hex_byte}
+use Rattle.text_laws.specs.Bytes.{AreBytes}
+use Rattle.text_laws.specs.Words.{IsWord, AreWords, is_field_byte}
+use Rattle.text_laws.specs.Lines.{IsCarried, CarriesBytes, made, EventsAgain}
+use Rattle.text_laws.proofs.Numbers.{number_again}
+use Rattle.text_laws.proofs.Hex.{cdb_again}
+use Rattle.text_laws.proofs.Lists.{serials_again}
+use Rattle.text_laws.proofs.Runs.{runs_again}
+use Rattle.text_laws.proofs.Words.{before_again, fields_again, all_allowed}
+use Rattle.text_laws.proofs.Fields.{name_word, number_word, words_join, hex_word, serials_word, runs_fit}
+
+pub line_again : (s : ScenarioData) (w : List ℕ) (fs : List (List ℕ)) (rest : List ℕ) → IsWord w → AreWords fs → with_text s (spaced w fs ++ 32 ∷ 35 ∷ rest) ≡ with_fields s (w ∷ fs)
+unfolding with_text
+line_again s w fs rest h t =
+    ap (λ l. cond (list_all is_allowed l) (with_fields s (fields_of l)) (Err why.Byte)) (before_again w fs rest h t)
+    ∙ cond-true _ _ _ (all_allowed w fs h t) ∙ ap (with_fields s) (fields_again w fs h t)
+
+-- ---- lines of a name alone
+
+plain_said : (s : ScenarioData) (at : ℕ) (name : List ℕ) (what : LineWhat) → device_at s name ≡ Some at → plain_line s what (name ∷ []) ≡ Ok (Adds (record { device = at; what = what }))
+unfolding plain_line
+plain_said s at name what d = rw d refl
+
+abbrev Again : ScenarioData → ℕ → List ℕ → EventData → List ℕ → Type 0
+Again s at name e answer = with_text s (event_text name e ++ (codes " # " ++ answer)) ≡ with_said s (Adds (made at e))
+
+dispatch_again : (s : ScenarioData) (at : ℕ) (name answer : List ℕ) → device_at s name ≡ Some at → is_name name ≡ true → Again s at name ev.Dispatch answer
+unfolding event_text with_fields verb_of said_by plain_line
+dispatch_again s at name answer d n = line_again s (codes "dispatch") (name ∷ []) (32 ∷ answer) (record { some = omega arith; bytes = refl }) (name_word name n, tt) ∙ rw d refl
+
+publish_again : (s : ScenarioData) (at : ℕ) (name answer : List ℕ) → device_at s name ≡ Some at → is_name name ≡ true → Again s at name ev.Publish answer
+unfolding event_text with_fields verb_of said_by plain_line
+publish_again s at name answer d n = line_again s (codes "publish") (name ∷ []) (32 ∷ answer) (record { some = omega arith; bytes = refl }) (name_word name n, tt) ∙ rw d refl
+
+clean_again : (s : ScenarioData) (at : ℕ) (name answer : List ℕ) → device_at s name ≡ Some at → is_name name ≡ true → Again s at name ev.Clean answer
+unfolding event_text with_fields verb_of said_by plain_line
+clean_again s at name answer d n = line_again s (codes "clean") (name ∷ []) (32 ∷ answer) (record { some = omega arith; bytes = refl }) (name_word name n, tt) ∙ rw d refl
+
+enter_again : (s : ScenarioData) (at : ℕ) (name answer : List ℕ) → device_at s name ≡ Some at → is_name name ≡ true → Again s at name ev.Enter answer
+unfolding event_text with_fields verb_of said_by plain_line
+enter_again s at name answer d n = line_again s (codes "enter") (name ∷ []) (32 ∷ answer) (record { some = omega arith; bytes = refl }) (name_word name n, tt) ∙ rw d refl
+
+block_again : (s : ScenarioData) (at : ℕ) (name answer : List ℕ) → device_at s name ≡ Some at → is_name name ≡ true → Again s at name ev.Block answer
+unfolding event_text with_fields verb_of said_by plain_line
+block_again s at name answer d n = line_again s (codes "block") (name ∷ []) (32 ∷ answer) (record { some = omega arith; bytes = refl }) (name_word name n, tt) ∙ rw d refl
+
+unblock_again : (s : ScenarioData) (at : ℕ) (name answer : List ℕ) → device_at s name ≡ Some at → is_name name ≡ true → Again s at name ev.Unblock answer
+unfolding event_text with_fields verb_of said_by plain_line
+unblock_again s at name answer d n = line_again s (codes "unblock") (name ∷ []) (32 ∷ answer) (record { some = omega arith; bytes = refl }) (name_word name n, tt) ∙ rw d refl
+
+restart_again : (s : ScenarioData) (at : ℕ) (name answer : List ℕ) → device_at s name ≡ Some at → is_name name ≡ true → Again s at name ev.Restart answer
+unfolding event_text with_fields verb_of said_by plain_line
+restart_again s at name answer d n = line_again s (codes "restart") (name ∷ []) (32 ∷ answer) (record { some = omega arith; bytes = refl }) (name_word name n, tt) ∙ rw d refl
+
+stat_again : (s : ScenarioData) (at : ℕ) (name answer : List ℕ) → device_at s name ≡ Some at → is_name name ≡ true → Again s at name ev.Stat answer
+unfolding event_text with_fields verb_of said_by plain_line
+stat_again s at name answer d n = line_again s (codes "stat") (name ∷ []) (32 ∷ answer) (record { some = omega arith; bytes = refl }) (name_word name n, tt) ∙ rw d refl
+
+-- ---- lines of a name and a number
+
+handle_again : (s : ScenarioData) (at : ℕ) (name answer : List ℕ) (k : ℕ) → device_at s name ≡ Some at → is_name name ≡ true → 1 ≤ k → k ≤ 1000000000 → Again s at name (ev.Handle k) answer
+unfolding event_text with_fields verb_of said_by number_at
+handle_again s at name answer k d n low high =
+    line_again s (codes "handle") (name ∷ decimal k ∷ []) (32 ∷ answer) (record { some = omega arith; bytes = refl }) (name_word name n, (number_word k (omega (arith, high)), tt))
+    ∙ rw (d, number_again 1 1000000000 k low high (omega arith)) refl
+
+respond_again : (s : ScenarioData) (at : ℕ) (name answer : List ℕ) (k : ℕ) → device_at s name ≡ Some at → is_name name ≡ true → 1 ≤ k → k ≤ 1000000000 → Again s at name (ev.Respond k) answer
+unfolding event_text with_fields verb_of said_by number_at
+respond_again s at name answer k d n low high =
+    line_again s (codes "respond") (name ∷ decimal k ∷ []) (32 ∷ answer) (record { some = omega arith; bytes = refl }) (name_word name n, (number_word k (omega (arith, high)), tt))
+    ∙ rw (d, number_again 1 1000000000 k low high (omega arith)) refl
+
+tick_again : (s : ScenarioData) (at : ℕ) (name answer : List ℕ) (k : ℕ) → device_at s name ≡ Some at → is_name name ≡ true → 0 ≤ k → k ≤ 1000000 → Again s at name (ev.Tick k) answer
+unfolding event_text with_fields verb_of said_by number_at
+tick_again s at name answer k d n low high =
+    line_again s (codes "tick") (name ∷ decimal k ∷ []) (32 ∷ answer) (record { some = omega arith; bytes = refl }) (name_word name n, (number_word k (omega (arith, high)), tt))
+    ∙ rw (d, number_again 0 1000000 k low high (omega arith)) refl
+
+reset_again : (s : ScenarioData) (at : ℕ) (name answer : List ℕ) (k : ℕ) → device_at s name ≡ Some at → is_name name ≡ true → 1 ≤ k → k ≤ 2 → Again s at name (ev.Reset k) answer
+unfolding event_text with_fields verb_of said_by number_at
+reset_again s at name answer k d n low high =
+    line_again s (codes "reset") (name ∷ decimal k ∷ []) (32 ∷ answer) (record { some = omega arith; bytes = refl }) (name_word name n, (number_word k (omega (arith, high)), tt))
+    ∙ rw (d, number_again 1 2 k low high (omega arith)) refl
+
+-- ---- task management
+
+tmr_again : (s : ScenarioData) (at : ℕ) (name answer : List ℕ) (kind : ℕ) (serials : List ℕ) → device_at s name ≡ Some at → is_name name ≡ true → IsNote kind serials → Again s at name (ev.Tmr kind serials) answer
+unfolding event_text with_fields verb_of said_by tmr_line
+tmr_again s at name answer kind serials d n is =
+    line_again s (codes "tmr") (name ∷ decimal kind ∷ serials_text serials ∷ []) (32 ∷ answer) (record { some = omega arith; bytes = refl })
+    (name_word name n, (number_word kind (omega (arith, is.known.most)), (serials_word serials is.rising, tt)))
+    ∙ rw (d, number_again 1 7 kind is.known.least is.known.most (omega arith), serials_again serials is.rising) refl
+
+-- ---- submits
+
+data_words : (c : CommandData) → IsCommand c → IsCarried c → AreWords (data_fields c)
+unfolding data_fields
+data_words c is h = go (takes_payload c.cdb)
+  where
+    out : (t : Bool) → nat_eq (length c.sent) 0 ≡ t → AreWords (cond t [] ((codes "out=" ++ runs_text c.sent) ∷ []))
+    out true e = tt
+    out false e = (record { some = omega arith; bytes = and_from _ _ refl (and_from _ _ refl (and_from _ _ refl (and_from _ _ refl (runs_fit c.sent h.sent is.sent)))) }, tt)
+
+    into : (t : Bool) → AreWords (cond t [] ((codes "in=" ++ decimal c.in_len) ∷ []))
+    into true = tt
+    into false = (words_join (codes "in=") (decimal c.in_len) refl (number_word c.in_len (omega (arith, is.in_len))), tt)
+
+    go : (t : Bool) → AreWords (cond t (cond (nat_eq (length c.sent) 0) [] ((codes "out=" ++ runs_text c.sent) ∷ [])) (cond (nat_eq c.in_len 0) [] ((codes "in=" ++ decimal c.in_len) ∷ [])))
+    go true = out (nat_eq (length c.sent) 0) refl
+    go false = into (nat_eq c.in_len 0)
+
+-- what the last field of a submit says, where there is one
+record SaysPayload (c : CommandData) (fields : List (List ℕ)) : Type 0 where
+  payload : PayloadField
+  field : payload_fields fields ≡ Some payload
+  says : payload_of payload ≡ Ok (c.sent, c.in_len)
+
+no_bytes : (xs : List ℕ) → nat_eq (length xs) 0 ≡ true → xs ≡ []
+no_bytes [] e = refl
+no_bytes (x ∷ xs) e = absurd (omega (arith, eqb-true (length (x ∷ xs)) 0 e))
+
+payload_again : (c : CommandData) → IsCommand c → IsCarried c → SaysPayload c (data_fields c)
+unfolding data_fields
+payload_again c is h = go (takes_payload c.cdb) is.directed
+  where
+    out : (t : Bool) → nat_eq (length c.sent) 0 ≡ t → c.in_len ≡ 0 → SaysPayload c (cond t [] ((codes "out=" ++ runs_text c.sent) ∷ []))
+    out true e z = record { payload = NoPayload; field = refl; says = ap (λ (x : List ℕ × ℕ). Ok x) (ap (λ (l : List ℕ). (l, 0)) (sym (no_bytes c.sent e)) ∙ ap (λ (k : ℕ). (c.sent, k)) (sym z)) }
+    out false e z = record {
+      payload = OutRuns (runs_text c.sent);
+      field = refl;
+      says = ap (λ o. ok_or (option_map (λ (bytes : List ℕ). let y : List ℕ × ℕ = (bytes, 0) in y) o) why.Runs) (runs_again c.sent h.sent (some c.sent e) is.sent) ∙ ap (λ (k : ℕ). Ok (c.sent, k)) (sym z);
+    }
+      where
+        some : (xs : List ℕ) → nat_eq (length xs) 0 ≡ false → 0 < length xs
+        some [] f = absurd (cc)
+        some (x ∷ xs) f = omega arith
+
+    into : (t : Bool) → nat_eq c.in_len 0 ≡ t → length c.sent ≡ 0 → SaysPayload c (cond t [] ((codes "in=" ++ decimal c.in_len) ∷ []))
+    into true e z = record { payload = NoPayload; field = refl; says = ap (λ (x : List ℕ × ℕ). Ok x) (ap (λ (l : List ℕ). (l, 0)) (sym (nothing z)) ∙ ap (λ (k : ℕ). (c.sent, k)) (sym (eqb-true _ _ e))) }
+      where
+        nothing : length c.sent ≡ 0 → c.sent ≡ []
+        nothing y = no_bytes c.sent (eq-eqb _ _ y)
+    into false e z = record {
+      payload = InBytes (decimal c.in_len);
+      field = refl;
+      says = ap (λ o. ok_or (option_map (λ (n : ℕ). let y : List ℕ × ℕ = ([], n) in y) o) why.Number) (number_again 0 1048576 c.in_len (omega arith) is.in_len (omega arith)) ∙ ap (λ (l : List ℕ). Ok (l, c.in_len)) (sym (no_bytes c.sent (eq-eqb _ _ z)));
+    }
+
+    go : (t : Bool) → cond t (nat_eq c.in_len 0) (nat_eq (length c.sent) 0) ≡ true → SaysPayload c (cond t (cond (nat_eq (length c.sent) 0) [] ((codes "out=" ++ runs_text c.sent) ∷ [])) (cond (nat_eq c.in_len 0) [] ((codes "in=" ++ decimal c.in_len) ∷ [])))
+    go true e = out (nat_eq (length c.sent) 0) refl (eqb-true _ _ e)
+    go false e = into (nat_eq c.in_len 0) refl (eqb-true _ _ e)
+
+submit_said : (s : ScenarioData) (at : ℕ) (name : List ℕ) (c : CommandData) → device_at s name ≡ Some at → IsCommand c → IsCarried c → submit_line s (name ∷ c.init ∷ decimal c.tag ∷ flat_map hex_byte c.cdb ∷ data_fields c) ≡ Ok (Adds (made at (ev.Submit c)))
+unfolding submit_line submit_fields
+submit_said s at name c d is h =
+    let p = payload_again c is h in
+    let named : name_of c.init ≡ Some c.init = cond-true _ _ _ is.init in
+    let way : only_if is_directed c ≡ Some c = cond-true _ _ _ is.directed in
+    rw (p.field, d, named, number_again 0 4294967295 c.tag (omega arith) h.tag (omega arith), cdb_again c.cdb h.cdb is.cdb, p.says, way) refl
+
+submit_again : (s : ScenarioData) (at : ℕ) (name answer : List ℕ) (c : CommandData) → device_at s name ≡ Some at → is_name name ≡ true → IsCommand c → IsCarried c → Again s at name (ev.Submit c) answer
+unfolding event_text command_text with_fields verb_of said_by
+submit_again s at name answer c d n is h =
+    line_again s (codes "submit") (name ∷ c.init ∷ decimal c.tag ∷ flat_map hex_byte c.cdb ∷ data_fields c) (32 ∷ answer) (record { some = omega arith; bytes = refl })
+    (name_word name n, (name_word c.init is.init, (number_word c.tag (omega (arith, h.tag)), (hex_word c.cdb h.cdb is.cdb.some, data_words c is h))))
+    ∙ rw (submit_said s at name c d is h) refl
+
+pub events_again : EventsAgain
+events_again s at name (ev.Submit c) answer d n is h = submit_again s at name answer c d n is h
+events_again s at name ev.Dispatch answer d n is h = dispatch_again s at name answer d n
+events_again s at name (ev.Handle k) answer d n is h = handle_again s at name answer k d n is.least is.most
+events_again s at name (ev.Respond k) answer d n is h = respond_again s at name answer k d n is.least is.most
+events_again s at name ev.Publish answer d n is h = publish_again s at name answer d n
+events_again s at name ev.Clean answer d n is h = clean_again s at name answer d n
+events_again s at name ev.Enter answer d n is h = enter_again s at name answer d n
+events_again s at name (ev.Tick k) answer d n is h = tick_again s at name answer k d n (omega arith) is
+events_again s at name ev.Block answer d n is h = block_again s at name answer d n
+events_again s at name ev.Unblock answer d n is h = unblock_again s at name answer d n
+events_again s at name (ev.Reset k) answer d n is h = reset_again s at name answer k d n is.least is.most
+events_again s at name ev.Restart answer d n is h = restart_again s at name answer d n
+events_again s at name (ev.Tmr kind serials) answer d n is h = tmr_again s at name answer kind serials d n is
+events_again s at name ev.Stat answer d n is h = stat_again s at name answer d n

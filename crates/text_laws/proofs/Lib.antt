@@ -1,0 +1,12 @@
+pub mod Numbers
+pub mod Hex
+pub mod Lists
+pub mod Runs
+pub mod Flags
+pub mod Words
+pub mod Fields
+pub mod Events
+pub mod Cuts
+pub mod Configs
+pub mod Devices
+pub mod Unbroken

@@ -1,0 +1,6 @@
+pub mod Bytes
+pub mod Words
+pub mod Pieces
+pub mod Lines
+pub mod Configs
+pub mod Devices

@@ -1,0 +1,35 @@
+-- What is written of a line is read again.
+use Rattle.std.specs.Prelude.{◌≡◌, ℕ, ◌≤◌, ◌++◌, IsTrue, List, Some, Ok, codes}
+use Rattle.tcmu_types.specs.Naming.{is_name}
+use Rattle.tcmu_types.specs.Data.{CommandData}
+use Rattle.tcmu_types.specs.Events.{EventData}
+use Rattle.tcmu_types.specs.Events as ev
+use Rattle.tcmu_model.specs.ScenarioData.{LineData, LineWhat, Makes, ScenarioData}
+use Rattle.tcmu_model.specs.ScenarioRules.{IsEvent}
+use Rattle.tcmu_model.specs.Said.{device_at, Adds}
+use Rattle.tcmu_model.specs.Scenario.{with_said, with_text}
+use Rattle.tcmu_model.specs.Text.{event_text}
+use Rattle.text_laws.specs.Bytes.{AreBytes}
+
+-- its bytes are bytes, and its tag is a number of 32 bits
+pub record IsCarried (c : CommandData) : Type 0 where
+  pub tag : c.tag ≤ 4294967295
+  pub cdb : AreBytes c.cdb
+  pub sent : AreBytes c.sent
+
+-- the command of a submit is so; other events carry none
+abbrev pub CarriesBytes : EventData → Type 0
+CarriesBytes (ev.Submit c) = IsCarried c
+CarriesBytes _ = Unit {0}
+
+-- the line that makes an event of the device of this number
+abbrev pub made : ℕ → EventData → LineData
+made at e = record { device = at; what = Makes e }
+
+-- The line of an event within its limits, on a device that is there, is the event's line; what stands behind it, as the event's
+-- answer does, is a comment.
+abbrev pub EventsAgain : Type 0
+EventsAgain =
+    (s : ScenarioData) (at : ℕ) (name : List ℕ) (e : EventData) (answer : List ℕ)
+    → device_at s name ≡ Some at → IsTrue (is_name name) → IsEvent e → CarriesBytes e
+    → with_text s (event_text name e ++ (codes " # " ++ answer)) ≡ with_said s (Adds (made at e))

@@ -1,0 +1,10 @@
+//! The laws of the scenario language and the journal language together: what is written is read again.
+#![tactic(auto)]
+
+mod lines;
+mod pieces;
+
+pub use lines::{configs_again, devices_again, events_again};
+pub use pieces::{
+    cdbs_again, flags_again, hex_again, numbers_again, rising_again, runs_again, serials_again,
+};

@@ -1,0 +1,19 @@
+//! Whole lines: what is written of each is read again.
+ghost use Rattle.text_laws.specs.Configs.{ConfigsAgain};
+ghost use Rattle.text_laws.specs.Devices.{DevicesAgain};
+ghost use Rattle.text_laws.specs.Lines.{EventsAgain};
+
+/// A config is read from its text.
+pub fn configs_again()
+    ensures { ConfigsAgain }
+{}
+
+/// The line of a device is read as the device's line.
+pub fn devices_again()
+    ensures { DevicesAgain }
+{}
+
+/// The line of each of the events with its answer is read as the event's line.
+pub fn events_again()
+    ensures { EventsAgain }
+{}
