@@ -87,8 +87,8 @@ front_long : (at id slots : ℕ) (iovs : List Iov) (cdb : List ℕ) → length i
     length (command_head (command_length slots (length cdb)) id (length iovs) (ring_start + at + cdb_place slots) ++ iovs_bytes iovs) ≤ cdb_place slots
 front_long at id slots iovs cdb h =
     let a : length (command_head (command_length slots (length cdb)) id (length iovs) (ring_start + at + cdb_place slots) ++ iovs_bytes iovs) ≡
-        length (command_head (command_length slots (length cdb)) id (length iovs) (ring_start + at + cdb_place slots)) + length (iovs_bytes iovs) =
-        length-append (command_head (command_length slots (length cdb)) id (length iovs) (ring_start + at + cdb_place slots)) (iovs_bytes iovs) in
+    length (command_head (command_length slots (length cdb)) id (length iovs) (ring_start + at + cdb_place slots)) + length (iovs_bytes iovs) =
+    length-append (command_head (command_length slots (length cdb)) id (length iovs) (ring_start + at + cdb_place slots)) (iovs_bytes iovs) in
     let b : length (command_head (command_length slots (length cdb)) id (length iovs) (ring_start + at + cdb_place slots)) ≡ 48 = length-command_head (command_length slots (length cdb)) id (length iovs) (ring_start + at + cdb_place slots) in
     let c : length (iovs_bytes iovs) ≡ 16 * length iovs = length-iovs_bytes iovs in
     let big : 48 + 16 * slots ≤ cdb_place slots = omega arith in

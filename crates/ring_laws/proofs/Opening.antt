@@ -58,7 +58,7 @@ represents_opening s h =
       ring = record {
         long = length-padded (data_start s.ring) (mailbox_bytes m) (omega arith);
         mailbox = take-padded (data_start s.ring) 128 (mailbox_bytes m) l
-          ∙ ap (λ y. mailbox_bytes (device_mailbox s.flags s.ring y 0)) (sym z) ∙ ap (λ y. mailbox_bytes (device_mailbox s.flags s.ring (0 % s.ring) y)) (sym z);
+            ∙ ap (λ y. mailbox_bytes (device_mailbox s.flags s.ring y 0)) (sym z) ∙ ap (λ y. mailbox_bytes (device_mailbox s.flags s.ring (0 % s.ring) y)) (sym z);
         stands = λ i x c g. absurd (cc);
         recorded = refl;
       };

@@ -53,8 +53,8 @@ item_same d e lists lists' i n (ring.Cmd s c) id ids h t cl g =
     let at : place_of e.ring i ≡ place_of d.ring i = ap (λ xs. lengths xs % e.ring.size) t ∙ ap (λ z. lengths (take i d.ring.laid) % z) h.size in
     let o : slice_get e.placed (commands_in (take i e.ring.laid)) ≡ slice_get d.placed (commands_in (take i d.ring.laid)) = ap (λ xs. slice_get e.placed (commands_in xs)) t ∙ ap (λ ps. slice_get ps (commands_in (take i d.ring.laid))) h.placed in
     let q : request_of e.settings (list_of lists' s) (place_of e.ring i) id c ≡ request_of d.settings (list_of lists s) (place_of d.ring i) id c =
-        ap (λ z. request_of z (list_of lists' s) (place_of e.ring i) id c) h.settings ∙ ap (λ z. request_of d.settings z (place_of e.ring i) id c) (h.listed i n s c cl g)
-        ∙ ap (λ z. request_of d.settings (list_of lists s) z id c) at in
+    ap (λ z. request_of z (list_of lists' s) (place_of e.ring i) id c) h.settings ∙ ap (λ z. request_of d.settings z (place_of e.ring i) id c) (h.listed i n s c cl g)
+    ∙ ap (λ z. request_of d.settings (list_of lists s) z id c) at in
     ap (λ z. entry_of e id z (slice_get e.placed (commands_in (take i e.ring.laid)))) q
     ∙ ap (λ z. entry_of e id (request_of d.settings (list_of lists s) (place_of d.ring i) id c) z) o
     ∙ entry_same d e id (request_of d.settings (list_of lists s) (place_of d.ring i) id c) (slice_get d.placed (commands_in (take i d.ring.laid))) h.settings (λ p q. h.found (commands_in (take i d.ring.laid)) p q)

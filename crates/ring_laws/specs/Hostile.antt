@@ -162,4 +162,4 @@ first_next r (Ok u) = (nexted r u).answer
 pub record AreaGone : Type 0 where
   pub job : first_next iovec_inside (user_attached (opening_region dev)) ≡ Job inside_job
   pub only : then_responds (user_attached (opening_region dev))
-    ≡ record (shrunk_to iovec_inside 0) { front = with_response iovec_inside.front 0 1 good_reply None }
+      ≡ record (shrunk_to iovec_inside 0) { front = with_response iovec_inside.front 0 1 good_reply None }

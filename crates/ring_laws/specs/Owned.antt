@@ -15,4 +15,4 @@ pub record ListsSound (d : DeviceState) (lists : List Taken) : Type 0 where
   pub sizes : Every (λ u. length (list_of lists u.serial) ≡ blocks_of d.settings.pages u.command) d.unfinished
   -- so has one whose entry is not cleared, since the entry's iovecs stand there until then
   pub spans : (i n s : ℕ) (c : CommandData) → d.ring.cleared ≤ i → slice_get d.ring.laid i ≡ Some (record { len = n; laid = Cmd s c })
-    → length (list_of lists s) ≡ blocks_of d.settings.pages c
+      → length (list_of lists s) ≡ blocks_of d.settings.pages c

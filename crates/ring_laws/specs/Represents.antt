@@ -78,9 +78,9 @@ pub record IdsStand (front : List ℕ) (rows : List PendingRow) (d : DeviceState
   pub range : Every (λ e. IsId e.id) rows
   pub differ : Differ (map (λ e. e.id) rows)
   pub answered : (i : ℕ) (x : Item) (s : ℕ) → d.ring.cleared ≤ i → slice_get d.ring.laid i ≡ Some x → is_command x ≡ true
-    → slice_get d.placed (commands_in (take i d.ring.laid)) ≡ Some s → id_of rows s ≡ Some (id_at front (place_of d.ring i))
+      → slice_get d.placed (commands_in (take i d.ring.laid)) ≡ Some s → id_of rows s ≡ Some (id_at front (place_of d.ring i))
   pub own : (i n s : ℕ) (c : CommandData) → d.ring.dispatched ≤ i → slice_get d.ring.laid i ≡ Some (record { len = n; laid = Cmd s c })
-    → id_of rows s ≡ Some (id_at front (place_of d.ring i))
+      → id_of rows s ≡ Some (id_at front (place_of d.ring i))
 
 -- ==== task management notes
 
