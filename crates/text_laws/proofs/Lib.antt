@@ -10,3 +10,4 @@ pub mod Cuts
 pub mod Configs
 pub mod Devices
 pub mod Unbroken
+pub mod Comments

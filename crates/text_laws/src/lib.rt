@@ -4,7 +4,9 @@
 mod lines;
 mod pieces;
 
-pub use lines::{configs_again, devices_again, events_again};
+pub use lines::{
+    comments_ignored, completions_ignored, configs_again, devices_again, ends_ignored, events_again,
+};
 pub use pieces::{
     cdbs_again, flags_again, hex_again, numbers_again, rising_again, runs_again, serials_again,
 };
