@@ -1,6 +1,5 @@
 -- Lines that are ignored.
-use Rattle.std.proofs.Common.{◌≡◌, ℕ, List, [], ◌∷◌, Ok, refl}
-use Rattle.tcmu_types.specs.Data.{DoneData}
+use Rattle.std.proofs.Common.{◌≡◌, [], Ok, refl}
 use Rattle.tcmu_model.specs.Lines.{before_hash, fields_of}
 use Rattle.tcmu_model.specs.ScenarioData.{ScenarioData}
 use Rattle.tcmu_model.specs.Scenario.{with_fields, with_text}

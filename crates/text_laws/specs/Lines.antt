@@ -4,7 +4,7 @@ use Rattle.tcmu_types.specs.Naming.{is_name}
 use Rattle.tcmu_types.specs.Data.{CommandData, DoneData}
 use Rattle.tcmu_types.specs.Events.{EventData}
 use Rattle.tcmu_types.specs.Events as ev
-use Rattle.tcmu_model.specs.ScenarioData.{LineData, LineWhat, Makes, ScenarioData}
+use Rattle.tcmu_model.specs.ScenarioData.{LineData, Makes, ScenarioData}
 use Rattle.tcmu_model.specs.ScenarioRules.{IsEvent}
 use Rattle.tcmu_model.specs.Said.{device_at, Adds}
 use Rattle.tcmu_model.specs.Scenario.{with_said, with_text}

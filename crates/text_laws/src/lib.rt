@@ -3,6 +3,7 @@
 
 mod lines;
 mod pieces;
+mod replay;
 
 pub use lines::{
     comments_ignored, completions_ignored, configs_again, devices_again, ends_ignored, events_again,
@@ -10,3 +11,4 @@ pub use lines::{
 pub use pieces::{
     cdbs_again, flags_again, hex_again, numbers_again, rising_again, runs_again, serials_again,
 };
+pub use replay::{carried_law, events_law, replay_law, scenario_replay_law};
