@@ -1,23 +1,21 @@
 -- Configs are read again.
-use Rattle.std.proofs.Common.{◌≡◌, ℕ, ◌+◌, ◌^◌, ◌<◌, ◌≤◌, Bool, true, false, cond, ◌&&◌, ◌||◌, not, nat_eq, nat_le, List, [], ◌∷◌, ◌++◌, length, map, Option, Some, None, Result, Ok, Err, refl, sym, ap, subst, ◌∙◌, arith, codes, append_assoc}
-use Rattle.std.specs.List.{list_all, position}
-use Rattle.std.specs.Option.{option_map, option_and_then, ok_or}
+use Rattle.std.proofs.Common.{◌≡◌, ℕ, ◌^◌, ◌<◌, ◌≤◌, Bool, true, false, cond, ◌&&◌, ◌||◌, not, nat_eq, nat_le, List, [], ◌∷◌, ◌++◌, length, map, Some, None, Ok, Err, refl, sym, ap, subst, ◌∙◌, arith, codes, append_assoc}
+use Rattle.std.specs.List.{list_all}
+use Rattle.std.specs.Option.{option_map}
 use Rattle.std.specs.Fmt.{decimal}
 use Rattle.std.proofs.lemmas.Bool.{and_from, and_parts, leb-true, ne_eqb, eqb-true, cond-true}
 use Rattle.std.proofs.lemmas.List.Folds.{list_all-append}
 use Rattle.tcmu_types.specs.Naming.{is_name, is_name_byte, is_letter}
-use Rattle.tcmu_model.specs.Reading.{◌>>=◌}
 use Rattle.tcmu_model.specs.Words.{subtype_of}
-use Rattle.tcmu_model.specs.Fields.{is_digit, number_of, rising_of, cut_at, name_of, only_if, after_word}
-use Rattle.tcmu_model.specs.Config.{ConfigData, MediumData, InMemory, InFile, PathData, is_file_name, memory_of, file_of, medium_of, path_of, part, parts_of, is_colon, config_of}
+use Rattle.tcmu_model.specs.Fields.{is_digit, number_of, name_of}
+use Rattle.tcmu_model.specs.Config.{ConfigData, MediumData, InMemory, InFile, PathData, medium_of, path_of, part, parts_of, config_of}
 use Rattle.tcmu_model.specs.ScenarioRules.{IsWithin, IsRisingTo, IsMedium, IsConfig}
 use Rattle.tcmu_model.specs.Sound.{Every}
 use Rattle.tcmu_model.specs.Text.{numbers_text, medium_text, kind_text, config_text}
-use Rattle.tcmu_model.specs.declared.faults.ConfigFault.{ConfigFault}
 use Rattle.tcmu_model.specs.declared.faults.ConfigFault.TheVariants as fault
 use Rattle.tcmu_model.specs.declared.words.Subtype.{Subtype}
 use Rattle.tcmu_model.specs.declared.words.Subtype.TheVariants.{Mem, File, Ro, Fail}
-use Rattle.text_laws.specs.Configs.{is_other, FileLacks, IsSpelledConfig, ConfigsAgain}
+use Rattle.text_laws.specs.Configs.{is_other, FileLacks, ConfigsAgain}
 use Rattle.text_laws.proofs.Numbers.{all_digits, number_again}
 use Rattle.text_laws.proofs.Lists.{rising_again, within_each}
 use Rattle.text_laws.proofs.Words.{weaker}

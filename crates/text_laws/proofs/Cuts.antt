@@ -1,9 +1,8 @@
 -- A text is cut again where it was joined.
-use Rattle.std.proofs.Common.{◌≡◌, ℕ, suc, ◌+◌, ◌<◌, ◌≤◌, Bool, true, false, cond, not, nat_eq, nat_lt, List, [], ◌∷◌, ◌++◌, length, take, drop, Option, Some, None, Result, Ok, refl, sym, ap, ◌∙◌, arith, length-append}
+use Rattle.std.proofs.Common.{◌≡◌, ℕ, suc, ◌+◌, ◌<◌, ◌≤◌, true, cond, not, nat_eq, List, [], ◌∷◌, ◌++◌, length, take, drop, Option, Some, None, Ok, refl, ap, ◌∙◌, arith, length-append}
 use Rattle.std.specs.List.{list_all, position, position_or_len}
-use Rattle.std.specs.Option.{option_map, ok_or}
+use Rattle.std.specs.Option.{option_map}
 use Rattle.std.proofs.lemmas.Bool.{and_parts, eq-eqb, lt-ltb, le-ltb, cond-true, cond-false}
-use Rattle.tcmu_model.specs.Reading.{◌>>=◌}
 use Rattle.tcmu_model.specs.Fields.{cut_at}
 use Rattle.tcmu_model.specs.Config.{part}
 use Rattle.tcmu_model.specs.declared.faults.ConfigFault.{ConfigFault}

@@ -1,32 +1,27 @@
 -- Device lines are read again.
-use Rattle.std.proofs.Common.{◌≡◌, ℕ, ◌+◌, ◌*◌, ◌%◌, ◌^◌, ◌<◌, ◌≤◌, Bool, true, false, cond, ◌&&◌, not, nat_eq, nat_le, IsTrue, List, [], ◌∷◌, ◌++◌, length, Option, Some, None, Result, Ok, Err, refl, sym, ap, subst, ◌∙◌, arith, codes, append_assoc}
+use Rattle.std.proofs.Common.{◌≡◌, ℕ, ◌*◌, ◌%◌, ◌<◌, ◌≤◌, Bool, true, false, cond, ◌&&◌, not, nat_eq, nat_le, List, [], ◌∷◌, ◌++◌, length, Some, None, Ok, Err, refl, sym, ap, ◌∙◌, arith, codes, append_assoc}
 use Rattle.std.specs.List.{list_all, list_any, flat_map}
-use Rattle.std.specs.Option.{option_map, option_and_then, ok_or}
+use Rattle.std.specs.Option.{option_map}
 use Rattle.std.specs.Str.{bytes_eq}
 use Rattle.std.specs.Fmt.{decimal}
 use Rattle.std.proofs.lemmas.Bool.{and_from, and_parts, le-leb, eq-eqb, eqb-true, cond-true}
-use Rattle.std.proofs.lemmas.Slice.Eq.{bytes_eq-Decides}
 use Rattle.std.proofs.Math.Nat.{le-mul_of_pos_right}
 use Rattle.std.proofs.lemmas.List.{append-nil}
-use Rattle.tcmu_types.specs.Naming.{is_name, is_name_byte}
+use Rattle.tcmu_types.specs.Naming.{is_name}
 use Rattle.tcmu_types.specs.Data.{SettingsData}
 use Rattle.tcmu_types.specs.Rules.{IsSettings}
 use Rattle.tcmu_types.specs.declared.settings.Flags.{Flags}
-use Rattle.tcmu_model.specs.Reading.{◌>>=◌}
 use Rattle.tcmu_model.specs.Words.{verb_of}
-use Rattle.tcmu_model.specs.Fields.{number_of, flags_of, only_if, after_word}
-use Rattle.tcmu_model.specs.Config.{ConfigData, MediumData, InMemory, InFile, is_shown, is_file_name, config_of}
+use Rattle.tcmu_model.specs.Fields.{number_of, only_if}
+use Rattle.tcmu_model.specs.Config.{ConfigData, MediumData, InMemory, InFile, is_shown}
 use Rattle.tcmu_model.specs.Lines.{LastFields, last_fields, DeviceFields, device_fields}
 use Rattle.tcmu_model.specs.ScenarioData.{DeviceLineData, ScenarioData}
-use Rattle.tcmu_model.specs.ScenarioRules.{IsMedium, IsDeviceLine}
-use Rattle.tcmu_model.specs.Said.{Said, Opens, has_name, same_file, new_name, is_own, device_config, ring_of, qfull_of, pages_of, settings_of, device_line, said_by}
-use Rattle.tcmu_model.specs.Scenario.{with_said, with_fields, with_text}
+use Rattle.tcmu_model.specs.ScenarioRules.{IsMedium}
+use Rattle.tcmu_model.specs.Said.{Opens, has_name, new_name, is_own, device_config, ring_of, qfull_of, pages_of, settings_of, device_line, said_by}
+use Rattle.tcmu_model.specs.Scenario.{with_fields, with_text}
 use Rattle.tcmu_model.specs.Text.{spaced, config_text, flags_text, last_text, settings_text, device_spelling}
-use Rattle.tcmu_model.specs.declared.faults.ConfigFault.{ConfigFault}
-use Rattle.tcmu_model.specs.declared.faults.Why.{Why}
-use Rattle.tcmu_model.specs.declared.faults.Why.TheVariants as why
 use Rattle.text_laws.specs.Words.{is_field_byte, IsWord, AreWords}
-use Rattle.text_laws.specs.Configs.{is_other, FileLacks, IsSpelledConfig}
+use Rattle.text_laws.specs.Configs.{is_other, FileLacks}
 use Rattle.text_laws.specs.Devices.{IsSpelledDevice, IsNew, DevicesAgain}
 use Rattle.text_laws.proofs.Numbers.{number_again}
 use Rattle.text_laws.proofs.Flags.{flags_again}
@@ -40,10 +35,10 @@ use Rattle.text_laws.proofs.Events.{line_again}
 abbrev spaces : List (List ℕ) → List ℕ
 spaces fields = flat_map (λ field. 32 ∷ field) fields
 
-abbrev last_list : SettingsData → List (List ℕ)
+abbrev pub last_list : SettingsData → List (List ℕ)
 last_list t = cond (nat_eq t.qfull 0) [] ((codes "qfull=" ++ decimal t.qfull) ∷ []) ++ cond (nat_eq t.pages 1) [] ((codes "pages=" ++ decimal t.pages) ∷ [])
 
-abbrev settings_list : SettingsData → List (List ℕ)
+abbrev pub settings_list : SettingsData → List (List ℕ)
 settings_list t =
     (codes "ring=" ++ decimal t.ring) ∷ (codes "blocks=" ++ decimal t.blocks) ∷ (codes "flags=" ++ flags_text t.flags) ∷ (codes "timeout=" ++ decimal t.timeout) ∷ last_list t
 
@@ -64,7 +59,7 @@ settings_spelled t = regroup (decimal t.ring) (decimal t.blocks) (flags_text t.f
     regroup : (r b f t l : List ℕ) → codes " ring=" ++ r ++ codes " blocks=" ++ b ++ codes " flags=" ++ f ++ codes " timeout=" ++ t ++ l ≡ codes " ring=" ++ (r ++ (codes " blocks=" ++ (b ++ (codes " flags=" ++ (f ++ (codes " timeout=" ++ (t ++ l)))))))
     regroup r b f t l = simp append_assoc
 
-spelled : (d : DeviceLineData) → device_spelling d ≡ spaced (codes "device") (d.name ∷ config_text d.config ∷ settings_list d.settings)
+pub spelled : (d : DeviceLineData) → device_spelling d ≡ spaced (codes "device") (d.name ∷ config_text d.config ∷ settings_list d.settings)
 unfolding device_spelling
 spelled d =
     ap (λ (l : List ℕ). spaced (codes "device") (d.name ∷ config_text d.config ∷ []) ++ l) (settings_spelled d.settings)
@@ -107,7 +102,7 @@ config_some : (c : ConfigData) → 0 < length (config_text c)
 unfolding config_text
 config_some c = omega arith
 
-config_word : (d : DeviceLineData) → IsSpelledDevice d → IsWord (config_text d.config)
+pub config_word : (d : DeviceLineData) → IsSpelledDevice d → IsWord (config_text d.config)
 config_word d is = record { some = config_some d.config; bytes = config_passes is_field_byte lets_field d.config is.config.config (file_passes d.config.kind is.config.config.medium is.file) }
 
 last_words : (t : SettingsData) → IsSettings t → AreWords (last_list t)
@@ -130,7 +125,7 @@ blocks_few t is =
     let more : t.blocks ≤ t.blocks * t.pages = le-mul_of_pos_right t.blocks (omega (arith, is.pages_low)) in
     omega (arith, more, is.area)
 
-settings_words : (t : SettingsData) → IsSettings t → AreWords (settings_list t)
+pub settings_words : (t : SettingsData) → IsSettings t → AreWords (settings_list t)
 settings_words t is = (
   words_join (codes "ring=") (decimal t.ring) refl (number_word t.ring (omega (arith, is.ring_high))),
   (
@@ -193,7 +188,7 @@ settings_again d last is q p =
     let timeout = number_again 0 1000000 t.timeout (omega arith) is.timeout (omega arith) in
     rw ring (rw blocks (rw (flags_again t.flags) (rw timeout (rw q (rw p refl)))))
 
-same_text : (a b : List ℕ) → a ≡ b → bytes_eq a b ≡ true
+pub same_text : (a b : List ℕ) → a ≡ b → bytes_eq a b ≡ true
 same_text a b e = ap (λ l. bytes_eq a l) (sym e) ∙ self a
   where
     self : (xs : List ℕ) → bytes_eq xs xs ≡ true

@@ -1,28 +1,25 @@
 -- The lines of events are read again.
-use Rattle.std.proofs.Common.{◌≡◌, ℕ, ◌<◌, ◌≤◌, Bool, true, false, cond, ◌&&◌, nat_eq, List, [], ◌∷◌, ◌++◌, length, Option, Some, None, Result, Ok, Err, refl, sym, ap, subst, ◌∙◌, arith, codes}
-use Rattle.std.specs.List.{list_all, flat_map, position}
-use Rattle.std.specs.Option.{option_map, option_and_then, ok_or}
+use Rattle.std.proofs.Common.{◌≡◌, ℕ, ◌<◌, ◌≤◌, Bool, true, false, cond, nat_eq, List, [], ◌∷◌, ◌++◌, length, Some, Ok, Err, refl, sym, ap, ◌∙◌, arith, codes}
+use Rattle.std.specs.List.{list_all, flat_map}
+use Rattle.std.specs.Option.{option_map, ok_or}
 use Rattle.std.specs.Fmt.{decimal}
-use Rattle.std.proofs.lemmas.Bool.{and_from, and_parts, cond-true, cond-false, eqb-true, eq-eqb}
+use Rattle.std.proofs.lemmas.Bool.{and_from, cond-true, eqb-true, eq-eqb}
 use Rattle.tcmu_types.specs.Naming.{is_name}
 use Rattle.tcmu_types.specs.Rules.{IsCommand, is_directed, takes_payload}
 use Rattle.tcmu_types.specs.Data.{CommandData}
 use Rattle.tcmu_types.specs.Events.{EventData}
 use Rattle.tcmu_types.specs.Events as ev
-use Rattle.tcmu_model.specs.declared.faults.Why.{Why}
 use Rattle.tcmu_model.specs.declared.faults.Why.TheVariants as why
-use Rattle.tcmu_model.specs.Reading.{◌>>=◌}
-use Rattle.tcmu_model.specs.Fields.{number_of, cdb_of, name_of, only_if, runs_of}
+use Rattle.tcmu_model.specs.Fields.{name_of, only_if}
 use Rattle.tcmu_model.specs.Words.{verb_of}
-use Rattle.tcmu_model.specs.Lines.{is_allowed, before_hash, fields_of, submit_fields, PayloadField, NoPayload, InBytes, OutRuns, payload_fields}
-use Rattle.tcmu_model.specs.ScenarioData.{ScenarioData, LineData, LineWhat, Makes}
-use Rattle.tcmu_model.specs.ScenarioRules.{IsWithin, IsNote, IsEvent}
-use Rattle.tcmu_model.specs.Said.{Said, Adds, device_at, said_by, plain_line, number_at, number_line, tmr_line, submit_line, payload_of}
+use Rattle.tcmu_model.specs.Lines.{is_allowed, fields_of, submit_fields, PayloadField, NoPayload, InBytes, OutRuns, payload_fields}
+use Rattle.tcmu_model.specs.ScenarioData.{ScenarioData, LineWhat}
+use Rattle.tcmu_model.specs.ScenarioRules.{IsNote}
+use Rattle.tcmu_model.specs.Said.{Adds, device_at, said_by, plain_line, number_at, tmr_line, submit_line, payload_of}
 use Rattle.tcmu_model.specs.Scenario.{with_said, with_fields, with_text}
 use Rattle.tcmu_model.specs.Text.{spaced, event_text, command_text, data_fields, serials_text, runs_text, hex_byte}
-use Rattle.text_laws.specs.Bytes.{AreBytes}
-use Rattle.text_laws.specs.Words.{IsWord, AreWords, is_field_byte}
-use Rattle.text_laws.specs.Lines.{IsCarried, CarriesBytes, made, EventsAgain}
+use Rattle.text_laws.specs.Words.{IsWord, AreWords}
+use Rattle.text_laws.specs.Lines.{IsCarried, made, EventsAgain}
 use Rattle.text_laws.proofs.Numbers.{number_again}
 use Rattle.text_laws.proofs.Hex.{cdb_again}
 use Rattle.text_laws.proofs.Lists.{serials_again}
@@ -114,7 +111,7 @@ tmr_again s at name answer kind serials d n is =
 
 -- ---- submits
 
-data_words : (c : CommandData) → IsCommand c → IsCarried c → AreWords (data_fields c)
+pub data_words : (c : CommandData) → IsCommand c → IsCarried c → AreWords (data_fields c)
 unfolding data_fields
 data_words c is h = go (takes_payload c.cdb)
   where

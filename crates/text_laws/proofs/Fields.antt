@@ -1,8 +1,8 @@
 -- Texts that are fields: names, numbers, hexadecimal digits, runs and lists.
-use Rattle.std.proofs.Common.{◌≡◌, ℕ, ◌+◌, ◌/◌, ◌%◌, ◌^◌, ◌<◌, ◌≤◌, Bool, true, false, cond, ◌&&◌, ◌||◌, not, nat_le, nat_lt, nat_eq, List, [], ◌∷◌, ◌++◌, length, get_or, map, refl, sym, ap, subst, ◌∙◌, arith, codes}
+use Rattle.std.proofs.Common.{◌≡◌, ℕ, ◌+◌, ◌/◌, ◌%◌, ◌^◌, ◌<◌, ◌≤◌, Bool, true, false, ◌&&◌, ◌||◌, not, nat_le, nat_lt, nat_eq, List, [], ◌∷◌, ◌++◌, length, get_or, map, refl, sym, ap, subst, ◌∙◌, arith}
 use Rattle.std.specs.List.{list_all, flat_map, join_with_byte}
 use Rattle.std.specs.Fmt.{decimal}
-use Rattle.std.proofs.lemmas.Bool.{and_from, and_parts, le-leb, leb-true, ltb-true, ltb-false, ne_eqb, eqb-true, cond-true, cond-false}
+use Rattle.std.proofs.lemmas.Bool.{and_from, and_parts, le-leb, leb-true, ltb-true, ne_eqb, eqb-true, cond-true, cond-false}
 use Rattle.std.proofs.lemmas.Fmt.{decimal_nonempty}
 use Rattle.std.proofs.lemmas.List.Folds.{list_all-append}
 use Rattle.tcmu_types.specs.Naming.{is_name, is_letter, is_name_byte}
@@ -11,10 +11,10 @@ use Rattle.tcmu_model.specs.ScenarioRules.{IsWithin, IsRisingTo}
 use Rattle.tcmu_model.specs.Sound.{Every}
 use Rattle.tcmu_model.specs.Text.{hex_digit, hex_byte, runs, run_text, runs_text, numbers_text, serials_text}
 use Rattle.text_laws.specs.Bytes.{AreBytes}
-use Rattle.text_laws.specs.Words.{is_field_byte, IsWord, AreWords}
+use Rattle.text_laws.specs.Words.{is_field_byte, IsWord}
 use Rattle.text_laws.proofs.Numbers.{all_digits}
 use Rattle.text_laws.proofs.Lists.{within_each, shown}
-use Rattle.text_laws.proofs.Runs.{AreRuns, are_runs, none_left}
+use Rattle.text_laws.proofs.Runs.{AreRuns, are_runs}
 use Rattle.text_laws.proofs.Words.{weaker}
 
 -- ---- bytes

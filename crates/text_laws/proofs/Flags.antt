@@ -1,6 +1,5 @@
 -- Flags are read again.
 use Rattle.std.proofs.Common.{Bool, true, false, refl}
-use Rattle.tcmu_types.specs.declared.settings.Flags.{Flags}
 use Rattle.tcmu_model.specs.Fields.{flags_of}
 use Rattle.tcmu_model.specs.Text.{flags_text}
 use Rattle.text_laws.specs.Pieces.{FlagsAgain}

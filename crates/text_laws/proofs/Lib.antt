@@ -10,3 +10,8 @@ pub mod Cuts
 pub mod Configs
 pub mod Devices
 pub mod Unbroken
+pub mod Comments
+pub mod Reading
+pub mod Replays
+pub mod Carried
+pub mod Scenarios

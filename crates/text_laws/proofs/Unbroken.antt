@@ -1,10 +1,10 @@
 -- No line feed stands inside a line that is written.
-use Rattle.std.proofs.Common.{◌≡◌, ℕ, zero, suc, ◌+◌, ◌/◌, ◌%◌, ◌<◌, ◌≤◌, Bool, true, false, cond, ◌&&◌, not, nat_eq, nat_lt, List, [], ◌∷◌, ◌++◌, length, map, Option, Some, None, refl, sym, ap, ◌∙◌, arith, codes}
+use Rattle.std.proofs.Common.{◌≡◌, ℕ, zero, suc, ◌+◌, ◌/◌, ◌%◌, Bool, true, false, cond, not, nat_eq, nat_lt, List, [], ◌∷◌, ◌++◌, length, map, Option, Some, None, refl, sym, ap, ◌∙◌, arith, codes}
 use Rattle.std.specs.List.{list_all, flat_map, join_with_byte}
 use Rattle.std.specs.Fmt.{decimal, digits, digits_onto, digit_glyph}
 use Rattle.std.proofs.lemmas.Bool.{and_from, ne_eqb}
 use Rattle.std.proofs.lemmas.List.Folds.{list_all-append}
-use Rattle.tcmu_types.specs.Data.{CommandData, SenseData, DoneData}
+use Rattle.tcmu_types.specs.Data.{SenseData}
 use Rattle.tcmu_types.specs.Events.{EventData, DispatchData, AnswerData}
 use Rattle.tcmu_types.specs.Events as ev
 use Rattle.tcmu_types.specs.declared.stat.Stat.{Stat}
@@ -109,7 +109,7 @@ number_list : (ns : List ℕ) → AreUnbroken (map decimal ns)
 number_list [] = tt
 number_list (n ∷ ns) = (number n, number_list ns)
 
-serials : (ns : List ℕ) → Unbroken (serials_text ns)
+pub serials : (ns : List ℕ) → Unbroken (serials_text ns)
 unfolding serials_text numbers_text
 serials ns = go (nat_eq (length ns) 0)
   where

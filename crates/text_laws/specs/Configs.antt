@@ -1,5 +1,5 @@
 -- What is written of a config is read again.
-use Rattle.std.specs.Prelude.{◌≡◌, ℕ, ◌<◌, ◌==◌, Bool, false, not, IsTrue, List, length, Ok}
+use Rattle.std.specs.Prelude.{◌≡◌, ℕ, ◌<◌, ◌==◌, Bool, false, not, IsTrue, length, Ok}
 use Rattle.std.specs.List.{list_all}
 use Rattle.tcmu_model.specs.Config.{ConfigData, MediumData, InMemory, InFile, config_of}
 use Rattle.tcmu_model.specs.ScenarioRules.{IsConfig}

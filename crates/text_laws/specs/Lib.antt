@@ -4,3 +4,5 @@ pub mod Pieces
 pub mod Lines
 pub mod Configs
 pub mod Devices
+pub mod Replays
+pub mod Carried

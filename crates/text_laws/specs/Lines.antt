@@ -1,14 +1,14 @@
 -- What is written of a line is read again.
-use Rattle.std.specs.Prelude.{◌≡◌, ℕ, ◌≤◌, ◌++◌, IsTrue, List, Some, Ok, codes}
+use Rattle.std.specs.Prelude.{◌≡◌, ℕ, ◌≤◌, ◌++◌, IsTrue, List, ◌∷◌, Some, Ok, codes}
 use Rattle.tcmu_types.specs.Naming.{is_name}
-use Rattle.tcmu_types.specs.Data.{CommandData}
+use Rattle.tcmu_types.specs.Data.{CommandData, DoneData}
 use Rattle.tcmu_types.specs.Events.{EventData}
 use Rattle.tcmu_types.specs.Events as ev
-use Rattle.tcmu_model.specs.ScenarioData.{LineData, LineWhat, Makes, ScenarioData}
+use Rattle.tcmu_model.specs.ScenarioData.{LineData, Makes, ScenarioData}
 use Rattle.tcmu_model.specs.ScenarioRules.{IsEvent}
 use Rattle.tcmu_model.specs.Said.{device_at, Adds}
 use Rattle.tcmu_model.specs.Scenario.{with_said, with_text}
-use Rattle.tcmu_model.specs.Text.{event_text}
+use Rattle.tcmu_model.specs.Text.{event_text, completion_text, end_text}
 use Rattle.text_laws.specs.Bytes.{AreBytes}
 
 -- its bytes are bytes, and its tag is a number of 32 bits
@@ -33,3 +33,13 @@ EventsAgain =
     (s : ScenarioData) (at : ℕ) (name : List ℕ) (e : EventData) (answer : List ℕ)
     → device_at s name ≡ Some at → IsTrue (is_name name) → IsEvent e → CarriesBytes e
     → with_text s (event_text name e ++ (codes " # " ++ answer)) ≡ with_said s (Adds (made at e))
+
+-- A line that begins with `#`, as each completion and each end line does, is ignored.
+abbrev pub CommentsIgnored : Type 0
+CommentsIgnored = (s : ScenarioData) (text : List ℕ) → with_text s (35 ∷ text) ≡ Ok s
+
+abbrev pub CompletionsIgnored : Type 0
+CompletionsIgnored = (name : List ℕ) (c : DoneData) → (text : List ℕ) × (completion_text name c ≡ 35 ∷ text)
+
+abbrev pub EndsIgnored : Type 0
+EndsIgnored = (name : List ℕ) (n : ℕ) → (text : List ℕ) × (end_text name n ≡ 35 ∷ text)

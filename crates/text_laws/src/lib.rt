@@ -3,8 +3,12 @@
 
 mod lines;
 mod pieces;
+mod replay;
 
-pub use lines::{configs_again, devices_again, events_again};
+pub use lines::{
+    comments_ignored, completions_ignored, configs_again, devices_again, ends_ignored, events_again,
+};
 pub use pieces::{
     cdbs_again, flags_again, hex_again, numbers_again, rising_again, runs_again, serials_again,
 };
+pub use replay::{carried_law, events_law, replay_law, scenario_replay_law};

@@ -1,7 +1,7 @@
 //! Whole lines: what is written of each is read again.
 ghost use Rattle.text_laws.specs.Configs.{ConfigsAgain};
 ghost use Rattle.text_laws.specs.Devices.{DevicesAgain};
-ghost use Rattle.text_laws.specs.Lines.{EventsAgain};
+ghost use Rattle.text_laws.specs.Lines.{EventsAgain, CommentsIgnored, CompletionsIgnored, EndsIgnored};
 
 /// A config is read from its text.
 pub fn configs_again()
@@ -16,4 +16,19 @@ pub fn devices_again()
 /// The line of each of the events with its answer is read as the event's line.
 pub fn events_again()
     ensures { EventsAgain }
+{}
+
+/// A line that begins with `#` is ignored.
+pub fn comments_ignored()
+    ensures { CommentsIgnored }
+{}
+
+/// The line of a completion begins with `#`.
+pub fn completions_ignored()
+    ensures { CompletionsIgnored }
+{}
+
+/// An end line begins with `#`.
+pub fn ends_ignored()
+    ensures { EndsIgnored }
 {}

@@ -1,0 +1,6 @@
+use Rattle.tcmu_model.specs.Scsi.{Serves}
+use Rattle.text_laws.proofs.Scenarios.{scenario_again}
+use Rattle.text_laws.proofs.replay.scenario_replay_law.Goals as goal
+
+pub returns : goal.returns
+returns c = scenario_again Serves

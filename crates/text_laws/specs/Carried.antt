@@ -1,0 +1,15 @@
+-- What a scenario that is read carries.
+use Rattle.std.specs.Prelude.{◌≡◌, ℕ, List, Ok}
+use Rattle.tcmu_model.specs.Sound.{Every}
+use Rattle.tcmu_model.specs.ScenarioData.{LineWhat, Makes, Drains, Dumps, ScenarioData}
+use Rattle.tcmu_model.specs.Scenario.{scenario_of}
+use Rattle.text_laws.specs.Lines.{CarriesBytes}
+
+abbrev pub IsCarriedWhat : LineWhat → Type 0
+IsCarriedWhat (Makes e) = CarriesBytes e
+IsCarriedWhat Drains = Unit {0}
+IsCarriedWhat Dumps = Unit {0}
+
+-- The bytes of every command that is read are bytes, and its tag is a number of 32 bits.
+abbrev pub CarriedRead : Type 0
+CarriedRead = (bytes : List ℕ) (s : ScenarioData) → scenario_of bytes ≡ Ok s → Every (λ l. IsCarriedWhat l.what) s.lines
