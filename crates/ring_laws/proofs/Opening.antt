@@ -1,5 +1,5 @@
 -- A device as it opens is represented by a region as it opens.
-use Rattle.std.proofs.Common.{◌≡◌, ℕ, ◌+◌, ◌-◌, ◌*◌, ◌%◌, ◌≤◌, ◌<◌, Bool, true, false, List, [], ◌∷◌, ◌++◌, length, take, drop, map, refl, sym, ap, ◌∙◌, arith, Option, Some, None, slice_get, length-append}
+use Rattle.std.proofs.Common.{◌≡◌, ℕ, ◌+◌, ◌-◌, ◌%◌, ◌≤◌, Bool, true, false, List, [], ◌++◌, length, take, refl, sym, ap, ◌∙◌, arith, length-append}
 use Rattle.std.proofs.lemmas.List.{take_at, length-replicate}
 use Rattle.tcmu_types.specs.Data.{SettingsData}
 use Rattle.tcmu_types.specs.Rules.{IsSettings}
@@ -11,7 +11,7 @@ use Rattle.tcmu_model.specs.Regions.{opening_region}
 use Rattle.ring_laws.specs.TargetSteps.{opening_target}
 use Rattle.ring_laws.specs.UserSteps.{flags_in, opening_user}
 use Rattle.ring_laws.specs.Owned.{ListsSound}
-use Rattle.ring_laws.specs.Represents.{RingStands, IdsStand, BlocksStand, JobsStand, TargetKeeps, UserKeeps, Represents}
+use Rattle.ring_laws.specs.Represents.{Represents}
 
 pub length-mailbox : (m : Mailbox) → ◌≡◌ {A = ℕ} (length (mailbox_bytes m)) 128
 unfolding le zeros mailbox_bytes

@@ -1,9 +1,9 @@
 -- What holds of the block lists of every device, beside the soundness of the device itself.
 use Rattle.std.specs.Prelude.{◌≡◌, ℕ, ◌≤◌, ◌<◌, List, length, slice_get, Some}
 use Rattle.tcmu_types.specs.Data.{CommandData}
-use Rattle.tcmu_model.specs.Lengths.{blocks_of, entry_length}
-use Rattle.tcmu_model.specs.RingState.{Cmd, fits}
-use Rattle.tcmu_model.specs.Device.{Unfinished, DeviceState}
+use Rattle.tcmu_model.specs.Lengths.{blocks_of}
+use Rattle.tcmu_model.specs.RingState.{Cmd}
+use Rattle.tcmu_model.specs.Device.{DeviceState}
 use Rattle.tcmu_model.specs.BlockLists.{Taken, list_of, held_by}
 use Rattle.tcmu_model.specs.Sound.{Every, Differ}
 
