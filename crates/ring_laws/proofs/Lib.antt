@@ -8,3 +8,4 @@ pub mod Laying
 pub mod RingLaid
 pub mod Agree
 pub mod Showing
+pub mod Submit
