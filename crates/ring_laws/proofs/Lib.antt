@@ -9,3 +9,4 @@ pub mod RingLaid
 pub mod Agree
 pub mod Showing
 pub mod Submit
+pub mod Kept

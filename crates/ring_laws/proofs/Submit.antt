@@ -101,7 +101,7 @@ entered-same : (front : List ℕ) (a a' b b' c c' e e' : ℕ) (x x' : List ℕ) 
 entered-same front a a' b b' c c' e e' x x' p q r s y =
     ap (λ z. entered front z b c e x) p ∙ ap (λ z. entered front a' z c e x) q ∙ ap (λ z. entered front a' b' z e x) r ∙ ap (λ z. entered front a' b' c' z x) s ∙ ap (λ z. entered front a' b' c' e' z) y
 
-commands-append : (xs ys : List Item) → commands_in (xs ++ ys) ≡ commands_in xs + commands_in ys
+pub commands-append : (xs ys : List Item) → commands_in (xs ++ ys) ≡ commands_in xs + commands_in ys
 commands-append xs ys = sum_by-append (λ x. cond (is_command x) 1 0) xs ys
 
 commands_within : (n : ℕ) (xs : List Item) → commands_in (take n xs) ≤ commands_in xs
