@@ -146,3 +146,90 @@ long_of s start n (ring.Tmr kind ss) h k = absurd (false≢true h)
 
 pub command_long : (d : DeviceState) (i : ℕ) (x : Item) → IsSound d → slice_get d.ring.laid i ≡ Some x → is_command x ≡ true → 112 ≤ x.len
 command_long d i x sound g h = long_of d.settings (lengths (take i d.ring.laid)) x.len x.laid h (item_at d i x sound g).kind
+
+-- what laying writes and gives, as the ids read it
+record Gives (front front' : List ℕ) (rows rows' : List PendingRow) (d : DeviceState) (s : ℕ) (c : CommandData) (id : ℕ) : Type 0 where
+  old : (i : ℕ) (x : Item) → d.ring.cleared ≤ i → slice_get d.ring.laid i ≡ Some x → is_command x ≡ true → id_at front' (place_of d.ring i) ≡ id_at front (place_of d.ring i)
+  other : (q : ℕ) → q < s → id_of rows' q ≡ id_of rows q
+  mine : id_of rows' s ≡ Some id
+  new : id_at front' (place_of (with_item d.ring (cmd_item d s c)) (length (d.ring.laid ++ pads (ring.pad d.ring (entry_length d.settings.pages c))))) ≡ id
+  none : slice_get d.placed (commands_in (take (length (d.ring.laid ++ pads (ring.pad d.ring (entry_length d.settings.pages c)))) (laid_with d.ring (cmd_item d s c)))) ≡ None
+
+answered_case : (front front' : List ℕ) (rows rows' : List PendingRow) (d : DeviceState) (s : ℕ) (c : CommandData) (id : ℕ) → IsSound d → Every (λ k. k < s) (serials_in d.ring.laid) → IdsStand front rows d → Gives front front' rows rows' d s c id →
+    (i : ℕ) (x : Item) (q : ℕ) → d.ring.cleared ≤ i → is_command x ≡ true → LaidCase d.ring (cmd_item d s c) i x → slice_get d.placed (commands_in (take i (laid_with d.ring (cmd_item d s c)))) ≡ Some q →
+    id_of rows' q ≡ Some (id_at front' (place_of (with_item d.ring (cmd_item d s c)) i))
+answered_case front front' rows rows' d s c id sound above ids w i x q cl k (Old l g) p =
+    let tk : take i (laid_with d.ring (cmd_item d s c)) ≡ take i d.ring.laid = take-laid d.ring (cmd_item d s c) i (omega arith) in
+    let p' : slice_get d.placed (commands_in (take i d.ring.laid)) ≡ Some q = ap (λ xs. slice_get d.placed (commands_in xs)) (sym tk) ∙ p in
+    let qs : q < s = every_at (λ (n : ℕ). n < s) d.placed (commands_in (take i d.ring.laid)) q (placed_every (λ (n : ℕ). n < s) d sound.answers above) p' in
+    w.other q qs ∙ ids.answered i x q cl g k p' ∙ ap Some (sym (w.old i x cl g k)) ∙ ap (λ xs. Some (id_at front' (lengths xs % d.ring.size))) (sym tk)
+answered_case front front' rows rows' d s c id sound above ids w i x q cl k (Padding a b e) p = absurd (false≢true (ap is_command (sym e) ∙ k))
+answered_case front front' rows rows' d s c id sound above ids w i x q cl k (New a e) p =
+    let p' = subst (λ (z : ℕ). slice_get d.placed (commands_in (take z (laid_with d.ring (cmd_item d s c)))) ≡ Some q) a p in
+    let no : None ≡ Some q = sym w.none ∙ p' in absurd (cc)
+
+own_case : (front front' : List ℕ) (rows rows' : List PendingRow) (d : DeviceState) (s : ℕ) (c : CommandData) (id : ℕ) → IsSound d → Every (λ k. k < s) (serials_in d.ring.laid) → IdsStand front rows d → Gives front front' rows rows' d s c id →
+    (i n q : ℕ) (c' : CommandData) → d.ring.dispatched ≤ i → LaidCase d.ring (cmd_item d s c) i (record { len = n; laid = ring.Cmd q c' }) →
+    id_of rows' q ≡ Some (id_at front' (place_of (with_item d.ring (cmd_item d s c)) i))
+own_case front front' rows rows' d s c id sound above ids w i n q c' dp (Old l g) =
+    let tk : take i (laid_with d.ring (cmd_item d s c)) ≡ take i d.ring.laid = take-laid d.ring (cmd_item d s c) i (omega arith) in
+    let c0 : d.ring.cleared ≤ d.ring.published = sound.ring.cleared in
+    let c1 : d.ring.published ≤ d.ring.dispatched = sound.ring.published in
+    let cl : d.ring.cleared ≤ i = omega (arith, c0, c1, dp) in
+    w.other q (serial_at (λ (k : ℕ). k < s) d.ring.laid i n q c' above g) ∙ ids.own i n q c' dp g ∙ ap Some (sym (w.old i (record { len = n; laid = ring.Cmd q c' }) cl g refl))
+    ∙ ap (λ xs. Some (id_at front' (lengths xs % d.ring.size))) (sym tk)
+own_case front front' rows rows' d s c id sound above ids w i n q c' dp (Padding a b e) = absurd (false≢true (ap is_command (sym e)))
+own_case front front' rows rows' d s c id sound above ids w i n q c' dp (New a e) =
+    let l : ring.Cmd q c' ≡ ring.Cmd s c = ap (λ (y : Item). y.laid) e in
+    let s0 : q ≡ s = cc in
+    ap (id_of rows') s0 ∙ w.mine ∙ ap Some (sym w.new) ∙ ap (λ z. Some (id_at front' (place_of (with_item d.ring (cmd_item d s c)) z))) (sym a)
+
+gives : (r : RegionState) (t : TargetState) (d : DeviceState) (lists : List Taken) (s : ℕ) (c : CommandData) (id : ℕ) →
+    IsSound d → RingStands r.front t.items d lists → TargetKeeps t d lists → HasRoom d c → Every (λ k. k < s) (serials_in d.ring.laid) → LaidCommand r t d lists s c id →
+    Gives r.front (region_laid r t c id).front t.rows (t.rows ++ row_of t s c id ∷ []) d s c id
+gives r t d lists s c id sound shape keeps room above q =
+    let it : Item = cmd_item d s c in
+    let n : ℕ = entry_length d.settings.pages c in
+    let front' : List ℕ = (region_laid r t c id).front in
+    let at : ℕ = place_of (with_item d.ring it) (length (d.ring.laid ++ pads (ring.pad d.ring n))) in
+    let b : entry_at front' at n ≡ q.bytes = ap (λ z. entry_at z at n) q.front ∙ new-entry r.front d it q.bytes shape.long (holds d sound) room.small q.len in
+    let u : take 112 (entry_at front' at n) ≡ entry_at front' at 112 = take-take 112 n (drop (ring_start + at) front') (entry_long d.settings.pages c) in
+    record {
+      old = λ i x cl g k. id-same r.front front' (place_of d.ring i) x.len (command_long d i x sound g k)
+          (ap (λ f. entry_at f (place_of d.ring i) x.len) q.front ∙ old-entry r.front d it q.bytes i x shape.long (holds d sound) room.fits room.small q.len cl g);
+      other = λ k h. ap (option_map (λ (e : PendingRow). e.id)) (first-append (row_has k) t.rows (row_of t s c id) (not_below s k h));
+      mine = ap (option_map (λ (e : PendingRow). e.id)) (first-here (row_has s) t.rows (row_of t s c id) (eq-eqb s s refl) (unheld t.rows s (pending_below t d lists s keeps (rows_below d s sound above))));
+      new = ap id_in (sym u ∙ ap (take 112) b) ∙ id_front q.bytes (omega (arith, q.len, entry_long d.settings.pages c)) ∙ q.id_is;
+      none = q.none;
+    }
+
+-- ==== the law
+
+pub stands_laid : (r : RegionState) (t : TargetState) (d : DeviceState) (lists : List Taken) (s : ℕ) (c : CommandData) (id : ℕ) →
+    IsSound d → ListsSound d lists → RingStands r.front t.items d lists → TargetKeeps t d lists → HasRoom d c → IsId id → Every (λ k. k < s) (serials_in d.ring.laid) →
+    RingStands (region_laid r t c id).front (target_laid t s c id).items (with_command d s c) (with_taken d lists s c)
+unfolding with_command
+stands_laid r t d lists s c id sound owned shape keeps room is_id above =
+    (laid_command r t d lists s c id sound owned shape keeps room (let h : id ≤ 65535 = is_id.high in omega arith) above (lists_below d lists s owned above)).stands
+
+pub target_stands_laid : (t : TargetState) (d : DeviceState) (lists : List Taken) (s : ℕ) (c : CommandData) (id : ℕ) →
+    IsSound d → ListsSound d lists → TargetKeeps t d lists → Every (λ k. k < s) (serials_in d.ring.laid) →
+    TargetKeeps (target_laid t s c id) (with_command d s c) (with_taken d lists s c)
+unfolding with_command
+target_stands_laid t d lists s c id sound owned keeps above = keeps_laid t d lists s c id sound owned keeps above
+
+pub ids_stand_laid : (r : RegionState) (t : TargetState) (d : DeviceState) (lists : List Taken) (s : ℕ) (c : CommandData) (id : ℕ) →
+    IsSound d → ListsSound d lists → RingStands r.front t.items d lists → IdsStand r.front t.rows d → TargetKeeps t d lists → HasRoom d c → IsId id → is_among (map (λ e. e.id) t.rows) id ≡ false → Every (λ k. k < s) (serials_in d.ring.laid) →
+    IdsStand (region_laid r t c id).front (target_laid t s c id).rows (with_command d s c)
+unfolding with_command target_laid
+ids_stand_laid r t d lists s c id sound owned shape ids keeps room is_id unused above =
+    let q : LaidCommand r t d lists s c id = laid_command r t d lists s c id sound owned shape keeps room (let h : id ≤ 65535 = is_id.high in omega arith) above (lists_below d lists s owned above) in
+    let w = gives r t d lists s c id sound shape keeps room above q in
+    let front' : List ℕ = (region_laid r t c id).front in
+    let rows' : List PendingRow = t.rows ++ row_of t s c id ∷ [] in
+    record {
+      range = every-push (λ (e : PendingRow). IsId e.id) t.rows (row_of t s c id) ids.range is_id;
+      differ = subst Differ (sym (map-append (λ (e : PendingRow). e.id) t.rows (row_of t s c id ∷ []))) (differ-push (map (λ (e : PendingRow). e.id) t.rows) id ids.differ unused);
+      answered = λ i x k cl g h p. answered_case r.front front' t.rows rows' d s c id sound above ids w i x k cl h (laid_case d.ring (cmd_item d s c) i x g) p;
+      own = λ i n k c' dp g. own_case r.front front' t.rows rows' d s c id sound above ids w i n k c' dp (laid_case d.ring (cmd_item d s c) i (record { len = n; laid = ring.Cmd k c' }) g);
+    }
