@@ -10,3 +10,4 @@ pub mod Agree
 pub mod Showing
 pub mod Submit
 pub mod Kept
+pub mod Answering

@@ -1,15 +1,15 @@
 //! What holds of a device as it opens, and what each event keeps.
-ghost use Rattle.std.specs.Prelude.{◌≡◌, ◌<◌, ℕ, false, List, [], map};
+ghost use Rattle.std.specs.Prelude.{◌≡◌, ◌<◌, ℕ, Bool, false, List, [], map};
 ghost use Rattle.tcmu_types.specs.Data.{CommandData, SettingsData};
 ghost use Rattle.tcmu_types.specs.Rules.{IsSettings};
 ghost use Rattle.tcmu_model.specs.RingState.{serials_in};
 ghost use Rattle.tcmu_model.specs.Device.{DeviceState, opening_state};
-ghost use Rattle.tcmu_model.specs.Events.{is_among, with_command};
+ghost use Rattle.tcmu_model.specs.Events.{block_answer, enter_answer, is_among, submit_answer, with_command};
 ghost use Rattle.tcmu_model.specs.BlockLists.{Taken, with_taken};
 ghost use Rattle.tcmu_model.specs.Regions.{RegionState, opening_region};
 ghost use Rattle.tcmu_model.specs.Sound.{Every, IsSound};
 ghost use Rattle.ring_laws.specs.Sides.{TargetState};
-ghost use Rattle.ring_laws.specs.TargetSteps.{opening_target, region_laid, target_laid};
+ghost use Rattle.ring_laws.specs.TargetSteps.{opening_target, region_laid, target_block_answer, target_enter_answer, target_laid, target_submit_answer};
 ghost use Rattle.ring_laws.specs.UserSteps.{opening_user};
 ghost use Rattle.ring_laws.specs.Owned.{HasRoom, ListsSound};
 ghost use Rattle.ring_laws.specs.Represents.{IdsStand, IsId, Represents, RingStands, TargetKeeps};
@@ -34,4 +34,13 @@ pub fn laying_law()
     ensures target { (t : TargetState) (d : DeviceState) (lists : List Taken) (s : ℕ) (c : CommandData) (id : ℕ) →
         IsSound d → ListsSound d lists → TargetKeeps t d lists → Every (λ k. k < s) (serials_in d.ring.laid) →
         TargetKeeps (target_laid t s c id) (with_command d s c) (with_taken d lists s c) }
+{}
+
+/// The target answers as the device does: to a command, to one that waits for room, and to block and unblock.
+pub fn answering_law()
+    ensures submit { (front : List ℕ) (t : TargetState) (d : DeviceState) (lists : List Taken) (c : CommandData) →
+        IsSound d → ListsSound d lists → RingStands front t.items d lists → TargetKeeps t d lists → target_submit_answer t c ≡ submit_answer d c }
+    ensures enter { (front : List ℕ) (t : TargetState) (d : DeviceState) (lists : List Taken) →
+        IsSound d → ListsSound d lists → RingStands front t.items d lists → TargetKeeps t d lists → target_enter_answer t ≡ enter_answer d }
+    ensures block { (t : TargetState) (d : DeviceState) (lists : List Taken) (b : Bool) → TargetKeeps t d lists → target_block_answer t b ≡ block_answer d b }
 {}
