@@ -35,7 +35,7 @@ use Rattle.ring_laws.specs.Owned.{ListsSound}
 use Rattle.ring_laws.specs.TargetSteps.{target_submit_answer, submit_or_full, submit_or_delay, target_enter_answer, enter_or_full, blocks_free, blocks_wanted, fits_in, has_room, target_block_answer, target_blocked}
 use Rattle.ring_laws.proofs.Agree.{Agrees, agrees, held-same}
 
-held_length : (pages : ℕ) (lists : List Taken) (us : List Unfinished) → Every (λ (u : Unfinished). length (list_of lists u.serial) ≡ blocks_of pages u.command) us → length (held_by lists us) ≡ sum_by (λ (u : Unfinished). blocks_of pages u.command) us
+pub held_length : (pages : ℕ) (lists : List Taken) (us : List Unfinished) → Every (λ (u : Unfinished). length (list_of lists u.serial) ≡ blocks_of pages u.command) us → length (held_by lists us) ≡ sum_by (λ (u : Unfinished). blocks_of pages u.command) us
 held_length pages lists [] h = refl
 held_length pages lists (u ∷ us) h =
     let a : length (list_of lists u.serial ++ held_by lists us) ≡ length (list_of lists u.serial) + length (held_by lists us) = length-append (list_of lists u.serial) (held_by lists us) in

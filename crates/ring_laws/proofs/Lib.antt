@@ -11,3 +11,6 @@ pub mod Showing
 pub mod Submit
 pub mod Kept
 pub mod Answering
+pub mod Scatter
+pub mod Free
+pub mod LaidBlocks

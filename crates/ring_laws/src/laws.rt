@@ -2,17 +2,18 @@
 ghost use Rattle.std.specs.Prelude.{◌≡◌, ◌<◌, ℕ, Bool, false, List, [], map};
 ghost use Rattle.tcmu_types.specs.Data.{CommandData, SettingsData};
 ghost use Rattle.tcmu_types.specs.Rules.{IsSettings};
+ghost use Rattle.tcmu_model.specs.Lengths.{block_size};
 ghost use Rattle.tcmu_model.specs.RingState.{serials_in};
 ghost use Rattle.tcmu_model.specs.Device.{DeviceState, opening_state};
 ghost use Rattle.tcmu_model.specs.Events.{block_answer, enter_answer, is_among, submit_answer, with_command};
 ghost use Rattle.tcmu_model.specs.BlockLists.{Taken, with_taken};
-ghost use Rattle.tcmu_model.specs.Regions.{RegionState, opening_region};
+ghost use Rattle.tcmu_model.specs.Regions.{AreSized, RegionState, opening_region};
 ghost use Rattle.tcmu_model.specs.Sound.{Every, IsSound};
 ghost use Rattle.ring_laws.specs.Sides.{TargetState};
 ghost use Rattle.ring_laws.specs.TargetSteps.{opening_target, region_laid, target_block_answer, target_enter_answer, target_laid, target_submit_answer};
 ghost use Rattle.ring_laws.specs.UserSteps.{opening_user};
 ghost use Rattle.ring_laws.specs.Owned.{HasRoom, ListsSound};
-ghost use Rattle.ring_laws.specs.Represents.{IdsStand, IsId, Represents, RingStands, TargetKeeps};
+ghost use Rattle.ring_laws.specs.Represents.{BlocksStand, IdsStand, IsId, Represents, RingStands, TargetKeeps};
 
 /// A region as it opens represents the device as it opens, with no block list.
 pub fn opening_law()
@@ -21,7 +22,7 @@ pub fn opening_law()
 {}
 
 /// A command is laid, at a submit or when it enters, under an id that none has: the ring stands, with the ids in it, and so do the
-/// target's records.
+/// blocks with their data, where the new ones are cleared or have the payload, and the target's records.
 pub fn laying_law()
     ensures ring { (r : RegionState) (t : TargetState) (d : DeviceState) (lists : List Taken) (s : ℕ) (c : CommandData) (id : ℕ) →
         IsSound d → ListsSound d lists → RingStands r.front t.items d lists → TargetKeeps t d lists → HasRoom d c → IsId id →
@@ -31,6 +32,10 @@ pub fn laying_law()
         IsSound d → ListsSound d lists → RingStands r.front t.items d lists → IdsStand r.front t.rows d → TargetKeeps t d lists → HasRoom d c →
         IsId id → is_among (map (λ e. e.id) t.rows) id ≡ false → Every (λ k. k < s) (serials_in d.ring.laid) →
         IdsStand (region_laid r t c id).front (target_laid t s c id).rows (with_command d s c) }
+    ensures blocks { (r : RegionState) (t : TargetState) (d : DeviceState) (lists : List Taken) (s : ℕ) (c : CommandData) (id : ℕ) →
+        IsSound d → ListsSound d lists → AreSized (block_size r.pages) r.blocks → r.pages ≡ d.settings.pages → BlocksStand r.blocks d lists →
+        TargetKeeps t d lists → HasRoom d c → Every (λ k. k < s) (serials_in d.ring.laid) →
+        BlocksStand (region_laid r t c id).blocks (with_command d s c) (with_taken d lists s c) }
     ensures target { (t : TargetState) (d : DeviceState) (lists : List Taken) (s : ℕ) (c : CommandData) (id : ℕ) →
         IsSound d → ListsSound d lists → TargetKeeps t d lists → Every (λ k. k < s) (serials_in d.ring.laid) →
         TargetKeeps (target_laid t s c id) (with_command d s c) (with_taken d lists s c) }
