@@ -14,3 +14,4 @@ pub mod Answering
 pub mod Scatter
 pub mod Free
 pub mod LaidBlocks
+pub mod LaidLists

@@ -22,7 +22,7 @@ pub fn opening_law()
 {}
 
 /// A command is laid, at a submit or when it enters, under an id that none has: the ring stands, with the ids in it, and so do the
-/// blocks with their data, where the new ones are cleared or have the payload, and the target's records.
+/// blocks with their data, where the new ones are cleared or have the payload, the target's records, and the soundness of the block lists.
 pub fn laying_law()
     ensures ring { (r : RegionState) (t : TargetState) (d : DeviceState) (lists : List Taken) (s : ℕ) (c : CommandData) (id : ℕ) →
         IsSound d → ListsSound d lists → RingStands r.front t.items d lists → TargetKeeps t d lists → HasRoom d c → IsId id →
@@ -39,6 +39,8 @@ pub fn laying_law()
     ensures target { (t : TargetState) (d : DeviceState) (lists : List Taken) (s : ℕ) (c : CommandData) (id : ℕ) →
         IsSound d → ListsSound d lists → TargetKeeps t d lists → Every (λ k. k < s) (serials_in d.ring.laid) →
         TargetKeeps (target_laid t s c id) (with_command d s c) (with_taken d lists s c) }
+    ensures lists { (d : DeviceState) (lists : List Taken) (s : ℕ) (c : CommandData) → IsSound d → ListsSound d lists → HasRoom d c →
+        Every (λ k. k < s) (serials_in d.ring.laid) → ListsSound (with_command d s c) (with_taken d lists s c) }
 {}
 
 /// The target answers as the device does: to a command, to one that waits for room, and to block and unblock.
