@@ -8,3 +8,10 @@ pub mod Laying
 pub mod RingLaid
 pub mod Agree
 pub mod Showing
+pub mod Submit
+pub mod Kept
+pub mod Answering
+pub mod Scatter
+pub mod Free
+pub mod LaidBlocks
+pub mod LaidLists

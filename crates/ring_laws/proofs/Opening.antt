@@ -1,5 +1,5 @@
 -- A device as it opens is represented by a region as it opens.
-use Rattle.std.proofs.Common.{◌≡◌, ℕ, ◌+◌, ◌-◌, ◌*◌, ◌%◌, ◌≤◌, ◌<◌, Bool, true, false, List, [], ◌∷◌, ◌++◌, length, take, drop, map, refl, sym, ap, ◌∙◌, arith, Option, Some, None, slice_get, length-append}
+use Rattle.std.proofs.Common.{◌≡◌, ℕ, ◌+◌, ◌-◌, ◌%◌, ◌≤◌, Bool, true, false, List, [], ◌++◌, length, take, refl, sym, ap, ◌∙◌, arith, length-append}
 use Rattle.std.proofs.lemmas.List.{take_at, length-replicate}
 use Rattle.tcmu_types.specs.Data.{SettingsData}
 use Rattle.tcmu_types.specs.Rules.{IsSettings}
@@ -11,7 +11,7 @@ use Rattle.tcmu_model.specs.Regions.{opening_region}
 use Rattle.ring_laws.specs.TargetSteps.{opening_target}
 use Rattle.ring_laws.specs.UserSteps.{flags_in, opening_user}
 use Rattle.ring_laws.specs.Owned.{ListsSound}
-use Rattle.ring_laws.specs.Represents.{RingStands, IdsStand, BlocksStand, JobsStand, TargetKeeps, UserKeeps, Represents}
+use Rattle.ring_laws.specs.Represents.{Represents}
 
 pub length-mailbox : (m : Mailbox) → ◌≡◌ {A = ℕ} (length (mailbox_bytes m)) 128
 unfolding le zeros mailbox_bytes
@@ -46,7 +46,7 @@ pub flags-again : (f : Flags) → flags_in (device_mailbox f 0 0 0).flags ≡ f
 flags-again f = flags_of_bits f.ooo f.read_len f.tmr
 
 pub lists_sound_opening : (s : SettingsData) → ListsSound (opening_state s) []
-lists_sound_opening s = record { differ = tt; below = tt; sizes = tt; spans = λ i n q c l g. absurd (cc) }
+lists_sound_opening s = record { listed = tt; differ = tt; below = tt; sizes = tt; spans = λ i n q c l g. absurd (cc) }
 
 pub represents_opening : (s : SettingsData) → IsSettings s → Represents (opening_region s) (opening_target s) (opening_user s) [] (opening_state s) []
 unfolding opening_target opening_user

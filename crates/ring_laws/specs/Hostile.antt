@@ -1,19 +1,18 @@
 -- Worked examples: what the two sides make of bytes that the other one has no right to write.
 use Rattle.std.specs.Prelude.{◌≡◌, ℕ, ◌+◌, true, List, [], ◌∷◌, map, replicate, slice_index, Some, None, Ok, Err, Result}
-use Rattle.tcmu_types.specs.Data.{CommandData, ReplyData, SettingsData, SenseData}
+use Rattle.tcmu_types.specs.Data.{CommandData, ReplyData}
 use Rattle.tcmu_types.specs.declared.iovec.Iov.{Iov}
-use Rattle.tcmu_types.specs.declared.answer.Respond.TheVariants as respond
 use Rattle.tcmu_model.specs.declared.mailbox.MailboxFault.{MailboxFault}
 use Rattle.tcmu_model.specs.declared.mailbox.MailboxFault.TheVariants as mailbox
 use Rattle.tcmu_model.specs.declared.entry.EntryFault.TheVariants as entry
 use Rattle.tcmu_model.specs.Layout.{le, put, ring_start, head_place, tail_place, answer_bytes, command_bytes, with_response}
 use Rattle.tcmu_model.specs.Regions.{RegionState, opening_region, grown_to, shrunk_to}
 use Rattle.tcmu_model.specs.Examples.{dev, read_one}
-use Rattle.ring_laws.specs.Sides.{TargetState, Copied, JobState, Parked, UserState}
+use Rattle.ring_laws.specs.Sides.{TargetState, Copied, JobState, UserState}
 use Rattle.ring_laws.specs.TargetSteps.{opening_target, target_submit_answer, target_submitted, region_submitted, target_blocked}
-use Rattle.ring_laws.specs.TargetCleans.{CleanAnswer, Logged, BadTail, Broken, target_clean_answer, target_cleaned, target_reset}
-use Rattle.ring_laws.specs.UserSteps.{user_attached, user_responded, user_respond_answer}
-use Rattle.ring_laws.specs.UserNext.{NextAnswer, Job, Nothing, BadMailbox, BadEntry, Nexted, nexted}
+use Rattle.ring_laws.specs.TargetCleans.{Logged, BadTail, Broken, target_clean_answer, target_cleaned, target_reset}
+use Rattle.ring_laws.specs.UserSteps.{user_attached, user_responded}
+use Rattle.ring_laws.specs.UserNext.{NextAnswer, Job, Nothing, BadMailbox, BadEntry, nexted}
 
 -- ==== the target
 

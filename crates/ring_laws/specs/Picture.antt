@@ -1,5 +1,5 @@
 -- The picture of a device with its block lists: the bytes that its region shows, but for command ids, which are free.
-use Rattle.std.specs.Prelude.{ℕ, suc, zero, ◌+◌, ◌-◌, ◌%◌, ◌==◌, ◌&&◌, not, Bool, true, false, List, [], ◌∷◌, ◌++◌, length, take, drop, map, replicate, slice_get, Option, Some, None, if◌then◌else◌}
+use Rattle.std.specs.Prelude.{ℕ, ◌+◌, ◌-◌, ◌%◌, ◌==◌, ◌&&◌, not, Bool, true, false, List, [], ◌∷◌, ◌++◌, length, take, drop, map, replicate, slice_get, Option, Some, None, if◌then◌else◌}
 use Rattle.tcmu_types.specs.Data.{CommandData, ReplyData, SettingsData}
 use Rattle.tcmu_types.specs.Rules.{takes_payload, payload_length}
 use Rattle.tcmu_types.specs.Dumps.{ItemData, HeldData, DumpData}
@@ -7,7 +7,7 @@ use Rattle.tcmu_types.specs.declared.dump.ItemKind.{ItemKind}
 use Rattle.tcmu_types.specs.declared.dump.ItemKind.TheVariants as kind
 use Rattle.tcmu_types.specs.declared.iovec.Iov.{Iov}
 use Rattle.tcmu_model.specs.declared.state.CommandState.{CommandState}
-use Rattle.tcmu_model.specs.declared.state.CommandState.TheVariants.{Waiting, Out, Handled, Parked, Placed, Lost}
+use Rattle.tcmu_model.specs.declared.state.CommandState.TheVariants.{Placed, Lost}
 use Rattle.tcmu_model.specs.Lists.{first_of}
 use Rattle.tcmu_model.specs.Lengths.{blocks_of, block_size}
 use Rattle.tcmu_model.specs.RingState.{RingState, Item, Laid, Pad, Cmd, Tmr, lengths, head, commands_in}

@@ -1,15 +1,15 @@
 -- A region, with what the target and the user side keep and the jobs in hand, represents a device with its block lists. Each
 -- point is a definition of its own, and no law of an event shows all of them at once.
-use Rattle.std.specs.Prelude.{◌≡◌, ℕ, zero, suc, ◌+◌, ◌%◌, ◌≤◌, ◌==◌, ◌⊎◌, Bool, true, false, List, [], ◌∷◌, length, take, drop, map, slice_get, Option, Some, None, if◌then◌else◌, MatchBool}
+use Rattle.std.specs.Prelude.{◌≡◌, ℕ, zero, suc, ◌+◌, ◌%◌, ◌≤◌, ◌==◌, ◌⊎◌, Bool, true, List, [], ◌∷◌, length, take, drop, map, slice_get, Option, Some, None, if◌then◌else◌, MatchBool}
 use Rattle.std.specs.List.{filter}
 use Rattle.std.specs.Option.{option_map}
-use Rattle.tcmu_types.specs.Data.{CommandData, ReplyData, SettingsData}
+use Rattle.tcmu_types.specs.Data.{CommandData, SettingsData}
 use Rattle.tcmu_types.specs.Rules.{payload_length}
 use Rattle.tcmu_model.specs.declared.state.CommandState.TheVariants.{Out, Handled}
 use Rattle.tcmu_model.specs.declared.state.CommandState.TheVariants as state
 use Rattle.tcmu_model.specs.Lists.{first_of}
 use Rattle.tcmu_model.specs.Lengths.{block_size}
-use Rattle.tcmu_model.specs.RingState.{RingState, Item, Laid, Cmd, Tmr, is_command, commands_in, serials_in, published_commands, cleared_commands, dispatched_commands}
+use Rattle.tcmu_model.specs.RingState.{Item, Cmd, Tmr, is_command, commands_in, serials_in, published_commands, cleared_commands, dispatched_commands}
 use Rattle.tcmu_model.specs.Device.{Unfinished, DeviceState, has_state}
 use Rattle.tcmu_model.specs.Events.{is_in_hand, is_among}
 use Rattle.tcmu_model.specs.Sound.{Every, Differ}

@@ -1,18 +1,16 @@
 -- Worked examples: what the definitions give for a dump, and for a command on its whole way through a region.
 use Rattle.std.specs.Prelude.{◌≡◌, ℕ, suc, zero, List, [], ◌∷◌, ◌++◌, map, replicate, Some, None, Ok, Err, Result}
 use Rattle.tcmu_types.specs.Data.{CommandData, ReplyData}
-use Rattle.tcmu_types.specs.Dumps.{ItemData, HeldData, DumpData}
 use Rattle.tcmu_types.specs.declared.dump.ItemKind.TheVariants as kind
 use Rattle.tcmu_model.specs.declared.mailbox.MailboxFault.{MailboxFault}
 use Rattle.tcmu_model.specs.Device.{DeviceState, opening_state}
-use Rattle.tcmu_model.specs.BlockLists.{Taken}
 use Rattle.tcmu_model.specs.Regions.{RegionState, opening_region}
 use Rattle.tcmu_model.specs.Examples.{dev, read_of, submits, after, afterwards, drained}
 use Rattle.ring_laws.specs.Picture.{picture_of}
 use Rattle.ring_laws.specs.Sides.{TargetState, Copied, JobState, UserState}
 use Rattle.ring_laws.specs.TargetSteps.{opening_target, target_laid, region_laid}
-use Rattle.ring_laws.specs.TargetCleans.{target_cleaned, target_clean_answer, CleanAnswer, Logged}
-use Rattle.ring_laws.specs.UserSteps.{user_attached, user_responded, user_published, region_published}
+use Rattle.ring_laws.specs.TargetCleans.{target_cleaned, target_clean_answer, Logged}
+use Rattle.ring_laws.specs.UserSteps.{user_attached, user_responded, region_published}
 use Rattle.ring_laws.specs.UserNext.{NextAnswer, Job, Note, Nothing, BadMailbox, BadEntry, nexted}
 
 -- ==== dumps

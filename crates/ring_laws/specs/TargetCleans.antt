@@ -1,6 +1,6 @@
 -- What clean and reset do over any bytes that the user side left: kinds and lengths of items come from the target's own record, and
 -- of the ring no more is read than the mailbox's tail, and the id and the response of an entry.
-use Rattle.std.specs.Prelude.{ℕ, ◌+◌, ◌-◌, ◌/◌, ◌%◌, ◌==◌, ◌||◌, not, min, Bool, true, false, List, [], ◌∷◌, ◌++◌, length, take, map, Option, Some, None, if◌then◌else◌}
+use Rattle.std.specs.Prelude.{ℕ, ◌+◌, ◌-◌, ◌/◌, ◌%◌, ◌==◌, ◌||◌, not, min, Bool, false, List, [], ◌∷◌, ◌++◌, length, take, map, Option, Some, None, if◌then◌else◌}
 use Rattle.std.specs.List.{filter}
 use Rattle.tcmu_types.specs.Data.{SenseData, DoneData}
 use Rattle.tcmu_types.specs.SenseBytes.{sense_in}
@@ -8,7 +8,6 @@ use Rattle.tcmu_types.specs.declared.dump.ItemKind.{ItemKind}
 use Rattle.tcmu_types.specs.declared.dump.ItemKind.TheVariants as kind
 use Rattle.tcmu_model.specs.declared.entry.Response.{Response}
 use Rattle.tcmu_model.specs.Lists.{first_of, without_first, above_all}
-use Rattle.tcmu_model.specs.Device.{Delayed}
 use Rattle.tcmu_model.specs.Events.{reset_completion}
 use Rattle.tcmu_model.specs.Layout.{le, put, field, ring_start, head_place, tail_place}
 use Rattle.tcmu_model.specs.EntryReading.{response_at}

@@ -18,7 +18,7 @@ use Rattle.tcmu_model.specs.Device.{Delayed}
 use Rattle.tcmu_model.specs.Events.{later, has_left, departure}
 use Rattle.tcmu_model.specs.BlockLists.{least_free}
 use Rattle.tcmu_model.specs.Layout.{le, put, zeros, ring_start, head_place, pad_bytes, tmr_bytes}
-use Rattle.tcmu_model.specs.Regions.{RegionState, size_of, grown_to, opening_region}
+use Rattle.tcmu_model.specs.Regions.{RegionState, size_of, grown_to}
 use Rattle.tcmu_model.specs.Pending.{PendingData}
 use Rattle.ring_laws.specs.Areas.{written_along}
 use Rattle.ring_laws.specs.Picture.{request_of}

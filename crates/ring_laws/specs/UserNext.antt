@@ -1,21 +1,19 @@
 -- What next does over any bytes that the target left. Blocks that are lent read as zeros.
-use Rattle.std.specs.Prelude.{ℕ, suc, zero, ◌+◌, ◌*◌, ◌/◌, ◌%◌, ◌==◌, ◌&&◌, not, min, Bool, List, [], ◌∷◌, ◌++◌, length, take, slice_index, Option, Some, None, Result, Ok, Err, if◌then◌else◌}
+use Rattle.std.specs.Prelude.{ℕ, suc, zero, ◌+◌, ◌*◌, ◌/◌, ◌%◌, ◌==◌, min, List, [], ◌∷◌, ◌++◌, length, take, slice_index, None, Result, Ok, Err, if◌then◌else◌}
 use Rattle.std.specs.List.{filter, list_any}
-use Rattle.std.specs.Option.{is_some}
 use Rattle.tcmu_types.specs.Rules.{takes_payload}
 use Rattle.tcmu_types.specs.declared.dump.ItemKind.{ItemKind}
 use Rattle.tcmu_types.specs.declared.dump.ItemKind.TheVariants as kind
 use Rattle.tcmu_types.specs.declared.iovec.Iov.{Iov}
 use Rattle.tcmu_model.specs.declared.mailbox.Mailbox.{Mailbox}
 use Rattle.tcmu_model.specs.declared.mailbox.MailboxFault.{MailboxFault}
-use Rattle.tcmu_model.specs.declared.entry.EntryRef.{EntryRef}
 use Rattle.tcmu_model.specs.declared.entry.EntryRef.TheVariants as entry
 use Rattle.tcmu_model.specs.declared.entry.EntryFault.{EntryFault}
 use Rattle.tcmu_model.specs.Layout.{put, ring_start}
 use Rattle.tcmu_model.specs.EntryReading.{entry_read, iov_at, tmr_id_at}
 use Rattle.tcmu_model.specs.Iovecs.{along, total_of}
 use Rattle.tcmu_model.specs.Regions.{RegionState, size_of, bytes_of, can_lend, lent, parts_of}
-use Rattle.ring_laws.specs.Sides.{Recorded, Carried, Moved, Copied, JobState, GivenJob, UserState}
+use Rattle.ring_laws.specs.Sides.{Carried, Moved, Copied, JobState, UserState}
 use Rattle.ring_laws.specs.UserSteps.{user_mailbox, is_open_job}
 
 pub data NextAnswer : Type 0 where

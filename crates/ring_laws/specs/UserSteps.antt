@@ -1,11 +1,10 @@
 -- What the calls of the user side do but for next: what each answers, and what it makes of the user side's state and of the region.
 -- Each is a function of the user side's state and the region alone, over any bytes.
-use Rattle.std.specs.Prelude.{ℕ, ◌+◌, ◌-◌, ◌/◌, ◌%◌, ◌==◌, ◌&&◌, not, Bool, true, false, List, [], ◌∷◌, ◌++◌, length, take, drop, Option, Some, None, Result, Ok, Err, if◌then◌else◌}
+use Rattle.std.specs.Prelude.{ℕ, ◌+◌, ◌-◌, ◌/◌, ◌%◌, ◌==◌, ◌&&◌, not, Bool, true, false, List, [], ◌∷◌, length, take, drop, Option, Some, None, Result, Ok, Err, if◌then◌else◌}
 use Rattle.std.specs.List.{sum_by, count_by, list_all}
 use Rattle.std.specs.Option.{is_some}
-use Rattle.tcmu_types.specs.Data.{ReplyData, SettingsData}
+use Rattle.tcmu_types.specs.Data.{SettingsData}
 use Rattle.tcmu_types.specs.declared.settings.Flags.{Flags}
-use Rattle.tcmu_types.specs.declared.dump.ItemKind.{ItemKind}
 use Rattle.tcmu_types.specs.declared.dump.ItemKind.TheVariants as kind
 use Rattle.tcmu_types.specs.declared.iovec.Iov.{Iov}
 use Rattle.tcmu_types.specs.declared.answer.Respond.{Respond}
@@ -20,7 +19,7 @@ use Rattle.tcmu_model.specs.Layout.{le, put, tail_place, device_mailbox, with_re
 use Rattle.tcmu_model.specs.MailboxReading.{mailbox_read}
 use Rattle.tcmu_model.specs.EntryReading.{lies_inside}
 use Rattle.tcmu_model.specs.Iovecs.{scattered}
-use Rattle.tcmu_model.specs.Regions.{RegionState, size_of, bytes_of, given_back, copied_in}
+use Rattle.tcmu_model.specs.Regions.{RegionState, bytes_of, given_back, copied_in}
 use Rattle.ring_laws.specs.Picture.{told_length}
 use Rattle.ring_laws.specs.Sides.{Recorded, Carried, Moved, Copied, JobState, Parked, GivenJob, UserState}
 

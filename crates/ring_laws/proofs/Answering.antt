@@ -1,0 +1,140 @@
+-- The target answers as the device does.
+use Rattle.std.proofs.Common.{◌≡◌, ◌≢◌, ℕ, ◌+◌, ◌-◌, ◌*◌, ◌/◌, ◌%◌, ◌^◌, ◌≤◌, ◌<◌, ◌⊎◌, ◌==◌, ◌||◌, ◌&&◌, inl, inr, max, min, Bool, true, false, not, cond, List, [], ◌∷◌, ◌++◌, length, take, drop, map, refl, sym, ap, ◌∙◌, arith, suc, zero, Option, Some, None, slice_get, append_assoc, length-append, length-drop, length-take, subst, ⊎_elim, eqb, ltb}
+use Rattle.std.specs.Prelude.{nat_lt, nat_le}
+use Rattle.tcmu_types.specs.declared.answer.Submit.TheVariants as submit
+use Rattle.tcmu_types.specs.declared.answer.Enter.TheVariants as enter
+use Rattle.std.specs.List.{sum_by, flat_map, list_any}
+use Rattle.std.proofs.Math.Nat.{mul-le-mul_left, add-mul-mod_self_left}
+use Rattle.std.proofs.lemmas.Bool.{cases_Bool, eqb-true, eqb-false, ltb-true, ltb-false, cases_lt, eq-eqb, ne_eqb, false≢true, or_parts}
+use Rattle.std.proofs.lemmas.List.{take_at, drop_at, take-append-le, drop-append-le, take_all, drop_all, take-append-drop, take-take, drop-drop, drop-take, length-take-le, length-replicate, map-append}
+use Rattle.std.proofs.lemmas.List.Sums.{sum_by-append, sum_by_push, sum_by-take-le, sum_by-cons}
+use Rattle.std.proofs.lemmas.Option.{slice_get_past}
+use Rattle.tcmu_types.specs.Data.{CommandData, ReplyData, SettingsData}
+use Rattle.tcmu_types.specs.Rules.{payload_length, IsSettings}
+use Rattle.tcmu_types.specs.declared.settings.Flags.{Flags}
+use Rattle.tcmu_types.specs.declared.dump.ItemKind.{ItemKind}
+use Rattle.tcmu_types.specs.declared.dump.ItemKind.TheVariants as kind
+use Rattle.tcmu_model.specs.Lists.{first_of}
+use Rattle.tcmu_model.specs.Lengths.{blocks_of, block_size, round_up, entry_length}
+use Rattle.tcmu_model.specs.RingState.{RingState, Item, Laid, lengths, head, used, free, need, pads, with_item, commands_in, is_command}
+use Rattle.tcmu_model.specs.RingState as ring
+use Rattle.tcmu_model.specs.Device.{Unfinished, DeviceState, has_serial}
+use Rattle.tcmu_model.specs.BlockLists.{Taken, list_of, held_by, least_free, blocks_taken, with_taken}
+use Rattle.tcmu_model.specs.Layout.{le, field, put, zeros, ring_start, data_start, head_place, pad_bytes, mailbox_bytes, device_mailbox}
+use Rattle.tcmu_model.specs.Pending.{PendingData}
+use Rattle.ring_laws.specs.Picture.{place_of, tail, item_bytes, entry_of, with_answer, request_of, ids_named, shown_mailbox, command_iovs}
+use Rattle.ring_laws.specs.Sides.{Recorded, PendingRow, TargetState}
+use Rattle.ring_laws.specs.Represents.{RingStands, StandsAt, recorded, entry_at, id_in, ids_in, TargetKeeps, pending_of, id_at, id_of, row_has, IsId, IdsStand}
+use Rattle.ring_laws.specs.TargetSteps.{with_pad, pads_of, used_in, head_in, free_in, pad_in, need_in, blocks_held, blocks_given, place_in, length_in, deadline_in, front_with, region_laid, target_laid}
+use Rattle.tcmu_types.specs.declared.answer.Submit.{Submit}
+use Rattle.tcmu_types.specs.declared.answer.Enter.{Enter}
+use Rattle.tcmu_model.specs.Device.{Delayed}
+use Rattle.tcmu_model.specs.Events.{submit_answer, queued_or_full, queued_or_delayed, enter_answer, entered_or_full, entry_length_in, blocks_in, held_blocks, free_blocks, fits_ring, fits_blocks, block_answer, after_block}
+use Rattle.tcmu_model.specs.Sound.{IsSound, Every}
+use Rattle.ring_laws.specs.Owned.{ListsSound}
+use Rattle.ring_laws.specs.TargetSteps.{target_submit_answer, submit_or_full, submit_or_delay, target_enter_answer, enter_or_full, blocks_free, blocks_wanted, fits_in, has_room, target_block_answer, target_blocked}
+use Rattle.ring_laws.proofs.Agree.{Agrees, agrees, held-same}
+
+pub held_length : (pages : ℕ) (lists : List Taken) (us : List Unfinished) → Every (λ (u : Unfinished). length (list_of lists u.serial) ≡ blocks_of pages u.command) us → length (held_by lists us) ≡ sum_by (λ (u : Unfinished). blocks_of pages u.command) us
+held_length pages lists [] h = refl
+held_length pages lists (u ∷ us) h =
+    let a : length (list_of lists u.serial ++ held_by lists us) ≡ length (list_of lists u.serial) + length (held_by lists us) = length-append (list_of lists u.serial) (held_by lists us) in
+    let b : length (list_of lists u.serial) ≡ blocks_of pages u.command = h.0 in
+    let c : length (held_by lists us) ≡ sum_by (λ (v : Unfinished). blocks_of pages v.command) us = held_length pages lists us h.1 in
+    a ∙ ap (λ z. z + length (held_by lists us)) b ∙ ap (λ z. blocks_of pages u.command + z) c ∙ sym (sum_by-cons (λ (v : Unfinished). blocks_of pages v.command) u us)
+
+-- what the target computes of room is what the device has
+pub record Rooms (t : TargetState) (d : DeviceState) : Type 0 where
+  pub size : t.settings.ring ≡ d.ring.size
+  pub need : (n : ℕ) → need_in t n ≡ ring.need d.ring n
+  pub free : free_in t ≡ ring.free d.ring
+  pub blocks : blocks_free t ≡ free_blocks d
+  pub length : (c : CommandData) → length_in t c ≡ entry_length_in d c
+  pub wanted : (c : CommandData) → blocks_wanted t c ≡ blocks_in d c
+  pub fits : (c : CommandData) → fits_in t (length_in t c) ≡ fits_ring d c
+  pub enough : (c : CommandData) → nat_le (blocks_wanted t c) (blocks_free t) ≡ fits_blocks d c
+
+pub rooms : (front : List ℕ) (t : TargetState) (d : DeviceState) (lists : List Taken) → IsSound d → ListsSound d lists → RingStands front t.items d lists → TargetKeeps t d lists → Rooms t d
+rooms front t d lists sound owned shape keeps =
+    let g : Agrees t d = agrees front t d lists shape keeps sound.ring.size in
+    let nd : (n : ℕ) → need_in t n ≡ ring.need d.ring n = λ n. ap (λ z. z + n) (g.pad n) in
+    let fr : free_in t ≡ ring.free d.ring = ap (λ z. z - used_in t - 1) g.size ∙ ap (λ z. d.ring.size - z - 1) g.used in
+    let bl : blocks_free t ≡ free_blocks d =
+    ap (λ (z : SettingsData). z.blocks - length (blocks_held t.rows)) keeps.settings
+    ∙ ap (λ (xs : List ℕ). d.settings.blocks - length xs) (held-same t d lists keeps)
+    ∙ ap (λ z. d.settings.blocks - z) (held_length d.settings.pages lists d.unfinished owned.sizes) in
+    let ln : (c : CommandData) → length_in t c ≡ entry_length_in d c = λ c. ap (λ (z : SettingsData). entry_length z.pages c) keeps.settings in
+    let wa : (c : CommandData) → blocks_wanted t c ≡ blocks_in d c = λ c. ap (λ (z : SettingsData). blocks_of z.pages c) keeps.settings in
+    record {
+      size = g.size;
+      need = nd;
+      free = fr;
+      blocks = bl;
+      length = ln;
+      wanted = wa;
+      fits = λ c. ap (fits_in t) (ln c) ∙ ap (λ z. nat_le z (free_in t)) (nd (entry_length_in d c)) ∙ ap (nat_le (ring.need d.ring (entry_length_in d c))) fr;
+      enough = λ c. ap (λ z. nat_le z (blocks_free t)) (wa c) ∙ ap (nat_le (blocks_in d c)) bl;
+    }
+
+need_same : (t : TargetState) (d : DeviceState) (c : CommandData) → Rooms t d → need_in t (length_in t c) ≡ ring.need d.ring (entry_length_in d c)
+need_same t d c r = ap (need_in t) (r.length c) ∙ r.need (entry_length_in d c)
+
+full_same : (t : TargetState) (d : DeviceState) (c : CommandData) → Rooms t d → t.accepted ≡ d.accepted → submit_or_full t c ≡ queued_or_full d c
+unfolding queued_or_full
+full_same t d c r a =
+    let f : fits_in t (length_in t c) ≡ fits_ring d c = r.fits c in
+    let b : nat_le (blocks_wanted t c) (blocks_free t) ≡ fits_blocks d c = r.enough c in
+    let n : need_in t (length_in t c) ≡ ring.need d.ring (entry_length_in d c) = need_same t d c r in
+    let e : free_in t ≡ ring.free d.ring = r.free in
+    let w : blocks_wanted t c ≡ blocks_in d c = r.wanted c in
+    let g : blocks_free t ≡ free_blocks d = r.blocks in
+    ap (λ z. cond (not z) (submit.FullRing (need_in t (length_in t c)) (free_in t)) (cond (not (nat_le (blocks_wanted t c) (blocks_free t))) (submit.FullBlocks (blocks_wanted t c) (blocks_free t)) (submit.Queued (t.accepted + 1)))) f
+    ∙ ap (λ z. cond (not (fits_ring d c)) (submit.FullRing z (free_in t)) (cond (not (nat_le (blocks_wanted t c) (blocks_free t))) (submit.FullBlocks (blocks_wanted t c) (blocks_free t)) (submit.Queued (t.accepted + 1)))) n
+    ∙ ap (λ z. cond (not (fits_ring d c)) (submit.FullRing (ring.need d.ring (entry_length_in d c)) z) (cond (not (nat_le (blocks_wanted t c) (blocks_free t))) (submit.FullBlocks (blocks_wanted t c) (blocks_free t)) (submit.Queued (t.accepted + 1)))) e
+    ∙ ap (λ z. cond (not (fits_ring d c)) (submit.FullRing (ring.need d.ring (entry_length_in d c)) (ring.free d.ring)) (cond (not z) (submit.FullBlocks (blocks_wanted t c) (blocks_free t)) (submit.Queued (t.accepted + 1)))) b
+    ∙ ap (λ z. cond (not (fits_ring d c)) (submit.FullRing (ring.need d.ring (entry_length_in d c)) (ring.free d.ring)) (cond (not (fits_blocks d c)) (submit.FullBlocks z (blocks_free t)) (submit.Queued (t.accepted + 1)))) w
+    ∙ ap (λ z. cond (not (fits_ring d c)) (submit.FullRing (ring.need d.ring (entry_length_in d c)) (ring.free d.ring)) (cond (not (fits_blocks d c)) (submit.FullBlocks (blocks_in d c) z) (submit.Queued (t.accepted + 1)))) g
+    ∙ ap (λ z. cond (not (fits_ring d c)) (submit.FullRing (ring.need d.ring (entry_length_in d c)) (ring.free d.ring)) (cond (not (fits_blocks d c)) (submit.FullBlocks (blocks_in d c) (free_blocks d)) (submit.Queued (z + 1)))) a
+
+delay_same : (t : TargetState) (d : DeviceState) (c : CommandData) → Rooms t d → t.accepted ≡ d.accepted → t.delayed ≡ d.delayed → submit_or_delay t c ≡ queued_or_delayed d c
+unfolding queued_or_delayed
+delay_same t d c r a w =
+    ap (λ z. cond (z && nat_le (blocks_wanted t c) (blocks_free t) && (length t.delayed == 0)) (submit.Queued (t.accepted + 1)) (submit.Delayed (t.accepted + 1))) (r.fits c)
+    ∙ ap (λ z. cond (fits_ring d c && z && (length t.delayed == 0)) (submit.Queued (t.accepted + 1)) (submit.Delayed (t.accepted + 1))) (r.enough c)
+    ∙ ap (λ (z : List Delayed). cond (fits_ring d c && fits_blocks d c && (length z == 0)) (submit.Queued (t.accepted + 1)) (submit.Delayed (t.accepted + 1))) w
+    ∙ ap (λ z. cond (fits_ring d c && fits_blocks d c && (length d.delayed == 0)) (submit.Queued (z + 1)) (submit.Delayed (z + 1))) a
+
+big_or : Bool → ℕ → ℕ → ℕ → ℕ → ℕ → Submit → Submit → Submit
+big_or blocked ring n blocks b qfull full delay = cond blocked submit.Busy (cond (nat_lt ring (2 * n)) (submit.TooBig n (ring / 2)) (cond (nat_lt blocks b) (submit.TooBig b blocks) (cond (qfull == 0) full delay)))
+
+pub submit_same : (front : List ℕ) (t : TargetState) (d : DeviceState) (lists : List Taken) (c : CommandData) → IsSound d → ListsSound d lists → RingStands front t.items d lists → TargetKeeps t d lists → target_submit_answer t c ≡ submit_answer d c
+unfolding target_submit_answer submit_answer big_or
+submit_same front t d lists c sound owned shape keeps =
+    let r : Rooms t d = rooms front t d lists sound owned shape keeps in
+    ap (λ z. big_or z t.settings.ring (length_in t c) t.settings.blocks (blocks_wanted t c) t.settings.qfull (submit_or_full t c) (submit_or_delay t c)) keeps.blocked
+    ∙ ap (λ z. big_or d.blocked z (length_in t c) t.settings.blocks (blocks_wanted t c) t.settings.qfull (submit_or_full t c) (submit_or_delay t c)) r.size
+    ∙ ap (λ z. big_or d.blocked d.ring.size z t.settings.blocks (blocks_wanted t c) t.settings.qfull (submit_or_full t c) (submit_or_delay t c)) (r.length c)
+    ∙ ap (λ (z : SettingsData). big_or d.blocked d.ring.size (entry_length_in d c) z.blocks (blocks_wanted t c) z.qfull (submit_or_full t c) (submit_or_delay t c)) keeps.settings
+    ∙ ap (λ z. big_or d.blocked d.ring.size (entry_length_in d c) d.settings.blocks z d.settings.qfull (submit_or_full t c) (submit_or_delay t c)) (r.wanted c)
+    ∙ ap (λ z. big_or d.blocked d.ring.size (entry_length_in d c) d.settings.blocks (blocks_in d c) d.settings.qfull z (submit_or_delay t c)) (full_same t d c r keeps.accepted)
+    ∙ ap (λ z. big_or d.blocked d.ring.size (entry_length_in d c) d.settings.blocks (blocks_in d c) d.settings.qfull (queued_or_full d c) z) (delay_same t d c r keeps.accepted keeps.delayed)
+
+enter_list : (t : TargetState) (d : DeviceState) (ws : List Delayed) → Rooms t d → enter_or_full t ws ≡ entered_or_full d ws
+enter_list t d [] r = refl
+enter_list t d (w ∷ ws) r =
+    let c : CommandData = w.command in
+    ap (λ z. cond (not z) (enter.FullRing (need_in t (length_in t c)) (free_in t)) (cond (not (nat_le (blocks_wanted t c) (blocks_free t))) (enter.FullBlocks (blocks_wanted t c) (blocks_free t)) (enter.Entered w.serial))) (r.fits c)
+    ∙ ap (λ z. cond (not (fits_ring d c)) (enter.FullRing z (free_in t)) (cond (not (nat_le (blocks_wanted t c) (blocks_free t))) (enter.FullBlocks (blocks_wanted t c) (blocks_free t)) (enter.Entered w.serial))) (need_same t d c r)
+    ∙ ap (λ z. cond (not (fits_ring d c)) (enter.FullRing (ring.need d.ring (entry_length_in d c)) z) (cond (not (nat_le (blocks_wanted t c) (blocks_free t))) (enter.FullBlocks (blocks_wanted t c) (blocks_free t)) (enter.Entered w.serial))) r.free
+    ∙ ap (λ z. cond (not (fits_ring d c)) (enter.FullRing (ring.need d.ring (entry_length_in d c)) (ring.free d.ring)) (cond (not z) (enter.FullBlocks (blocks_wanted t c) (blocks_free t)) (enter.Entered w.serial))) (r.enough c)
+    ∙ ap (λ z. cond (not (fits_ring d c)) (enter.FullRing (ring.need d.ring (entry_length_in d c)) (ring.free d.ring)) (cond (not (fits_blocks d c)) (enter.FullBlocks z (blocks_free t)) (enter.Entered w.serial))) (r.wanted c)
+    ∙ ap (λ z. cond (not (fits_ring d c)) (enter.FullRing (ring.need d.ring (entry_length_in d c)) (ring.free d.ring)) (cond (not (fits_blocks d c)) (enter.FullBlocks (blocks_in d c) z) (enter.Entered w.serial))) r.blocks
+
+pub enter_same : (front : List ℕ) (t : TargetState) (d : DeviceState) (lists : List Taken) → IsSound d → ListsSound d lists → RingStands front t.items d lists → TargetKeeps t d lists → target_enter_answer t ≡ enter_answer d
+unfolding target_enter_answer enter_answer
+enter_same front t d lists sound owned shape keeps =
+    ap (enter_or_full t) keeps.delayed ∙ enter_list t d d.delayed (rooms front t d lists sound owned shape keeps)
+
+pub block_same : (t : TargetState) (d : DeviceState) (lists : List Taken) (b : Bool) → TargetKeeps t d lists → target_block_answer t b ≡ block_answer d b
+unfolding target_block_answer block_answer
+block_same t d lists b keeps = ap (λ z. cond b (not z) z) keeps.blocked

@@ -1,0 +1,120 @@
+-- The least free numbers.
+use Rattle.std.proofs.Common.{◌≡◌, ◌≢◌, ℕ, ◌+◌, ◌-◌, ◌*◌, ◌/◌, ◌%◌, ◌≤◌, ◌<◌, ◌⊎◌, ◌==◌, ◌||◌, inl, inr, min, max, Bool, true, false, not, cond, List, [], ◌∷◌, ◌++◌, length, take, drop, map, filter, replicate, set, refl, sym, ap, ◌∙◌, arith, suc, zero, Option, Some, None, slice_get, append_assoc, length-append, length-take, length-drop, length-set, append-nil, subst, ⊎_elim, eqb, ltb}
+use Rattle.std.proofs.lemmas.Bool.{cases_Bool, eqb-true, eqb-false, cases_lt, ne_eqb, eq-eqb, false≢true, or_parts, or_left, or_right}
+use Rattle.std.specs.Bool.{MatchBool}
+use Rattle.std.specs.List.{list_any, flat_map, sum_by}
+use Rattle.std.proofs.lemmas.List.{take_at, take-take, take-append-le, take_all, length-take-le, take-append-drop, drop_all, nil_from_length, take-replicate, length-replicate}
+use Rattle.std.proofs.lemmas.List.Sums.{sum_by-cons}
+use Rattle.std.proofs.lemmas.Option.{slice_get_within}
+use Rattle.tcmu_types.specs.Data.{CommandData, ReplyData}
+use Rattle.tcmu_types.specs.Rules.{takes_payload, payload_length}
+use Rattle.tcmu_model.specs.Lengths.{blocks_of, block_size}
+use Rattle.tcmu_model.specs.Lists.{first_of, above_all}
+use Rattle.tcmu_model.specs.RingState.{serials_in}
+use Rattle.tcmu_model.specs.Device.{Unfinished, DeviceState, has_serial}
+use Rattle.tcmu_model.specs.Events.{is_among, is_in_hand, held_blocks, waiting, with_command}
+use Rattle.tcmu_model.specs.Sound.{IsSound, Every, Differ}
+use Rattle.tcmu_model.specs.BlockLists.{Taken, list_of, with_taken, blocks_taken, held_by, free_from, least_free}
+use Rattle.tcmu_model.specs.Layout.{zeros}
+use Rattle.tcmu_model.specs.Regions.{home, AreSized, RegionState}
+use Rattle.ring_laws.specs.Areas.{block_bytes, bytes_along, over, written_along, IsHome, IsLent}
+use Rattle.ring_laws.specs.Picture.{payload_of, data_in}
+use Rattle.ring_laws.specs.Represents.{HaveData, BlocksOf, BlocksStand, RingStands, TargetKeeps}
+use Rattle.ring_laws.specs.Sides.{TargetState}
+use Rattle.ring_laws.specs.TargetSteps.{region_laid}
+use Rattle.ring_laws.specs.Owned.{ListsSound, HasRoom}
+use Rattle.tcmu_model.proofs.Written.{length-zeros}
+
+-- a number that lies before takes nothing away
+free-before : (h : ℕ) (hs : List ℕ) (n k : ℕ) → h < n → free_from (h ∷ hs) n k ≡ free_from hs n k
+free-before h hs n zero l = refl
+free-before h hs n (suc k) l =
+    let e : eqb h n ≡ false = ne_eqb h n (λ q. absurd (omega arith)) in
+    ⊎_elim
+    (λ (a : is_among hs n ≡ true). rw (e, a) (free-before h hs (n + 1) k (omega arith)))
+    (λ (a : is_among hs n ≡ false). rw (e, a) (ap (λ xs. n ∷ xs) (free-before h hs (n + 1) k (omega arith))))
+    (cases_Bool (is_among hs n))
+
+-- one more number takes at most one away
+free-one : (h : ℕ) (hs : List ℕ) (n k : ℕ) → length (free_from hs n k) ≤ length (free_from (h ∷ hs) n k) + 1
+free-one h hs n zero = omega arith
+free-one h hs n (suc k) =
+    ⊎_elim
+    (λ (e : eqb h n ≡ true).
+    let z : h ≡ n = eqb-true h n e in
+    let b : length (free_from (h ∷ hs) (n + 1) k) ≡ length (free_from hs (n + 1) k) = ap length (free-before h hs (n + 1) k (omega arith)) in
+    ⊎_elim
+    (λ (a : is_among hs n ≡ true). rw (e, a) (omega (arith, b)))
+    (λ (a : is_among hs n ≡ false). rw (e, a) (omega (arith, b)))
+    (cases_Bool (is_among hs n)))
+    (λ (e : eqb h n ≡ false).
+    let ih = free-one h hs (n + 1) k in
+    ⊎_elim
+    (λ (a : is_among hs n ≡ true). rw (e, a) ih)
+    (λ (a : is_among hs n ≡ false). rw (e, a) (omega (arith, ih)))
+    (cases_Bool (is_among hs n)))
+    (cases_Bool (eqb h n))
+
+free-none : (n k : ℕ) → length (free_from [] n k) ≡ k
+free-none n zero = refl
+free-none n (suc k) = ap suc (free-none (n + 1) k)
+
+pub free-enough : (held : List ℕ) (n k : ℕ) → k ≤ length (free_from held n k) + length held
+free-enough [] n k = omega (arith, free-none n k)
+free-enough (h ∷ hs) n k = omega (arith, free-one h hs n k, free-enough hs n k)
+
+pub length-least_free : (limit : ℕ) (held : List ℕ) (n : ℕ) → length held + n ≤ limit → length (least_free limit held n) ≡ n
+length-least_free limit held n h = omega (arith, free-enough held 0 limit, length-take n (free_from held 0 limit))
+
+-- what a free number is
+pub record IsFree (held : List ℕ) (low high b : ℕ) : Type 0 where
+  pub low_ : low ≤ b
+  pub high_ : b < high
+  pub free : is_among held b ≡ false
+
+every-more : (held : List ℕ) (n k : ℕ) (xs : List ℕ) → Every (IsFree held (n + 1) (n + 1 + k)) xs → Every (IsFree held n (n + suc k)) xs
+every-more held n k [] e = tt
+every-more held n k (x ∷ xs) e =
+    let f = e.0 in let a : n + 1 ≤ x = f.low_ in let b : x < n + 1 + k = f.high_ in
+    (record { low_ = omega arith; high_ = omega arith; free = f.free }, every-more held n k xs e.1)
+
+free-are : (held : List ℕ) (n k : ℕ) → Every (IsFree held n (n + k)) (free_from held n k)
+free-are held n zero = tt
+free-are held n (suc k) =
+    ⊎_elim
+    (λ (a : is_among held n ≡ true). rw a (every-more held n k (free_from held (n + 1) k) (free-are held (n + 1) k)))
+    (λ (a : is_among held n ≡ false). rw a (record { low_ = omega arith; high_ = omega arith; free = a }, every-more held n k (free_from held (n + 1) k) (free-are held (n + 1) k)))
+    (cases_Bool (is_among held n))
+
+every-take : {X : Type 0} (P : X → Type 0) (n : ℕ) (xs : List X) → Every P xs → Every P (take n xs)
+every-take P zero xs a = tt
+every-take P (suc n) [] a = tt
+every-take P (suc n) (x ∷ xs) a = (a.0, every-take P n xs a.1)
+
+pub least-are : (limit : ℕ) (held : List ℕ) (n : ℕ) → Every (IsFree held 0 (0 + limit)) (least_free limit held n)
+least-are limit held n = every-take (IsFree held 0 (0 + limit)) n (free_from held 0 limit) (free-are held 0 limit)
+
+above-none : (held : List ℕ) (m hi b : ℕ) (xs : List ℕ) → b < m → Every (IsFree held m hi) xs → is_among xs b ≡ false
+above-none held m hi b [] l e = refl
+above-none held m hi b (x ∷ xs) l e = let f = e.0 in let a : m ≤ x = f.low_ in let n : eqb x b ≡ false = ne_eqb x b (λ q. absurd (omega arith)) in rw n (above-none held m hi b xs l e.1)
+
+free-differ : (held : List ℕ) (n k : ℕ) → Differ (free_from held n k)
+free-differ held n zero = tt
+free-differ held n (suc k) =
+    ⊎_elim
+    (λ (a : is_among held n ≡ true). rw a (free-differ held (n + 1) k))
+    (λ (a : is_among held n ≡ false). rw a (above-none held (n + 1) (n + 1 + k) n (free_from held (n + 1) k) (omega arith) (free-are held (n + 1) k), free-differ held (n + 1) k))
+    (cases_Bool (is_among held n))
+
+among-take : (xs : List ℕ) (n b : ℕ) → is_among xs b ≡ false → is_among (take n xs) b ≡ false
+among-take xs zero b h = refl
+among-take [] (suc n) b h = refl
+among-take (x ∷ xs) (suc n) b h = let p = or_parts (eqb x b) (is_among xs b) h in rw p.0 (among-take xs n b p.1)
+
+differ-take : (xs : List ℕ) (n : ℕ) → Differ xs → Differ (take n xs)
+differ-take xs zero d = tt
+differ-take [] (suc n) d = tt
+differ-take (x ∷ xs) (suc n) d = (among-take xs n x d.0, differ-take xs n d.1)
+
+pub least-differ : (limit : ℕ) (held : List ℕ) (n : ℕ) → Differ (least_free limit held n)
+least-differ limit held n = differ-take (free_from held 0 limit) n (free-differ held 0 limit)

@@ -1,0 +1,119 @@
+-- A command is laid: the block lists stay sound.
+use Rattle.std.proofs.Common.{◌≡◌, ◌≢◌, ℕ, ◌+◌, ◌-◌, ◌*◌, ◌/◌, ◌%◌, ◌^◌, ◌≤◌, ◌<◌, ◌⊎◌, ◌==◌, ◌||◌, inl, inr, max, min, Bool, true, false, not, cond, List, [], ◌∷◌, ◌++◌, length, take, drop, map, refl, sym, ap, ◌∙◌, arith, suc, zero, Option, Some, None, slice_get, append_assoc, length-append, length-drop, length-take, append-nil, subst, ⊎_elim, eqb, ltb}
+use Rattle.std.specs.List.{sum_by, flat_map, list_any}
+use Rattle.std.proofs.Math.Nat.{mul-le-mul_left, add-mul-mod_self_left}
+use Rattle.std.proofs.lemmas.Bool.{cases_Bool, eqb-true, eqb-false, ltb-true, ltb-false, cases_lt, eq-eqb, ne_eqb, false≢true, or_parts}
+use Rattle.std.proofs.lemmas.List.{take_at, drop_at, take-append-le, drop-append-le, take_all, drop_all, take-append-drop, take-take, drop-drop, drop-take, length-take-le, length-replicate, map-append}
+use Rattle.std.proofs.lemmas.List.Sums.{sum_by-append, sum_by_push, sum_by-take-le, sum_by-cons}
+use Rattle.std.proofs.lemmas.Option.{slice_get_past}
+use Rattle.tcmu_types.specs.Data.{CommandData, ReplyData, SettingsData}
+use Rattle.tcmu_types.specs.Rules.{payload_length, IsSettings}
+use Rattle.tcmu_types.specs.declared.settings.Flags.{Flags}
+use Rattle.tcmu_types.specs.declared.dump.ItemKind.{ItemKind}
+use Rattle.tcmu_types.specs.declared.dump.ItemKind.TheVariants as kind
+use Rattle.tcmu_model.specs.Lists.{first_of}
+use Rattle.tcmu_model.specs.Lengths.{blocks_of, block_size, round_up, entry_length}
+use Rattle.tcmu_model.specs.RingState.{RingState, Item, Laid, lengths, head, used, free, need, pads, with_item, commands_in, is_command}
+use Rattle.tcmu_model.specs.RingState as ring
+use Rattle.tcmu_model.specs.Device.{Unfinished, DeviceState, has_serial}
+use Rattle.tcmu_model.specs.BlockLists.{Taken, list_of, held_by, least_free, blocks_taken, with_taken}
+use Rattle.tcmu_model.specs.Layout.{le, field, put, zeros, ring_start, data_start, head_place, pad_bytes, mailbox_bytes, device_mailbox}
+use Rattle.tcmu_model.specs.Pending.{PendingData}
+use Rattle.ring_laws.specs.Picture.{place_of, tail, item_bytes, entry_of, with_answer, request_of, ids_named, shown_mailbox, command_iovs}
+use Rattle.ring_laws.specs.Sides.{Recorded, PendingRow, TargetState}
+use Rattle.ring_laws.specs.Represents.{RingStands, StandsAt, recorded, entry_at, id_in, ids_in, TargetKeeps, pending_of, id_at, id_of, row_has, IsId, IdsStand}
+use Rattle.ring_laws.specs.TargetSteps.{with_pad, pads_of, used_in, head_in, free_in, pad_in, need_in, blocks_held, blocks_given, place_in, length_in, deadline_in, front_with, region_laid, target_laid}
+use Rattle.std.proofs.lemmas.Bool.{or_left, or_right}
+use Rattle.tcmu_model.specs.Events.{is_among, held_blocks, waiting, with_command}
+use Rattle.tcmu_model.specs.RingState.{serials_in}
+use Rattle.tcmu_model.specs.Sound.{IsSound, Every, Differ}
+use Rattle.tcmu_model.proofs.Laying.{serials-append}
+use Rattle.tcmu_model.proofs.Rises.{among-append, among-here}
+use Rattle.tcmu_model.proofs.Everies.{every-append, every-weaker}
+use Rattle.ring_laws.specs.Owned.{ListsSound, HasRoom}
+use Rattle.ring_laws.proofs.Places.{laid_with, LaidCase, laid_case, Old, Padding, New}
+use Rattle.ring_laws.proofs.Laying.{laid_in}
+use Rattle.ring_laws.proofs.Submit.{first-append, first-here, not_below, serial_at, unlisted, cmd_item, with_waiting}
+use Rattle.ring_laws.proofs.Kept.{rows_below, lists_below}
+use Rattle.ring_laws.proofs.Answering.{held_length}
+use Rattle.ring_laws.proofs.Free.{IsFree, length-least_free, least-are, least-differ}
+
+differ-append : (xs ys : List ℕ) → Differ xs → Differ ys → Every (λ y. is_among xs y ≡ false) ys → Differ (xs ++ ys)
+differ-append [] ys d e h = e
+differ-append (x ∷ xs) ys d e h = (
+  among-append xs ys x ∙ ap (λ b. b || is_among ys x) d.0 ∙ not_there ys h,
+  differ-append xs ys d.1 e (every-weaker (λ y. is_among (x ∷ xs) y ≡ false) (λ y. is_among xs y ≡ false) ys (λ y k. (or_parts (eqb x y) (is_among xs y) k).1) h),
+)
+  where
+    not_there : (zs : List ℕ) → Every (λ y. is_among (x ∷ xs) y ≡ false) zs → is_among zs x ≡ false
+    not_there [] k = refl
+    not_there (z ∷ zs) k =
+        let p = or_parts (eqb x z) (is_among xs z) k.0 in
+        let q : eqb z x ≡ false = ne_eqb z x (λ e. eqb-false x z p.0 (sym e)) in
+        rw q (not_there zs k.1)
+
+held-append : (lists : List Taken) (us : List Unfinished) (u : Unfinished) → held_by lists (us ++ u ∷ []) ≡ held_by lists us ++ held_by lists (u ∷ [])
+held-append lists [] u = refl
+held-append lists (v ∷ us) u =
+    ap (λ xs. list_of lists v.serial ++ xs) (held-append lists us u) ∙ sym (append_assoc (list_of lists v.serial) (held_by lists us) (held_by lists (u ∷ [])))
+
+held_same : (lists lists' : List Taken) (s : ℕ) (us : List Unfinished) → ((q : ℕ) → q < s → list_of lists' q ≡ list_of lists q) → Every (λ (u : Unfinished). u.serial < s) us → held_by lists' us ≡ held_by lists us
+held_same lists lists' s [] l h = refl
+held_same lists lists' s (u ∷ us) l h = ap (λ z. z ++ held_by lists' us) (l u.serial h.0) ∙ ap (λ z. list_of lists u.serial ++ z) (held_same lists lists' s us l h.1)
+
+sizes_same : (pages : ℕ) (lists lists' : List Taken) (s : ℕ) (us : List Unfinished) → ((q : ℕ) → q < s → list_of lists' q ≡ list_of lists q) → Every (λ (u : Unfinished). u.serial < s) us →
+    Every (λ (u : Unfinished). length (list_of lists u.serial) ≡ blocks_of pages u.command) us → Every (λ (u : Unfinished). length (list_of lists' u.serial) ≡ blocks_of pages u.command) us
+sizes_same pages lists lists' s [] l h e = tt
+sizes_same pages lists lists' s (u ∷ us) l h e = (ap length (l u.serial h.0) ∙ e.0, sizes_same pages lists lists' s us l h.1 e.1)
+
+pub lists_sound_laid : (d : DeviceState) (lists : List Taken) (s : ℕ) (c : CommandData) → IsSound d → ListsSound d lists → HasRoom d c → Every (λ k. k < s) (serials_in d.ring.laid) →
+    ListsSound (with_command d s c) (with_taken d lists s c)
+unfolding with_command
+lists_sound_laid d lists s c sound owned room above =
+    let hs : List ℕ = held_by lists d.unfinished in
+    let n : ℕ = blocks_of d.settings.pages c in
+    let bs : List ℕ = least_free d.settings.blocks hs n in
+    let it : Item = cmd_item d s c in
+    let new : Taken = record { serial = s; blocks = bs } in
+    let lists' = with_taken d lists s c in
+    let u : Unfinished = waiting d s c in
+    let rows : Every (λ (v : Unfinished). v.serial < s) d.unfinished = rows_below d s sound above in
+    let old : (q : ℕ) → q < s → list_of lists' q ≡ list_of lists q = λ q h. ap blocks_taken (first-append (λ (l : Taken). eqb l.serial q) lists new (not_below s q h)) in
+    let mine : list_of lists' s ≡ bs = ap blocks_taken (first-here (λ (l : Taken). eqb l.serial s) lists new (eq-eqb s s refl) (unlisted lists s (lists_below d lists s owned above))) in
+    let lh : length hs ≡ held_blocks d = held_length d.settings.pages lists d.unfinished owned.sizes in
+    let rb : held_blocks d + n ≤ d.settings.blocks = room.blocks in
+    let ln : length bs ≡ n = length-least_free d.settings.blocks hs n (omega arith) in
+    let free : Every (IsFree hs 0 (0 + d.settings.blocks)) bs = least-are d.settings.blocks hs n in
+    let held : held_by lists' (with_waiting d s c) ≡ hs ++ bs =
+    held-append lists' d.unfinished u ∙ ap (λ z. z ++ held_by lists' (u ∷ [])) (held_same lists lists' s d.unfinished old rows) ∙ ap (λ z. hs ++ z) (append-nil (list_of lists' s) ∙ mine) in
+    let front : List ℕ = serials_in (d.ring.laid ++ pads (ring.pad d.ring (entry_length d.settings.pages c))) in
+    let ser : serials_in (laid_with d.ring it) ≡ front ++ s ∷ [] = serials-append (d.ring.laid ++ pads (ring.pad d.ring (entry_length d.settings.pages c))) (it ∷ []) in
+    let ser0 : front ≡ serials_in d.ring.laid ++ serials_in (pads (ring.pad d.ring (entry_length d.settings.pages c))) = serials-append d.ring.laid (pads (ring.pad d.ring (entry_length d.settings.pages c))) in
+    record {
+      listed = every-append (λ (t : Taken). is_among (serials_in (laid_with d.ring it)) t.serial ≡ true) lists (new ∷ [])
+          (every-weaker (λ (t : Taken). is_among (serials_in d.ring.laid) t.serial ≡ true) (λ (t : Taken). is_among (serials_in (laid_with d.ring it)) t.serial ≡ true) lists
+          (λ t h. ap (λ xs. is_among xs t.serial) ser ∙ among-append front (s ∷ []) t.serial
+          ∙ or_left (is_among front t.serial) (is_among (s ∷ []) t.serial)
+          (ap (λ xs. is_among xs t.serial) ser0 ∙ among-append (serials_in d.ring.laid) (serials_in (pads (ring.pad d.ring (entry_length d.settings.pages c)))) t.serial
+          ∙ or_left (is_among (serials_in d.ring.laid) t.serial) (is_among (serials_in (pads (ring.pad d.ring (entry_length d.settings.pages c)))) t.serial) h))
+          owned.listed)
+          (ap (λ xs. is_among xs s) ser ∙ among-here front s [], tt);
+      differ = subst Differ (sym held) (differ-append hs bs owned.differ (least-differ d.settings.blocks hs n)
+          (every-weaker (IsFree hs 0 (0 + d.settings.blocks)) (λ y. is_among hs y ≡ false) bs (λ y f. f.free) free));
+      below = subst (Every (λ y. y < d.settings.blocks)) (sym held) (every-append (λ y. y < d.settings.blocks) hs bs owned.below
+          (every-weaker (IsFree hs 0 (0 + d.settings.blocks)) (λ y. y < d.settings.blocks) bs (λ y f. let h : y < 0 + d.settings.blocks = f.high_ in omega arith) free));
+      sizes = every-append (λ (v : Unfinished). length (list_of lists' v.serial) ≡ blocks_of d.settings.pages v.command) d.unfinished (u ∷ [])
+          (sizes_same d.settings.pages lists lists' s d.unfinished old rows owned.sizes) (ap length mine ∙ ln, tt);
+      spans = λ i n' q c' cl g. spans_case i n' q c' cl (laid_case d.ring it i (record { len = n'; laid = ring.Cmd q c' }) g) old (ap length mine ∙ ln);
+    }
+  where
+    spans_case : (i n' q : ℕ) (c' : CommandData) → d.ring.cleared ≤ i → LaidCase d.ring (cmd_item d s c) i (record { len = n'; laid = ring.Cmd q c' }) →
+        ((k : ℕ) → k < s → list_of (with_taken d lists s c) k ≡ list_of lists k) → length (list_of (with_taken d lists s c) s) ≡ blocks_of d.settings.pages c →
+        length (list_of (with_taken d lists s c) q) ≡ blocks_of d.settings.pages c'
+    spans_case i n' q c' cl (Old l g) old mine = ap length (old q (serial_at (λ (k : ℕ). k < s) d.ring.laid i n' q c' above g)) ∙ owned.spans i n' q c' cl g
+    spans_case i n' q c' cl (Padding a b e) old mine = absurd (false≢true (ap is_command (sym e)))
+    spans_case i n' q c' cl (New a e) old mine =
+        let l : ring.Cmd q c' ≡ ring.Cmd s c = ap (λ (y : Item). y.laid) e in
+        let q0 : q ≡ s = cc in
+        let c0 : c' ≡ c = cc in
+        ap (λ k. length (list_of (with_taken d lists s c) k)) q0 ∙ mine ∙ ap (λ (y : CommandData). blocks_of d.settings.pages y) (sym c0)
