@@ -18,14 +18,10 @@ pub record ListsSound (d : DeviceState) (lists : List Taken) : Type 0 where
   pub sizes : Every (λ u. length (list_of lists u.serial) ≡ blocks_of d.settings.pages u.command) d.unfinished
   -- so has one whose entry is not cleared, since the entry's iovecs stand there until then
   pub spans : (i n s : ℕ) (c : CommandData) → d.ring.cleared ≤ i → slice_get d.ring.laid i ≡ Some (record { len = n; laid = Cmd s c })
-<<<<<<< HEAD
       → length (list_of lists s) ≡ blocks_of d.settings.pages c
-=======
-    → length (list_of lists s) ≡ blocks_of d.settings.pages c
 
 -- there is room for a command
 pub record HasRoom (d : DeviceState) (c : CommandData) : Type 0 where
   pub small : 2 * entry_length d.settings.pages c ≤ d.ring.size
   pub fits : need d.ring (entry_length d.settings.pages c) ≤ free d.ring
   pub blocks : held_blocks d + blocks_of d.settings.pages c ≤ d.settings.blocks
->>>>>>> 0fa39480d5fa4ab3f544a74dfbfd83175b9735ee
