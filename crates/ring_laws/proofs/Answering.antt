@@ -1,38 +1,25 @@
 -- The target answers as the device does.
-use Rattle.std.proofs.Common.{◌≡◌, ◌≢◌, ℕ, ◌+◌, ◌-◌, ◌*◌, ◌/◌, ◌%◌, ◌^◌, ◌≤◌, ◌<◌, ◌⊎◌, ◌==◌, ◌||◌, ◌&&◌, inl, inr, max, min, Bool, true, false, not, cond, List, [], ◌∷◌, ◌++◌, length, take, drop, map, refl, sym, ap, ◌∙◌, arith, suc, zero, Option, Some, None, slice_get, append_assoc, length-append, length-drop, length-take, subst, ⊎_elim, eqb, ltb}
+use Rattle.std.proofs.Common.{◌≡◌, ℕ, ◌+◌, ◌-◌, ◌*◌, ◌/◌, ◌==◌, ◌&&◌, Bool, not, cond, List, [], ◌∷◌, ◌++◌, length, refl, sym, ap, ◌∙◌, length-append}
 use Rattle.std.specs.Prelude.{nat_lt, nat_le}
 use Rattle.tcmu_types.specs.declared.answer.Submit.TheVariants as submit
 use Rattle.tcmu_types.specs.declared.answer.Enter.TheVariants as enter
-use Rattle.std.specs.List.{sum_by, flat_map, list_any}
-use Rattle.std.proofs.Math.Nat.{mul-le-mul_left, add-mul-mod_self_left}
-use Rattle.std.proofs.lemmas.Bool.{cases_Bool, eqb-true, eqb-false, ltb-true, ltb-false, cases_lt, eq-eqb, ne_eqb, false≢true, or_parts}
-use Rattle.std.proofs.lemmas.List.{take_at, drop_at, take-append-le, drop-append-le, take_all, drop_all, take-append-drop, take-take, drop-drop, drop-take, length-take-le, length-replicate, map-append}
-use Rattle.std.proofs.lemmas.List.Sums.{sum_by-append, sum_by_push, sum_by-take-le, sum_by-cons}
-use Rattle.std.proofs.lemmas.Option.{slice_get_past}
-use Rattle.tcmu_types.specs.Data.{CommandData, ReplyData, SettingsData}
-use Rattle.tcmu_types.specs.Rules.{payload_length, IsSettings}
-use Rattle.tcmu_types.specs.declared.settings.Flags.{Flags}
-use Rattle.tcmu_types.specs.declared.dump.ItemKind.{ItemKind}
-use Rattle.tcmu_types.specs.declared.dump.ItemKind.TheVariants as kind
-use Rattle.tcmu_model.specs.Lists.{first_of}
-use Rattle.tcmu_model.specs.Lengths.{blocks_of, block_size, round_up, entry_length}
+use Rattle.std.specs.List.{sum_by}
+use Rattle.std.proofs.lemmas.List.Sums.{sum_by-cons}
+use Rattle.tcmu_types.specs.Data.{CommandData, SettingsData}
+use Rattle.tcmu_model.specs.Lengths.{blocks_of, entry_length}
 use Rattle.tcmu_model.specs.RingState.{RingState, Item, Laid, lengths, head, used, free, need, pads, with_item, commands_in, is_command}
 use Rattle.tcmu_model.specs.RingState as ring
-use Rattle.tcmu_model.specs.Device.{Unfinished, DeviceState, has_serial}
-use Rattle.tcmu_model.specs.BlockLists.{Taken, list_of, held_by, least_free, blocks_taken, with_taken}
-use Rattle.tcmu_model.specs.Layout.{le, field, put, zeros, ring_start, data_start, head_place, pad_bytes, mailbox_bytes, device_mailbox}
-use Rattle.tcmu_model.specs.Pending.{PendingData}
-use Rattle.ring_laws.specs.Picture.{place_of, tail, item_bytes, entry_of, with_answer, request_of, ids_named, shown_mailbox, command_iovs}
-use Rattle.ring_laws.specs.Sides.{Recorded, PendingRow, TargetState}
-use Rattle.ring_laws.specs.Represents.{RingStands, StandsAt, recorded, entry_at, id_in, ids_in, TargetKeeps, pending_of, id_at, id_of, row_has, IsId, IdsStand}
-use Rattle.ring_laws.specs.TargetSteps.{with_pad, pads_of, used_in, head_in, free_in, pad_in, need_in, blocks_held, blocks_given, place_in, length_in, deadline_in, front_with, region_laid, target_laid}
+use Rattle.tcmu_model.specs.Device.{Unfinished, DeviceState}
+use Rattle.tcmu_model.specs.BlockLists.{Taken, list_of, held_by}
+use Rattle.ring_laws.specs.Sides.{TargetState}
+use Rattle.ring_laws.specs.Represents.{RingStands, TargetKeeps}
+use Rattle.ring_laws.specs.TargetSteps.{used_in, free_in, need_in, blocks_held, length_in}
 use Rattle.tcmu_types.specs.declared.answer.Submit.{Submit}
-use Rattle.tcmu_types.specs.declared.answer.Enter.{Enter}
 use Rattle.tcmu_model.specs.Device.{Delayed}
-use Rattle.tcmu_model.specs.Events.{submit_answer, queued_or_full, queued_or_delayed, enter_answer, entered_or_full, entry_length_in, blocks_in, held_blocks, free_blocks, fits_ring, fits_blocks, block_answer, after_block}
+use Rattle.tcmu_model.specs.Events.{submit_answer, queued_or_full, queued_or_delayed, enter_answer, entered_or_full, entry_length_in, blocks_in, free_blocks, fits_ring, fits_blocks, block_answer}
 use Rattle.tcmu_model.specs.Sound.{IsSound, Every}
 use Rattle.ring_laws.specs.Owned.{ListsSound}
-use Rattle.ring_laws.specs.TargetSteps.{target_submit_answer, submit_or_full, submit_or_delay, target_enter_answer, enter_or_full, blocks_free, blocks_wanted, fits_in, has_room, target_block_answer, target_blocked}
+use Rattle.ring_laws.specs.TargetSteps.{target_submit_answer, submit_or_full, submit_or_delay, target_enter_answer, enter_or_full, blocks_free, blocks_wanted, fits_in, target_block_answer}
 use Rattle.ring_laws.proofs.Agree.{Agrees, agrees, held-same}
 
 pub held_length : (pages : ℕ) (lists : List Taken) (us : List Unfinished) → Every (λ (u : Unfinished). length (list_of lists u.serial) ≡ blocks_of pages u.command) us → length (held_by lists us) ≡ sum_by (λ (u : Unfinished). blocks_of pages u.command) us

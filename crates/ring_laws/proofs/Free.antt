@@ -1,29 +1,9 @@
 -- The least free numbers.
-use Rattle.std.proofs.Common.{◌≡◌, ◌≢◌, ℕ, ◌+◌, ◌-◌, ◌*◌, ◌/◌, ◌%◌, ◌≤◌, ◌<◌, ◌⊎◌, ◌==◌, ◌||◌, inl, inr, min, max, Bool, true, false, not, cond, List, [], ◌∷◌, ◌++◌, length, take, drop, map, filter, replicate, set, refl, sym, ap, ◌∙◌, arith, suc, zero, Option, Some, None, slice_get, append_assoc, length-append, length-take, length-drop, length-set, append-nil, subst, ⊎_elim, eqb, ltb}
-use Rattle.std.proofs.lemmas.Bool.{cases_Bool, eqb-true, eqb-false, cases_lt, ne_eqb, eq-eqb, false≢true, or_parts, or_left, or_right}
-use Rattle.std.specs.Bool.{MatchBool}
-use Rattle.std.specs.List.{list_any, flat_map, sum_by}
-use Rattle.std.proofs.lemmas.List.{take_at, take-take, take-append-le, take_all, length-take-le, take-append-drop, drop_all, nil_from_length, take-replicate, length-replicate}
-use Rattle.std.proofs.lemmas.List.Sums.{sum_by-cons}
-use Rattle.std.proofs.lemmas.Option.{slice_get_within}
-use Rattle.tcmu_types.specs.Data.{CommandData, ReplyData}
-use Rattle.tcmu_types.specs.Rules.{takes_payload, payload_length}
-use Rattle.tcmu_model.specs.Lengths.{blocks_of, block_size}
-use Rattle.tcmu_model.specs.Lists.{first_of, above_all}
-use Rattle.tcmu_model.specs.RingState.{serials_in}
-use Rattle.tcmu_model.specs.Device.{Unfinished, DeviceState, has_serial}
-use Rattle.tcmu_model.specs.Events.{is_among, is_in_hand, held_blocks, waiting, with_command}
-use Rattle.tcmu_model.specs.Sound.{IsSound, Every, Differ}
-use Rattle.tcmu_model.specs.BlockLists.{Taken, list_of, with_taken, blocks_taken, held_by, free_from, least_free}
-use Rattle.tcmu_model.specs.Layout.{zeros}
-use Rattle.tcmu_model.specs.Regions.{home, AreSized, RegionState}
-use Rattle.ring_laws.specs.Areas.{block_bytes, bytes_along, over, written_along, IsHome, IsLent}
-use Rattle.ring_laws.specs.Picture.{payload_of, data_in}
-use Rattle.ring_laws.specs.Represents.{HaveData, BlocksOf, BlocksStand, RingStands, TargetKeeps}
-use Rattle.ring_laws.specs.Sides.{TargetState}
-use Rattle.ring_laws.specs.TargetSteps.{region_laid}
-use Rattle.ring_laws.specs.Owned.{ListsSound, HasRoom}
-use Rattle.tcmu_model.proofs.Written.{length-zeros}
+use Rattle.std.proofs.Common.{◌≡◌, ℕ, ◌+◌, ◌≤◌, ◌<◌, true, false, List, [], ◌∷◌, length, take, refl, ap, arith, suc, zero, length-take, ⊎_elim, eqb}
+use Rattle.std.proofs.lemmas.Bool.{cases_Bool, eqb-true, ne_eqb, or_parts}
+use Rattle.tcmu_model.specs.Events.{is_among}
+use Rattle.tcmu_model.specs.Sound.{Every, Differ}
+use Rattle.tcmu_model.specs.BlockLists.{free_from, least_free}
 
 -- a number that lies before takes nothing away
 free-before : (h : ℕ) (hs : List ℕ) (n k : ℕ) → h < n → free_from (h ∷ hs) n k ≡ free_from hs n k

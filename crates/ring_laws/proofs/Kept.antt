@@ -1,33 +1,25 @@
 -- A command is laid: the ids, and the target's own records.
-use Rattle.std.proofs.Common.{◌≡◌, ◌≢◌, ℕ, ◌+◌, ◌-◌, ◌*◌, ◌/◌, ◌%◌, ◌^◌, ◌≤◌, ◌<◌, ◌⊎◌, ◌==◌, ◌||◌, inl, inr, max, min, Bool, true, false, not, cond, List, [], ◌∷◌, ◌++◌, length, take, drop, map, refl, sym, ap, ◌∙◌, arith, suc, zero, Option, Some, None, slice_get, append_assoc, length-append, length-drop, length-take, subst, ⊎_elim, eqb, ltb}
-use Rattle.std.specs.List.{sum_by, flat_map, list_any}
-use Rattle.std.proofs.Math.Nat.{mul-le-mul_left, add-mul-mod_self_left}
-use Rattle.std.proofs.lemmas.Bool.{cases_Bool, eqb-true, eqb-false, ltb-true, ltb-false, cases_lt, eq-eqb, ne_eqb, false≢true, or_parts}
-use Rattle.std.proofs.lemmas.List.{take_at, drop_at, take-append-le, drop-append-le, take_all, drop_all, take-append-drop, take-take, drop-drop, drop-take, length-take-le, length-replicate, map-append}
-use Rattle.std.proofs.lemmas.List.Sums.{sum_by-append, sum_by_push, sum_by-take-le, sum_by-cons}
-use Rattle.std.proofs.lemmas.Option.{slice_get_past}
-use Rattle.tcmu_types.specs.Data.{CommandData, ReplyData, SettingsData}
-use Rattle.tcmu_types.specs.Rules.{payload_length, IsSettings}
-use Rattle.tcmu_types.specs.declared.settings.Flags.{Flags}
-use Rattle.tcmu_types.specs.declared.dump.ItemKind.{ItemKind}
-use Rattle.tcmu_types.specs.declared.dump.ItemKind.TheVariants as kind
+use Rattle.std.proofs.Common.{◌≡◌, ℕ, ◌+◌, ◌%◌, ◌≤◌, ◌<◌, true, false, cond, List, [], ◌∷◌, ◌++◌, length, take, drop, map, refl, sym, ap, ◌∙◌, arith, Option, Some, None, slice_get, subst, ⊎_elim, eqb}
+use Rattle.std.proofs.lemmas.Bool.{cases_Bool, eq-eqb, ne_eqb, false≢true}
+use Rattle.std.proofs.lemmas.List.{take-append-drop, take-take, length-take-le, map-append}
+use Rattle.tcmu_types.specs.Data.{CommandData, SettingsData}
 use Rattle.tcmu_model.specs.Lists.{first_of}
-use Rattle.tcmu_model.specs.Lengths.{blocks_of, block_size, round_up, entry_length}
+use Rattle.tcmu_model.specs.Lengths.{blocks_of, entry_length}
 use Rattle.tcmu_model.specs.RingState.{RingState, Item, Laid, lengths, head, used, free, need, pads, with_item, commands_in, is_command}
 use Rattle.tcmu_model.specs.RingState as ring
-use Rattle.tcmu_model.specs.Device.{Unfinished, DeviceState, has_serial}
+use Rattle.tcmu_model.specs.Device.{Unfinished, DeviceState}
 use Rattle.tcmu_model.specs.BlockLists.{Taken, list_of, held_by, least_free, blocks_taken, with_taken}
-use Rattle.tcmu_model.specs.Layout.{le, field, put, zeros, ring_start, data_start, head_place, pad_bytes, mailbox_bytes, device_mailbox}
+use Rattle.tcmu_model.specs.Layout.{field, zeros, ring_start}
 use Rattle.tcmu_model.specs.Pending.{PendingData}
-use Rattle.ring_laws.specs.Picture.{place_of, tail, item_bytes, entry_of, with_answer, request_of, ids_named, shown_mailbox, command_iovs}
-use Rattle.ring_laws.specs.Sides.{Recorded, PendingRow, TargetState}
-use Rattle.ring_laws.specs.Represents.{RingStands, StandsAt, recorded, entry_at, id_in, ids_in, TargetKeeps, pending_of, id_at, id_of, row_has, IsId, IdsStand}
-use Rattle.ring_laws.specs.TargetSteps.{with_pad, pads_of, used_in, head_in, free_in, pad_in, need_in, blocks_held, blocks_given, place_in, length_in, deadline_in, front_with, region_laid, target_laid}
+use Rattle.ring_laws.specs.Picture.{place_of}
+use Rattle.ring_laws.specs.Sides.{PendingRow, TargetState}
+use Rattle.ring_laws.specs.Represents.{RingStands, entry_at, id_in, TargetKeeps, pending_of, id_at, id_of, row_has, IsId, IdsStand}
+use Rattle.ring_laws.specs.TargetSteps.{blocks_given, deadline_in, region_laid, target_laid}
 use Rattle.std.specs.Option.{option_map}
 use Rattle.tcmu_model.specs.Events.{is_among, waiting, with_command, deadline_at}
 use Rattle.tcmu_model.specs.RingState.{serials_in, serial_in, dispatched_commands, cleared_commands}
 use Rattle.tcmu_model.specs.Regions.{RegionState}
-use Rattle.tcmu_model.specs.Sound.{IsSound, IsItem, HasLength, Every, Differ}
+use Rattle.tcmu_model.specs.Sound.{IsSound, HasLength, Every, Differ}
 use Rattle.tcmu_model.proofs.Written.{field-front}
 use Rattle.tcmu_model.proofs.Basics.{placed_every, rows_among}
 use Rattle.tcmu_model.proofs.Rises.{among_every, differ-push}
@@ -36,7 +28,7 @@ use Rattle.tcmu_model.proofs.Indexed.{every_at, item_at}
 use Rattle.ring_laws.specs.TargetSteps.{row_of}
 use Rattle.ring_laws.specs.Owned.{ListsSound, HasRoom}
 use Rattle.ring_laws.proofs.Held.{holds}
-use Rattle.ring_laws.proofs.Places.{laid_with, LaidCase, laid_case, Old, Padding, New, take-laid, pads_none, pads_some, pad_item}
+use Rattle.ring_laws.proofs.Places.{laid_with, LaidCase, laid_case, Old, Padding, New, take-laid}
 use Rattle.ring_laws.proofs.Laying.{laid_in}
 use Rattle.ring_laws.proofs.RingLaid.{old-entry, new-entry}
 use Rattle.ring_laws.proofs.Agree.{blocks-same}

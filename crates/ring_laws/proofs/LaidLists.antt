@@ -1,29 +1,13 @@
 -- A command is laid: the block lists stay sound.
-use Rattle.std.proofs.Common.{◌≡◌, ◌≢◌, ℕ, ◌+◌, ◌-◌, ◌*◌, ◌/◌, ◌%◌, ◌^◌, ◌≤◌, ◌<◌, ◌⊎◌, ◌==◌, ◌||◌, inl, inr, max, min, Bool, true, false, not, cond, List, [], ◌∷◌, ◌++◌, length, take, drop, map, refl, sym, ap, ◌∙◌, arith, suc, zero, Option, Some, None, slice_get, append_assoc, length-append, length-drop, length-take, append-nil, subst, ⊎_elim, eqb, ltb}
-use Rattle.std.specs.List.{sum_by, flat_map, list_any}
-use Rattle.std.proofs.Math.Nat.{mul-le-mul_left, add-mul-mod_self_left}
-use Rattle.std.proofs.lemmas.Bool.{cases_Bool, eqb-true, eqb-false, ltb-true, ltb-false, cases_lt, eq-eqb, ne_eqb, false≢true, or_parts}
-use Rattle.std.proofs.lemmas.List.{take_at, drop_at, take-append-le, drop-append-le, take_all, drop_all, take-append-drop, take-take, drop-drop, drop-take, length-take-le, length-replicate, map-append}
-use Rattle.std.proofs.lemmas.List.Sums.{sum_by-append, sum_by_push, sum_by-take-le, sum_by-cons}
-use Rattle.std.proofs.lemmas.Option.{slice_get_past}
-use Rattle.tcmu_types.specs.Data.{CommandData, ReplyData, SettingsData}
-use Rattle.tcmu_types.specs.Rules.{payload_length, IsSettings}
-use Rattle.tcmu_types.specs.declared.settings.Flags.{Flags}
-use Rattle.tcmu_types.specs.declared.dump.ItemKind.{ItemKind}
-use Rattle.tcmu_types.specs.declared.dump.ItemKind.TheVariants as kind
-use Rattle.tcmu_model.specs.Lists.{first_of}
-use Rattle.tcmu_model.specs.Lengths.{blocks_of, block_size, round_up, entry_length}
+use Rattle.std.proofs.Common.{◌≡◌, ℕ, ◌+◌, ◌≤◌, ◌<◌, ◌||◌, true, false, List, [], ◌∷◌, ◌++◌, length, refl, sym, ap, ◌∙◌, arith, append_assoc, append-nil, subst, eqb}
+use Rattle.std.proofs.lemmas.Bool.{eqb-false, eq-eqb, ne_eqb, false≢true, or_parts}
+use Rattle.tcmu_types.specs.Data.{CommandData}
+use Rattle.tcmu_model.specs.Lengths.{blocks_of, entry_length}
 use Rattle.tcmu_model.specs.RingState.{RingState, Item, Laid, lengths, head, used, free, need, pads, with_item, commands_in, is_command}
 use Rattle.tcmu_model.specs.RingState as ring
-use Rattle.tcmu_model.specs.Device.{Unfinished, DeviceState, has_serial}
+use Rattle.tcmu_model.specs.Device.{Unfinished, DeviceState}
 use Rattle.tcmu_model.specs.BlockLists.{Taken, list_of, held_by, least_free, blocks_taken, with_taken}
-use Rattle.tcmu_model.specs.Layout.{le, field, put, zeros, ring_start, data_start, head_place, pad_bytes, mailbox_bytes, device_mailbox}
-use Rattle.tcmu_model.specs.Pending.{PendingData}
-use Rattle.ring_laws.specs.Picture.{place_of, tail, item_bytes, entry_of, with_answer, request_of, ids_named, shown_mailbox, command_iovs}
-use Rattle.ring_laws.specs.Sides.{Recorded, PendingRow, TargetState}
-use Rattle.ring_laws.specs.Represents.{RingStands, StandsAt, recorded, entry_at, id_in, ids_in, TargetKeeps, pending_of, id_at, id_of, row_has, IsId, IdsStand}
-use Rattle.ring_laws.specs.TargetSteps.{with_pad, pads_of, used_in, head_in, free_in, pad_in, need_in, blocks_held, blocks_given, place_in, length_in, deadline_in, front_with, region_laid, target_laid}
-use Rattle.std.proofs.lemmas.Bool.{or_left, or_right}
+use Rattle.std.proofs.lemmas.Bool.{or_left}
 use Rattle.tcmu_model.specs.Events.{is_among, held_blocks, waiting, with_command}
 use Rattle.tcmu_model.specs.RingState.{serials_in}
 use Rattle.tcmu_model.specs.Sound.{IsSound, Every, Differ}
@@ -32,7 +16,6 @@ use Rattle.tcmu_model.proofs.Rises.{among-append, among-here}
 use Rattle.tcmu_model.proofs.Everies.{every-append, every-weaker}
 use Rattle.ring_laws.specs.Owned.{ListsSound, HasRoom}
 use Rattle.ring_laws.proofs.Places.{laid_with, LaidCase, laid_case, Old, Padding, New}
-use Rattle.ring_laws.proofs.Laying.{laid_in}
 use Rattle.ring_laws.proofs.Submit.{first-append, first-here, not_below, serial_at, unlisted, cmd_item, with_waiting}
 use Rattle.ring_laws.proofs.Kept.{rows_below, lists_below}
 use Rattle.ring_laws.proofs.Answering.{held_length}

@@ -15,3 +15,5 @@ pub mod Scatter
 pub mod Free
 pub mod LaidBlocks
 pub mod LaidLists
+pub mod Submitted
+pub mod Entered

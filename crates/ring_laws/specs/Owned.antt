@@ -3,7 +3,7 @@ use Rattle.std.specs.Prelude.{◌≡◌, ℕ, ◌+◌, ◌*◌, ◌≤◌, ◌<�
 use Rattle.tcmu_types.specs.Data.{CommandData}
 use Rattle.tcmu_model.specs.Lengths.{blocks_of, entry_length}
 use Rattle.tcmu_model.specs.RingState.{Cmd, need, free, serials_in}
-use Rattle.tcmu_model.specs.Device.{Unfinished, DeviceState}
+use Rattle.tcmu_model.specs.Device.{DeviceState}
 use Rattle.tcmu_model.specs.Events.{is_among, held_blocks}
 use Rattle.tcmu_model.specs.BlockLists.{Taken, list_of, held_by}
 use Rattle.tcmu_model.specs.Sound.{Every, Differ}

@@ -6,5 +6,5 @@
 mod laws;
 mod worked;
 
-pub use laws::{answering_law, laying_law, opening_law};
+pub use laws::{answering_law, enter_law, laying_law, opening_law, submit_law};
 pub use worked::{picture_examples, target_examples, user_examples, way_examples};
