@@ -15,3 +15,4 @@ pub mod Reading
 pub mod Replays
 pub mod Carried
 pub mod Scenarios
+pub mod Spelled

@@ -1,6 +1,6 @@
 //! The law of replay.
 ghost use Rattle.tcmu_model.specs.Scsi.{Serves};
-ghost use Rattle.text_laws.specs.Carried.{CarriedRead};
+ghost use Rattle.text_laws.specs.Carried.{CarriedRead, SpelledRead};
 ghost use Rattle.text_laws.specs.Replays.{IsReplayedAgain, TellsEvents, IsScenarioAgain};
 
 /// Where the text of a replay without dumps over memory keeps the limits of scenarios, it is a scenario, and it is the text of that
@@ -17,6 +17,11 @@ pub fn events_law()
 /// What a scenario carries are bytes, and tags of 32 bits.
 pub fn carried_law()
     ensures { CarriedRead }
+{}
+
+/// Every device line of a scenario that is read has a spelling, by which it is read again.
+pub fn spelled_law()
+    ensures { SpelledRead }
 {}
 
 /// The text of the replay of any scenario that is read is a scenario, and the text of that scenario's replay, where it is at most
