@@ -11,6 +11,7 @@ pub mod Drain
 pub mod BlockLists
 pub mod Text
 pub mod Replay
+pub mod Several
 pub mod Sound
 pub mod Work
 pub mod Decoding

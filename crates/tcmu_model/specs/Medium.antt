@@ -1,6 +1,6 @@
 -- The calls of a medium: READ, WRITE, a fill for WRITE SAME and UNMAP, and SYNCHRONIZE CACHE (SBC-3) each make one. A call is a
 -- relation: the state before it, whether it failed, the state after it.
-use Rattle.std.specs.Prelude.{◌≡◌, ◌⊎◌, ℕ, zero, suc, ◌+◌, ◌-◌, ◌*◌, ◌/◌, ◌<◌, min, max, Bool, true, false, ◌&&◌, nat_lt, nat_le, List, [], ◌∷◌, ◌++◌, length, replicate, slice_index, Some, IfSome, if◌then◌else◌}
+use Rattle.std.specs.Prelude.{◌≡◌, ◌⊎◌, ℕ, zero, suc, ◌+◌, ◌-◌, ◌*◌, ◌/◌, ◌<◌, min, max, Bool, true, false, ◌&&◌, nat_lt, nat_le, List, [], ◌∷◌, ◌++◌, length, replicate, slice_index, Option, Some, IfSome, if◌then◌else◌}
 use Rattle.std.specs.Bool.{MatchBool}
 use Rattle.std.specs.List.{filter}
 use Rattle.std.specs.Option.{option_map}
@@ -199,6 +199,22 @@ Fills at block count m = MakesCall (FillsBelow m.below.layer at block count) m
 
 abbrev pub Syncs : MediumState → Bool → MediumState → Type 0
 Syncs m = MakesCall (SyncsBelow m.below.layer) m
+
+-- ==== media as they open
+
+-- so many logical blocks of zeros in memory
+abbrev pub memory_below : ℕ → Below
+memory_below blocks =
+    record { bytes = Some (zeros (512 * blocks)); lost = empty_span; layer = memory; store = record { fails = Some []; calls = 0 } }
+
+-- a file as its store tells it
+abbrev pub file_below : Option (List ℕ) → Numbered → Below
+file_below bytes calls = record { bytes = bytes; lost = empty_span; layer = file; store = calls }
+
+-- so many logical blocks over what bears them, with a protected bit and a list of calls that fail
+abbrev pub opened_medium : ℕ → Bool → List ℕ → Below → MediumState
+opened_medium blocks protected fails below =
+    record { blocks = blocks; protected = protected; own = record { fails = Some fails; calls = 0 }; below = below }
 
 -- ==== memory
 
