@@ -11,8 +11,13 @@ pub mod Configs
 pub mod Devices
 pub mod Unbroken
 pub mod Comments
+pub mod Carried
+pub mod Spelled
+pub mod Accepted
+pub mod Sets
+pub mod Legal
+pub mod Asked
+pub mod Kept
+pub mod WholeLines
 pub mod Reading
 pub mod Replays
-pub mod Carried
-pub mod Scenarios
-pub mod Spelled
