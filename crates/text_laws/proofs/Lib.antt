@@ -21,3 +21,7 @@ pub mod Kept
 pub mod WholeLines
 pub mod Reading
 pub mod Replays
+pub mod Told
+pub mod SameEvent
+pub mod Spoken
+pub mod OneReading

@@ -141,7 +141,7 @@ keeps_many ls device h = rw (le-ltb _ _ (h.initiators device), le-ltb _ _ h.few,
 abbrev pub so_far : List DeviceLineData → List LineData → ScenarioData
 so_far ls front = record { devices = ls; lines = front }
 
-adds : (ls : List DeviceLineData) (front : List LineData) (at : ℕ) (e : EventData) → Fits (front ++ made at e ∷ []) → with_said (so_far ls front) (Adds (made at e)) ≡ Ok (so_far ls (front ++ made at e ∷ []))
+pub adds : (ls : List DeviceLineData) (front : List LineData) (at : ℕ) (e : EventData) → Fits (front ++ made at e ∷ []) → with_said (so_far ls front) (Adds (made at e)) ≡ Ok (so_far ls (front ++ made at e ∷ []))
 unfolding with_said with_line breaks_dump is_not_yet
 adds ls front at e h = rw (keeps_many (front ++ made at e ∷ []) at h) refl
 
@@ -218,7 +218,7 @@ pairs_before R (x ∷ xs) y ys h = (
 abbrev DifferInFile : DeviceLineData → DeviceLineData → Type 0
 DifferInFile d e = same_file d.config.kind e.config.kind ≡ false
 
-opens : (ds : List DeviceLineData) (l : DeviceLineData) → length ds + 1 ≤ 16 → with_said (so_far ds []) (Opens l) ≡ Ok (so_far (ds ++ l ∷ []) [])
+pub opens : (ds : List DeviceLineData) (l : DeviceLineData) → length ds + 1 ≤ 16 → with_said (so_far ds []) (Opens l) ≡ Ok (so_far (ds ++ l ∷ []) [])
 unfolding with_said with_device is_not_yet
 opens ds l few = rw (le-ltb _ _ few) refl
 

@@ -82,7 +82,7 @@ each_opened [] (d ∷ ds) h = absurd h
 each_opened (l ∷ ls) [] h = absurd h
 each_opened (l ∷ ls) (d ∷ ds) h = ((l, h.0.0, h.0.1), each_opened ls ds h.1)
 
-accepted_none : (ls : List DeviceLineData) (opened : List Device) → Every IsSpelledDevice ls → OpenAs ls opened → Every (HasAccepted 0) opened
+pub accepted_none : (ls : List DeviceLineData) (opened : List Device) → Every IsSpelledDevice ls → OpenAs ls opened → Every (HasAccepted 0) opened
 accepted_none [] [] sp h = tt
 accepted_none [] (d ∷ ds) sp h = absurd h
 accepted_none (l ∷ ls) [] sp h = absurd h
@@ -97,7 +97,7 @@ run_named R d d' js o run =
     let log = log_named R o.0.settings o.0.name o.1 (entries_of js) d' (run_entries R (opening o.0.settings o.0.name o.1) d' js started) in
     (completions_keep R Named (opening o.0.settings o.0.name o.1) d' js started log).0
 
-journal_named : (R : HandlerRelation) (ls : List DeviceLineData) (opened : List Device) (js : List Journaled) (ends : List Device) (text : List ℕ) → IsJournalOf R ls opened js ends text → Every (λ j. Every Named j.completions) js
+pub journal_named : (R : HandlerRelation) (ls : List DeviceLineData) (opened : List Device) (js : List Journaled) (ends : List Device) (text : List ℕ) → IsJournalOf R ls opened js ends text → Every (λ j. Every Named j.completions) js
 journal_named R ls opened js ends text is = each_of (λ j. Every Named j.completions) (length ls) js is.devices own
   where
     own : (k : ℕ) → k < length ls → Every (λ j. Every Named j.completions) (filter (is_of k) js)

@@ -1,6 +1,7 @@
 //! The law of replay.
 ghost use Rattle.tcmu_model.specs.Scsi.{Serves};
 ghost use Rattle.text_laws.specs.Carried.{CarriedRead, SpelledRead};
+ghost use Rattle.text_laws.specs.Readings.{HasOneReading};
 ghost use Rattle.text_laws.specs.Replays.{IsReadBack, IsReplayedAgain, IsScenarioAgain};
 
 /// What a scenario carries are bytes, and tags of 32 bits.
@@ -27,4 +28,9 @@ pub fn replay_law()
 /// where it is at most 4,194,304 bytes and the replay has at most 20,000 events.
 pub fn scenario_replay_law()
     ensures { IsScenarioAgain Serves }
+{}
+
+/// One text of a journal has one reading: its devices, its entries with their answers, and the completions of each.
+pub fn reading_law()
+    ensures { HasOneReading Serves Serves }
 {}
