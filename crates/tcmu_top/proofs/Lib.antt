@@ -5,4 +5,3 @@ pub mod OpenCounts
 pub mod Playing
 pub mod Whole
 pub mod Scenarios
-pub mod One

@@ -1,4 +1,3 @@
 pub mod Tasks
 pub mod Playing
 pub mod Top
-pub mod Laws

@@ -1,7 +1,21 @@
-//! Laws of this crate's definitions.
-ghost use Rattle.tcmu_top.specs.Laws.{OneText};
+//! The laws of texts: what holds of the text of every scenario over media in memory.
+ghost use Rattle.text_laws.specs.InMemory.{LawOfReplay, LawOfJournals, HasOneText, HasOneJournal};
 
-/// The text of a scenario's replay is a function of the scenario's bytes.
+/// The law of replay. The text of a replay without dumps is a scenario where it has at most 4,194,304 bytes and the replay has at
+/// most 20,000 events, and the text of that scenario's own replay is the same text. So is the text of every journal that leaves
+/// its devices nothing to do, as a live run's, where it keeps the limits of scenarios.
+pub fn replay_law()
+    ensures replays { LawOfReplay }
+    ensures journals { LawOfJournals }
+{
+    text_laws::replay_in_memory_law()
+}
+
+/// The text of a scenario's replay is a function of the scenario's bytes. It has one reading: the device lines, and the journal with
+/// its answers and completions.
 pub fn text_law()
-    ensures { OneText }
-{}
+    ensures text { HasOneText }
+    ensures journal { HasOneJournal }
+{
+    text_laws::text_in_memory_law()
+}

@@ -12,7 +12,7 @@ mod status;
 mod top;
 mod writing;
 
-pub use laws::text_law;
+pub use laws::{replay_law, text_law};
 pub use status::Status;
 pub use tcmu_model::Why;
 pub use top::{run_replay, tcmu_top};

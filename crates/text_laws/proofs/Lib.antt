@@ -25,3 +25,5 @@ pub mod Told
 pub mod SameEvent
 pub mod Spoken
 pub mod OneReading
+pub mod Settled
+pub mod InMemory

@@ -23,12 +23,12 @@ use Rattle.text_laws.proofs.Legal.{first_step}
 use Rattle.text_laws.proofs.Replays.{opened_count, accepted_none, journal_named}
 use Rattle.text_laws.proofs.SameEvent.{same_event}
 use Rattle.text_laws.proofs.Sets.{get_within, get_found, get_set, get_other, every_get, every_set, length_set}
-use Rattle.text_laws.proofs.Spoken.{is_spoken, told, spoken_whole, two_parts, devices_told, behind_same, head_or, entry_told}
+use Rattle.text_laws.proofs.Spoken.{is_spoken, told, spoken_whole, two_parts, devices_told, behind_same, head_or, Tells, entry_told}
 use Rattle.text_laws.proofs.WholeLines.{told_device}
 
 -- ---- entries
 
-entry_same : (e f : EntryData) → e.device ≡ f.device → e.event ≡ f.event → e.answer ≡ f.answer → e.logged ≡ f.logged → e ≡ f
+pub entry_same : (e f : EntryData) → e.device ≡ f.device → e.event ≡ f.event → e.answer ≡ f.answer → e.logged ≡ f.logged → e ≡ f
 entry_same e f p q r s =
     ap (λ (x : ℕ). let y : EntryData = record { device = x; event = e.event; answer = e.answer; logged = e.logged } in y) p
     ∙ ap (λ (x : EventData). let y : EntryData = record { device = f.device; event = x; answer = e.answer; logged = e.logged } in y) q
@@ -66,7 +66,7 @@ alike_set ds es k d e m n alike p q same = λ at x y u v. go at x y (nat_eq k at
     go at x y false is u v =
         alike at x y (sym (get_other ds k at m (eqb-false _ _ is)) ∙ u) (sym (get_other es k at n (eqb-false _ _ is)) ∙ v)
 
-opened_alike : (ls : List DeviceLineData) (ds es : List Device) → OpenAs ls ds → OpenAs ls es → AreAlike ds es
+pub opened_alike : (ls : List DeviceLineData) (ds es : List Device) → OpenAs ls ds → OpenAs ls es → AreAlike ds es
 opened_alike [] [] es h k at d e p q = absurd (cc)
 opened_alike [] (x ∷ ds) es h k at d e p q = absurd h
 opened_alike (l ∷ ls) [] es h k at d e p q = absurd h
@@ -77,21 +77,21 @@ opened_alike (l ∷ ls) (x ∷ ds) (y ∷ es) h k zero d e p q =
     sym (ap (λ (z : Device). z.state) (same_some x d p)) ∙ one ∙ sym two ∙ ap (λ (z : Device). z.state) (same_some y e q)
 opened_alike (l ∷ ls) (x ∷ ds) (y ∷ es) h k (suc at) d e p q = opened_alike ls ds es h.1 k.1 at d e p q
 
-abbrev AreSound : List Device → Type 0
+abbrev pub AreSound : List Device → Type 0
 AreSound ds = Every (λ d. IsSound d.state) ds
 
-opened_sound : (ls : List DeviceLineData) (ds : List Device) → Every IsSpelledDevice ls → OpenAs ls ds → AreSound ds
+pub opened_sound : (ls : List DeviceLineData) (ds : List Device) → Every IsSpelledDevice ls → OpenAs ls ds → AreSound ds
 opened_sound ls ds sp h = every-weaker (HasAccepted 0) (λ d. IsSound d.state) ds (λ d k. k.sound) (accepted_none ls ds sp h)
 
 -- ---- journals
 
 -- devices from which a journal goes on to its end
-record GoesOn (R : HandlerRelation) (ls : List DeviceLineData) (ds : List Device) (js : List Journaled) (ends : List Device) : Type 0 where
-  count : length ds ≡ length ls
-  last : length ends ≡ length ls
-  sound : AreSound ds
-  within : Every (λ j. IsWithinLines (length ls) j.entry) js
-  legal : IsLegalEach R ds js ends
+pub record GoesOn (R : HandlerRelation) (ls : List DeviceLineData) (ds : List Device) (js : List Journaled) (ends : List Device) : Type 0 where
+  pub count : length ds ≡ length ls
+  pub last : length ends ≡ length ls
+  pub sound : AreSound ds
+  pub within : Every (λ j. j.entry.device < length ls) js
+  pub legal : IsLegalEach R ds js ends
 
 -- the device of the first entry, and how the journal goes on behind it
 record Behind (R : HandlerRelation) (ls : List DeviceLineData) (ds : List Device) (j : Journaled) (js : List Journaled) (ends : List Device) : Type 0 where
@@ -104,7 +104,7 @@ record Behind (R : HandlerRelation) (ls : List DeviceLineData) (ds : List Device
 
 behind : (R : HandlerRelation) (ls : List DeviceLineData) (ds : List Device) (j : Journaled) (js : List Journaled) (ends : List Device) → GoesOn R ls ds (j ∷ js) ends → Behind R ls ds j js ends
 behind R ls ds j js ends h =
-    let at = h.within.0.device in
+    let at = h.within.0 in
     let first = get_found ds j.entry.device (omega (arith, at, h.count)) in
     let last = get_found ends j.entry.device (omega (arith, at, h.last)) in
     let step = first_step R ds first.0 last.0 j js ends first.1 last.1 h.legal in
@@ -123,19 +123,34 @@ behind R ls ds j js ends h =
       };
     }
 
-journals_same : (R Q : HandlerRelation) (ls : List DeviceLineData) (ds es : List Device) (js fs : List Journaled) (ends lasts : List Device) → AllPairs (λ d e. d.name ≢ e.name) ls → Every IsSpelledDevice ls → AreAlike ds es
-    → GoesOn R ls ds js ends → GoesOn Q ls es fs lasts → map (told ls) js ≡ map (told ls) fs → (js ≡ fs) × AreAlike ends lasts
-journals_same R Q ls ds es [] [] ends lasts pairs sp alike h k e = (
+-- entry for entry, both tell the same
+abbrev pub AllTell : List DeviceLineData → List Journaled → List Journaled → Type 0
+AllTell ls [] [] = Unit {0}
+AllTell ls [] (f ∷ fs) = ⊥
+AllTell ls (j ∷ js) [] = ⊥
+AllTell ls (j ∷ js) (f ∷ fs) = Tells ls j f × AllTell ls js fs
+
+lines_tell : (ls : List DeviceLineData) (js fs : List Journaled) → AllPairs (λ d e. d.name ≢ e.name) ls → Every IsSpelledDevice ls → Every (λ j. IsWithinLines (length ls) j.entry) js → Every (λ j. IsWithinLines (length ls) j.entry) fs
+    → map (told ls) js ≡ map (told ls) fs → AllTell ls js fs
+lines_tell ls [] [] pairs sp h k e = tt
+lines_tell ls [] (f ∷ fs) pairs sp h k e = absurd (cc)
+lines_tell ls (j ∷ js) [] pairs sp h k e = absurd (cc)
+lines_tell ls (j ∷ js) (f ∷ fs) pairs sp h k e =
+    (entry_told ls j f pairs sp h.0 k.0 (ap (head_or []) e), lines_tell ls js fs pairs sp h.1 k.1 (ap (λ (l : List (List ℕ)). drop 1 l) e))
+
+pub journals_same : (R Q : HandlerRelation) (ls : List DeviceLineData) (ds es : List Device) (js fs : List Journaled) (ends lasts : List Device) → AreAlike ds es
+    → GoesOn R ls ds js ends → GoesOn Q ls es fs lasts → AllTell ls js fs → (js ≡ fs) × AreAlike ends lasts
+journals_same R Q ls ds es [] [] ends lasts alike h k e = (
   refl,
   λ at x y p q.
       let a = get_found ds at (omega (arith, get_within ends at x p, h.count, h.last)) in
       let b = get_found es at (omega (arith, get_within lasts at y q, k.count, k.last)) in
       ap (λ (z : Device). z.state) (h.legal at a.0 x a.1 p) ∙ alike at a.0 b.0 a.1 b.1 ∙ sym (ap (λ (z : Device). z.state) (k.legal at b.0 y b.1 q)),
 )
-journals_same R Q ls ds es [] (f ∷ fs) ends lasts pairs sp alike h k e = absurd (cc)
-journals_same R Q ls ds es (j ∷ js) [] ends lasts pairs sp alike h k e = absurd (cc)
-journals_same R Q ls ds es (j ∷ js) (f ∷ fs) ends lasts pairs sp alike h k e =
-    let tells = entry_told ls j f pairs sp h.within.0 k.within.0 (ap (head_or []) e) in
+journals_same R Q ls ds es [] (f ∷ fs) ends lasts alike h k e = absurd e
+journals_same R Q ls ds es (j ∷ js) [] ends lasts alike h k e = absurd e
+journals_same R Q ls ds es (j ∷ js) (f ∷ fs) ends lasts alike h k e =
+    let tells = e.0 in
     let a = behind R ls ds j js ends h in
     let b = behind Q ls es f fs lasts k in
     let b_found : slice_get es j.entry.device ≡ Some b.device = ap (slice_get es) tells.device ∙ b.found in
@@ -144,7 +159,7 @@ journals_same R Q ls ds es (j ∷ js) (f ∷ fs) ends lasts pairs sp alike h k e
     tells.device tells.event tells.answer a.step b.step a.log b.log in
     let later = alike_set ds es j.entry.device a.device b.device a.mid b.mid alike a.found b_found one.1 in
     let goes = subst (λ (n : ℕ). GoesOn Q ls (slice_set es n b.mid) fs lasts) (sym tells.device) b.rest in
-    let rest = journals_same R Q ls (slice_set ds j.entry.device a.mid) (slice_set es j.entry.device b.mid) js fs ends lasts pairs sp later a.rest goes (ap (λ (l : List (List ℕ)). drop 1 l) e) in
+    let rest = journals_same R Q ls (slice_set ds j.entry.device a.mid) (slice_set es j.entry.device b.mid) js fs ends lasts later a.rest goes e.1 in
     (ap (λ (x : Journaled). x ∷ js) one.0 ∙ ap (λ (xs : List Journaled). f ∷ xs) rest.0, rest.1)
 
 -- ---- texts
@@ -153,9 +168,8 @@ within_lines : (n : ℕ) (js : List Journaled) → Every (λ j. j.entry.device <
 within_lines n [] h k = tt
 within_lines n (j ∷ js) h k = (record { device = h.0; event = k.0.0; bytes = k.0.1 }, within_lines n js h.1 k.1)
 
-goes_on : (R : HandlerRelation) (ls : List DeviceLineData) (opened : List Device) (js : List Journaled) (ends : List Device) (text : List ℕ) → Every IsSpelledDevice ls → HaveLines js → IsJournalOf R ls opened js ends text → GoesOn R ls opened js ends
-goes_on R ls opened js ends text sp lines is =
-    record { count = opened_count ls opened is.opens; last = is.count; sound = opened_sound ls opened sp is.opens; within = within_lines (length ls) js is.devices lines; legal = is.legal }
+goes_on : (R : HandlerRelation) (ls : List DeviceLineData) (opened : List Device) (js : List Journaled) (ends : List Device) (text : List ℕ) → Every IsSpelledDevice ls → IsJournalOf R ls opened js ends text → GoesOn R ls opened js ends
+goes_on R ls opened js ends text sp is = record { count = opened_count ls opened is.opens; last = is.count; sound = opened_sound ls opened sp is.opens; within = is.devices; legal = is.legal }
 
 pub one_reading : (R Q : HandlerRelation) → HasOneReading R Q
 one_reading R Q ls ks opened started js fs ends lasts text named named' lines lines' is it =
@@ -169,8 +183,8 @@ one_reading R Q ls ks opened started js fs ends lasts text named named' lines li
     let devices : ls ≡ ks = devices_told ls ks named.spelled named'.spelled parts.0 in
     let it_is : IsJournalOf Q ls started fs lasts text = subst (λ (x : List DeviceLineData). IsJournalOf Q x started fs lasts text) (sym devices) it in
     let told_is : map (told ls) js ≡ map (told ls) fs = parts.1 ∙ ap (λ (x : List DeviceLineData). map (told x) fs) (sym devices) in
-    let rest = journals_same R Q ls opened started js fs ends lasts named.names named.spelled (opened_alike ls opened started is.opens it_is.opens)
-    (goes_on R ls opened js ends text named.spelled lines is) (goes_on Q ls started fs lasts text named.spelled lines' it_is) told_is in
+    let tell = lines_tell ls js fs named.names named.spelled (within_lines (length ls) js is.devices lines) (within_lines (length ls) fs it_is.devices lines') told_is in
+    let rest = journals_same R Q ls opened started js fs ends lasts (opened_alike ls opened started is.opens it_is.opens) (goes_on R ls opened js ends text named.spelled is) (goes_on Q ls started fs lasts text named.spelled it_is) tell in
     (devices, rest.0, rest.1)
   where
     bare : (xs : List (List ℕ)) → xs ++ [] ++ [] ≡ xs

@@ -7,3 +7,5 @@ pub mod Devices
 pub mod Replays
 pub mod Carried
 pub mod Readings
+pub mod Settled
+pub mod InMemory

@@ -3,6 +3,7 @@ ghost use Rattle.tcmu_model.specs.Scsi.{Serves};
 ghost use Rattle.text_laws.specs.Carried.{CarriedRead, SpelledRead};
 ghost use Rattle.text_laws.specs.Readings.{HasOneReading};
 ghost use Rattle.text_laws.specs.Replays.{IsReadBack, IsReplayedAgain, IsScenarioAgain};
+ghost use Rattle.text_laws.specs.Settled.{OneText};
 
 /// What a scenario carries are bytes, and tags of 32 bits.
 pub fn carried_law()
@@ -33,4 +34,9 @@ pub fn scenario_replay_law()
 /// One text of a journal has one reading: its devices, its entries with their answers, and the completions of each.
 pub fn reading_law()
     ensures { HasOneReading Serves Serves }
+{}
+
+/// A scenario whose devices are over media in memory has one text.
+pub fn one_text_law()
+    ensures { OneText }
 {}

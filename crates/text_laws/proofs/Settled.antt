@@ -1,5 +1,6 @@
--- Over the engine every event has one outcome, so a scenario has one text.
-use Rattle.std.proofs.Common.{◌≡◌, ℕ, List, [], ◌∷◌, ◌++◌, length, Some, None, refl, sym, ap, ◌∙◌, subst, arith}
+-- Over media in memory every event has one outcome, so a replay has one journal and one text.
+use Rattle.std.proofs.Common.{◌≡◌, ℕ, ◌+◌, ◌<◌, List, [], ◌∷◌, ◌++◌, length, drop, slice_set, Some, None, refl, sym, ap, ◌∙◌, subst, arith}
+use Rattle.std.specs.List.{flat_map}
 use Rattle.tcmu_types.specs.Events.{EventData, AnswerData, EntryData}
 use Rattle.tcmu_types.specs.Events as ev
 use Rattle.tcmu_types.specs.declared.answer.Handle.{Handle}
@@ -8,24 +9,26 @@ use Rattle.tcmu_types.specs.declared.answer.Submit.{Submit}
 use Rattle.tcmu_types.specs.declared.answer.Enter.{Enter}
 use Rattle.tcmu_types.specs.declared.answer.Tmr.{Tmr}
 use Rattle.tcmu_model.specs.MediumState.{MediumState}
-use Rattle.tcmu_model.specs.Device.{Unfinished, DeviceState, Device, opening}
+use Rattle.tcmu_model.specs.Device.{Unfinished, DeviceState, Device}
 use Rattle.tcmu_model.specs.Events.{after_submit, after_enter, after_handle, after_tmr}
 use Rattle.tcmu_model.specs.Steps.{Step, Makes, Handles, asked, moved}
 use Rattle.tcmu_model.specs.Drain.{Drains}
-use Rattle.tcmu_model.specs.Config.{MediumData, InMemory, InFile}
-use Rattle.tcmu_model.specs.ScenarioData.{DeviceLineData, LineWhat, ScenarioData}
+use Rattle.tcmu_model.specs.ScenarioData.{DeviceLineData, LineWhat, LineData, ScenarioData}
 use Rattle.tcmu_model.specs.ScenarioData as line
-use Rattle.tcmu_model.specs.Medium.{memory_state}
 use Rattle.tcmu_model.specs.Scsi.{Serves}
-use Rattle.tcmu_model.specs.Replay.{Plays, Replays, IsReplayText, open_count}
-use Rattle.tcmu_model.specs.Text.{device_text, entries_text, end_text}
-use Rattle.tcmu_model.proofs.Readings.{same_ok}
+use Rattle.tcmu_model.specs.Replay.{Plays}
+use Rattle.tcmu_model.specs.Several.{Journaled, DrainsEach, ReplaysEach, journaled_text, ends_text}
+use Rattle.tcmu_model.specs.Sound.{Every}
+use Rattle.tcmu_model.specs.Text.{device_text, answer_text}
+use Rattle.tcmu_model.proofs.Readings.{same_some}
 use Rattle.block_engine.specs.Determined.{IsInMemory}
 use Rattle.block_engine.proofs.Settling.{stays_in_memory}
-use Rattle.std.proofs.Common.{replicate, ◌*◌}
-use Rattle.tcmu_top.specs.Tasks.{asks}
-use Rattle.tcmu_top.specs.Top.{IsBlank, Opens, IsTextOn, IsTextOf}
-use Rattle.tcmu_top.specs.Laws.{OneText}
+use Rattle.text_laws.specs.Replays.{entries_of}
+use Rattle.text_laws.specs.Settled.{OneText}
+use Rattle.text_laws.proofs.Carried.{spelled_read}
+use Rattle.text_laws.proofs.OneReading.{entry_same, GoesOn, AllTell, journals_same, opened_alike, opened_sound}
+use Rattle.text_laws.proofs.Replays.{opened_count, replay_journal}
+use Rattle.text_laws.proofs.Sets.{get_found, every_get, every_set}
 
 -- ==== one event
 
@@ -112,86 +115,102 @@ stays d d' _ _ m h = absurd h
 
 -- ==== entries
 
-same_entry : (e f : EntryData) → e.device ≡ f.device → e.event ≡ f.event → e.answer ≡ f.answer → e.logged ≡ f.logged → e ≡ f
-same_entry e f p q r s =
-    ap (λ (x : ℕ). record { device = x; event = e.event; answer = e.answer; logged = e.logged }) p
-    ∙ ap (λ (x : EventData). record { device = f.device; event = x; answer = e.answer; logged = e.logged }) q
-    ∙ ap (λ (x : AnswerData). record { device = f.device; event = f.event; answer = x; logged = e.logged }) r
-    ∙ ap (λ (x : ℕ). record { device = f.device; event = f.event; answer = f.answer; logged = x }) s
-
 -- and leaves the medium in memory
 one_step : (d : Device) (e f : EntryData) (d1 d2 : Device) → IsInMemory d.medium → e.device ≡ f.device → e.event ≡ f.event → Step Serves d e d1 → Step Serves d f d2 → (e ≡ f) × (d1 ≡ d2) × IsInMemory d2.medium
 one_step d e f d1 d2 m p q s t =
     let made = subst (λ (x : EventData). Makes Serves d x e.answer d1) q s.makes in
     let same = one_event d d1 d2 f.event e.answer f.answer m made t.makes in
     let logged_is : e.logged ≡ f.logged = omega (arith, s.logged, t.logged, ap (λ (x : Device). length x.state.log) same.1) in
-    (same_entry e f p q same.0 logged_is, same.1, stays d d2 f.event f.answer m t.makes)
+    (entry_same e f p q same.0 logged_is, same.1, stays d d2 f.event f.answer m t.makes)
 
--- ==== drains and replays
+-- ==== drains and lines
 
 some≢none : (e : EventData) → Some e ≡ None → ⊥
 some≢none e x = cc
-
-some_event : (e f : EventData) → Some e ≡ Some f → e ≡ f
-some_event e f x = cc
 
 -- entries and an end that are the same, with the medium in memory
 abbrev Same : List EntryData → List EntryData → Device → Device → Type 0
 Same es fs d1 d2 = (es ≡ fs) × (d1 ≡ d2) × IsInMemory d2.medium
 
-one_drain : (d : Device) (es fs : List EntryData) (d1 d2 : Device) → IsInMemory d.medium → Drains Serves 0 d es d1 → Drains Serves 0 d fs d2 → Same es fs d1 d2
-one_drain d [] [] d1 d2 m h k = (refl, h.1 ∙ sym k.1, subst (λ (x : Device). IsInMemory x.medium) (sym k.1) m)
-one_drain d [] (f ∷ fs) d1 d2 m h k = absurd (some≢none f.event (sym k.1 ∙ h.0))
-one_drain d (e ∷ es) [] d1 d2 m h k = absurd (some≢none e.event (sym h.1 ∙ k.0))
-one_drain d (e ∷ es) (f ∷ fs) d1 d2 m h k =
-    let same = one_step d e f h.2 k.2 m (h.0 ∙ sym k.0) (some_event e.event f.event (sym h.1 ∙ k.1)) h.3 k.3 in
-    let rest = one_drain k.2 es fs d1 d2 same.2 (subst (λ (x : Device). Drains Serves 0 x es d1) same.1 h.4) k.4 in
+one_drain : (at : ℕ) (d : Device) (es fs : List EntryData) (d1 d2 : Device) → IsInMemory d.medium → Drains Serves at d es d1 → Drains Serves at d fs d2 → Same es fs d1 d2
+one_drain at d [] [] d1 d2 m h k = (refl, h.1 ∙ sym k.1, subst (λ (x : Device). IsInMemory x.medium) (sym k.1) m)
+one_drain at d [] (f ∷ fs) d1 d2 m h k = absurd (some≢none f.event (sym k.1 ∙ h.0))
+one_drain at d (e ∷ es) [] d1 d2 m h k = absurd (some≢none e.event (sym h.1 ∙ k.0))
+one_drain at d (e ∷ es) (f ∷ fs) d1 d2 m h k =
+    let same = one_step d e f h.2 k.2 m (h.0 ∙ sym k.0) (same_some e.event f.event (sym h.1 ∙ k.1)) h.3 k.3 in
+    let rest = one_drain at k.2 es fs d1 d2 same.2 (subst (λ (x : Device). Drains Serves at x es d1) same.1 h.4) k.4 in
     (ap (λ (x : EntryData). x ∷ es) same.0 ∙ ap (λ (x : List EntryData). f ∷ x) rest.0, rest.1, rest.2)
 
-one_play : (d : Device) (what : LineWhat) (es fs : List EntryData) (d1 d2 : Device) → IsInMemory d.medium → Plays Serves 0 d what es d1 → Plays Serves 0 d what fs d2 → Same es fs d1 d2
-one_play d (line.Makes event) es fs d1 d2 m h k =
+one_play : (at : ℕ) (d : Device) (what : LineWhat) (es fs : List EntryData) (d1 d2 : Device) → IsInMemory d.medium → Plays Serves at d what es d1 → Plays Serves at d what fs d2 → Same es fs d1 d2
+one_play at d (line.Makes event) es fs d1 d2 m h k =
     let same = one_step d h.0 k.0 d1 d2 m (h.1 ∙ sym k.1) (h.2 ∙ sym k.2) h.3 k.3 in
     (h.4 ∙ ap (λ (x : EntryData). x ∷ []) same.0 ∙ sym k.4, same.1, same.2)
-one_play d line.Drains es fs d1 d2 m h k = one_drain d es fs d1 d2 m h k
-one_play d line.Dumps es fs d1 d2 m h k = absurd h
+one_play at d line.Drains es fs d1 d2 m h k = one_drain at d es fs d1 d2 m h k
+one_play at d line.Dumps es fs d1 d2 m h k = absurd h
 
-one_replay : (d : Device) (ls : List LineWhat) (es fs : List EntryData) (d1 d2 : Device) → IsInMemory d.medium → Replays Serves 0 d ls es d1 → Replays Serves 0 d ls fs d2 → Same es fs d1 d2
-one_replay d [] es fs d1 d2 m h k = one_drain d es fs d1 d2 m h k
-one_replay d (what ∷ more) es fs d1 d2 m h k =
-    let same = one_play d what h.0 k.0 h.2 k.2 m h.4 k.4 in
-    let rest = one_replay k.2 more h.1 k.1 d1 d2 same.2 (subst (λ (x : Device). Replays Serves 0 x more h.1 d1) same.1 h.5) k.5 in
-    (h.3 ∙ ap (λ (x : List EntryData). x ++ h.1) same.0 ∙ ap (λ (x : List EntryData). k.0 ++ x) rest.0 ∙ sym k.3, rest.1, rest.2)
+-- ==== replays
+
+abbrev AreInMemory : List Device → Type 0
+AreInMemory ds = Every (λ d. IsInMemory d.medium) ds
+
+joined : (a b c d : List EntryData) → a ≡ c → b ≡ d → a ++ b ≡ c ++ d
+joined a b c d p q = ap (λ (x : List EntryData). x ++ b) p ∙ ap (λ (x : List EntryData). c ++ x) q
+
+one_end : (at : ℕ) (ds : List Device) (es fs : List EntryData) (ends lasts : List Device) → AreInMemory ds → DrainsEach Serves at ds es ends → DrainsEach Serves at ds fs lasts → (es ≡ fs) × (ends ≡ lasts)
+one_end at [] es fs ends lasts m h k = (h.0 ∙ sym k.0, h.1 ∙ sym k.1)
+one_end at (d ∷ ds) es fs ends lasts m h k =
+    let first = one_drain at d h.0 k.0 h.2 k.2 m.0 h.6 k.6 in
+    let rest = one_end (at + 1) ds h.1 k.1 h.3 k.3 m.1 h.7 k.7 in (
+      h.4 ∙ joined h.0 h.1 k.0 k.1 first.0 rest.0 ∙ sym k.4,
+      h.5 ∙ ap (λ (x : Device). x ∷ h.3) first.1 ∙ ap (λ (xs : List Device). k.2 ∷ xs) rest.1 ∙ sym k.5,
+    )
+
+one_replay : (ds : List Device) (ls : List LineData) (es fs : List EntryData) (ends lasts : List Device) → AreInMemory ds → ReplaysEach Serves ds ls es ends → ReplaysEach Serves ds ls fs lasts → (es ≡ fs) × (ends ≡ lasts)
+one_replay ds [] es fs ends lasts m h k = one_end 0 ds es fs ends lasts m h k
+one_replay ds (l ∷ ls) es fs ends lasts m h k =
+    let d = k.2 in
+    let one : h.2 ≡ d = same_some h.2 d (sym h.5 ∙ k.5) in
+    let plays = subst (λ (x : Device). Plays Serves l.device x l.what h.0 h.3) one h.6 in
+    let first = one_play l.device d l.what h.0 k.0 h.3 k.3 (every_get (λ x. IsInMemory x.medium) ds l.device d m k.5) plays k.6 in
+    let later = subst (λ (x : Device). ReplaysEach Serves (slice_set ds l.device x) ls h.1 ends) first.1 h.7 in
+    let rest = one_replay (slice_set ds l.device k.3) ls h.1 k.1 ends lasts (every_set (λ x. IsInMemory x.medium) ds l.device k.3 m first.2) later k.7 in
+    (h.4 ∙ joined h.0 h.1 k.0 k.1 first.0 rest.0 ∙ sym k.4, rest.1)
 
 -- ==== texts
 
--- a medium opens in one way, and in memory
-one_blank : (kind : MediumData) (m n : MediumState) → IsBlank kind m → IsBlank kind n → (m ≡ n) × IsInMemory n
-one_blank (InMemory blocks) m n e f =
-    let told : IsInMemory (memory_state blocks (replicate (512 * blocks) 0) 0) = record { told = record { own = refl; store = refl; bytes = refl }; layer = refl; lost = refl } in
-    (e ∙ sym f, subst IsInMemory (sym f) told)
-one_blank (InFile name) m n e f = absurd e
+abbrev first_or : EntryData → List EntryData → EntryData
+first_or e [] = e
+first_or e (f ∷ fs) = f
 
-one_opening : (l : DeviceLineData) (d e : Device) → Opens l d → Opens l e → (d ≡ e) × IsInMemory e.medium
-one_opening l d e o p =
-    let one = one_blank l.config.kind o.0 p.0 o.1 p.1 in
-    (o.2 ∙ ap (λ (m : MediumState). opening l.settings l.name m) one.0 ∙ sym p.2, subst (λ (x : Device). IsInMemory x.medium) (sym p.2) one.1)
-
-one_device : (l : DeviceLineData) (d : Device) (ls : List LineWhat) (t u : List ℕ) → IsInMemory d.medium → IsReplayText Serves l d ls t → IsReplayText Serves l d ls u → t ≡ u
-one_device l d ls t u m h k =
-    let same = one_replay d ls h.entries k.entries h.end k.end m h.replays k.replays in
-    h.whole
-    ∙ ap (λ (es : List EntryData). device_text l ++ entries_text l.name l.settings.qfull es h.end.state.log ++ end_text l.name (open_count h.end.state)) same.0
-    ∙ ap (λ (x : Device). device_text l ++ entries_text l.name l.settings.qfull k.entries x.state.log ++ end_text l.name (open_count x.state)) same.1
-    ∙ sym k.whole
-
-one_whole : (ds : List DeviceLineData) (ls : List LineWhat) (t u : List ℕ) → IsTextOn ds ls t → IsTextOn ds ls u → t ≡ u
-one_whole [] ls t u h k = h ∙ sym k
-one_whole (l ∷ []) ls t u h k =
-    let one = one_opening l h.0 k.0 h.1 k.1 in
-    one_device l k.0 ls t u one.1 (subst (λ (x : Device). IsReplayText Serves l x ls t) one.0 h.2) k.2
-one_whole (l ∷ j ∷ more) ls t u h k = absurd h
+-- the same entries tell the same
+entries_tell : (ls : List DeviceLineData) (js fs : List Journaled) → Every (λ j. j.entry.device < length ls) js → entries_of js ≡ entries_of fs → AllTell ls js fs
+entries_tell ls [] [] h e = tt
+entries_tell ls [] (f ∷ fs) h e = absurd (cc)
+entries_tell ls (j ∷ js) [] h e = absurd (cc)
+entries_tell ls (j ∷ js) (f ∷ fs) h e =
+    let one : j.entry ≡ f.entry = ap (first_or j.entry) e in
+    let line = get_found ls j.entry.device h.0 in (
+      record {
+        device = ap (λ (x : EntryData). x.device) one;
+        event = ap (λ (x : EntryData). x.event) one;
+        line = line.0;
+        answer = ap (λ (x : EntryData). answer_text line.0.settings.qfull j.entry.event x.answer) one;
+      },
+      entries_tell ls js fs h.1 (ap (λ (x : List EntryData). drop 1 x) e),
+    )
 
 pub one_text : OneText
-one_text bytes t u r s e f h k =
-    let same : r ≡ s = same_ok r s (sym e ∙ f) in
-    one_whole s.devices (asks s.lines) t u (subst (λ (x : ScenarioData). IsTextOf x t) same h) k
+one_text bytes s opened t u read opens memory h k =
+    let same = one_replay opened s.lines (entries_of h.journal) (entries_of k.journal) h.ends k.ends memory h.replays k.replays in
+    let first = replay_journal Serves bytes t s opened read opens h in
+    let other = replay_journal Serves bytes u s opened read opens k in
+    let spelled = spelled_read bytes s read in
+    let sound = opened_sound s.devices opened spelled opens in
+    let count = opened_count s.devices opened opens in
+    let goes : GoesOn Serves s.devices opened h.journal h.ends = record { count = count; last = first.count; sound = sound; within = first.devices; legal = h.legal } in
+    let goes' : GoesOn Serves s.devices opened k.journal k.ends = record { count = count; last = other.count; sound = sound; within = other.devices; legal = k.legal } in
+    let journals = journals_same Serves Serves s.devices opened opened h.journal k.journal h.ends k.ends (opened_alike s.devices opened opened opens opens) goes goes' (entries_tell s.devices h.journal k.journal first.devices same.0) in
+    h.whole
+    ∙ ap (λ (js : List Journaled). flat_map device_text s.devices ++ flat_map (journaled_text s.devices) js ++ ends_text s.devices h.ends) journals.0
+    ∙ ap (λ (ends : List Device). flat_map device_text s.devices ++ flat_map (journaled_text s.devices) k.journal ++ ends_text s.devices ends) same.1
+    ∙ sym k.whole

@@ -1,0 +1,105 @@
+-- The law of replay over media in memory.
+use Rattle.std.proofs.Common.{◌≡◌, ℕ, List, [], ◌∷◌, length, Option, Some, None, Ok, refl, sym, ◌∙◌, subst}
+use Rattle.std.specs.Option.{option_map}
+use Rattle.tcmu_types.specs.Events.{EntryData}
+use Rattle.tcmu_model.specs.Reading.{each}
+use Rattle.tcmu_model.specs.MediumState.{MediumState}
+use Rattle.tcmu_model.specs.Device.{Device, opening}
+use Rattle.tcmu_model.specs.Medium.{memory_below, opened_medium}
+use Rattle.tcmu_model.specs.Config.{MediumData, InMemory, InFile}
+use Rattle.tcmu_model.specs.ScenarioData.{DeviceLineData, ScenarioData}
+use Rattle.tcmu_model.specs.ScenarioRules.{IsEvent}
+use Rattle.tcmu_model.specs.Scenario.{scenario_of}
+use Rattle.tcmu_model.specs.Scsi.{Serves}
+use Rattle.tcmu_model.specs.Several.{Journaled, IsReplayOf}
+use Rattle.tcmu_model.specs.Sound.{Every}
+use Rattle.tcmu_model.proofs.Everies.{every-mapped, every-weaker}
+use Rattle.tcmu_model.proofs.Readings.{same_some, same_ok, both, mapped}
+use Rattle.tcmu_model.proofs.ScenarioLaws.{scenario_is}
+use Rattle.block_engine.specs.Determined.{IsInMemory}
+use Rattle.text_laws.specs.Lines.{CarriesBytes}
+use Rattle.text_laws.specs.Replays.{entries_of, written, OpenAs, IsJournalOf}
+use Rattle.text_laws.specs.Readings.{HaveLines}
+use Rattle.text_laws.specs.InMemory.{memory_device, IsTextOf, IsOwnText, LawOfReplay, LawOfJournals, HasOneText, HasOneJournal}
+use Rattle.text_laws.proofs.Asked.{IsWithinLines}
+use Rattle.text_laws.proofs.Carried.{spelled_read}
+use Rattle.text_laws.proofs.OneReading.{one_reading}
+use Rattle.text_laws.proofs.Replays.{read_back, replayed_again, scenario_again, replay_asked, replay_journal}
+use Rattle.text_laws.proofs.Settled.{one_text}
+
+-- ---- devices over memory
+
+-- a device that a line opens, over a medium in memory
+record OpensInMemory (l : DeviceLineData) (d : Device) : Type 0 where
+  opens : (medium : MediumState) × (d ≡ opening l.settings l.name medium)
+  memory : IsInMemory d.medium
+
+opens_one : (l : DeviceLineData) (d : Device) → memory_device l ≡ Some d → OpensInMemory l d
+opens_one l d e = go l.config.kind e
+  where
+    go : (kind : MediumData) → ◌≡◌ {A = Option Device} (elim kind [ InMemory blocks ↦ Some (opening l.settings l.name (opened_medium blocks l.config.protected l.config.fails (memory_below blocks))) | InFile name ↦ None ]) (Some d) → OpensInMemory l d
+    go (InMemory blocks) e =
+        let medium = opened_medium blocks l.config.protected l.config.fails (memory_below blocks) in
+        let told : IsInMemory medium = record { told = record { own = refl; store = refl; bytes = refl }; layer = refl; lost = refl } in
+        let same = same_some (opening l.settings l.name medium) d e in
+        record { opens = (medium, sym same); memory = subst (λ (x : Device). IsInMemory x.medium) same told }
+    go (InFile name) e = absurd (cc)
+
+all_open : (ls : List DeviceLineData) (ds : List Device) → each memory_device ls ≡ Some ds → OpenAs ls ds × Every (λ d. IsInMemory d.medium) ds
+all_open [] ds e = subst (λ (x : List Device). OpenAs [] x × Every (λ d. IsInMemory d.medium) x) (same_some [] ds e) (tt, tt)
+all_open (l ∷ ls) ds e =
+    let first = both (λ (y : Device). option_map (λ (ys : List Device). y ∷ ys) (each memory_device ls)) (memory_device l) ds e in
+    let others = mapped (λ (ys : List Device). first.0 ∷ ys) (each memory_device ls) ds first.2 in
+    let one = opens_one l first.0 first.1 in
+    let rest = all_open ls others.0 others.1 in
+    subst (λ (x : List Device). OpenAs (l ∷ ls) x × Every (λ d. IsInMemory d.medium) x) (sym others.2) ((one.opens, rest.0), (one.memory, rest.1))
+
+-- ---- the laws
+
+pub has_one_text : HasOneText
+has_one_text bytes t u r s read read' is it = go r (same_ok r s (sym read ∙ read')) is
+  where
+    go : (r : ScenarioData) → r ≡ s → IsTextOf r t → t ≡ u
+    go r same is =
+        let mine : IsTextOf s t = subst (λ (x : ScenarioData). IsTextOf x t) same is in
+        let starts = all_open s.devices mine.opened mine.memory in
+        let devices : it.opened ≡ mine.opened = same_some it.opened mine.opened (sym it.memory ∙ mine.memory) in
+        one_text bytes s mine.opened t u read' starts.0 starts.1 mine.replay (subst (λ (x : List Device). IsReplayOf Serves s.devices x s.lines u) devices it.replay)
+
+-- the text of a scenario's replay is its own
+own_text : (text : List ℕ) (t : ScenarioData) (opened : List Device) → scenario_of text ≡ Ok t → each memory_device t.devices ≡ Some opened → IsReplayOf Serves t.devices opened t.lines text → IsOwnText t text
+own_text text t opened read memory replay =
+    let is : IsTextOf t text = record { opened = opened; memory = memory; replay = replay } in
+    record { is = is; only = λ own it. has_one_text text own text t t read read it is }
+
+pub law_of_replay : LawOfReplay
+law_of_replay bytes text s read is size few =
+    let starts = all_open s.devices is.opened is.memory in
+    let again = scenario_again Serves bytes text s is.opened read starts.0 is.replay size few in
+    let t = written s.devices (entries_of is.replay.journal) in
+    (t, again.0, own_text text t is.opened again.0 is.memory again.1)
+
+pub law_of_journals : LawOfJournals
+law_of_journals bytes text s js read is keeps =
+    let back = read_back Serves s.devices is.opened js is.ends text (spelled_read bytes s read) is.journal keeps in
+    let replay = replayed_again Serves s.devices is.opened js is.ends text is.journal is.done in
+    (back, own_text text (written s.devices (entries_of js)) is.opened back is.memory replay)
+
+-- the events of a scenario's replay are within the limits of lines
+have_lines : (bytes text : List ℕ) (s : ScenarioData) → scenario_of bytes ≡ Ok s → (is : IsTextOf s text) → HaveLines is.replay.journal
+have_lines bytes text s read is =
+    let starts = all_open s.devices is.opened is.memory in
+    let asked = replay_asked Serves bytes text s is.opened read starts.0 is.replay in
+    every-mapped (λ (j : Journaled). j.entry) (λ (e : EntryData). IsEvent e.event × CarriesBytes e.event) is.replay.journal (every-weaker (IsWithinLines (length s.devices)) (λ (e : EntryData). IsEvent e.event × CarriesBytes e.event) (entries_of is.replay.journal) (λ e h. (h.event, h.bytes)) asked.entries)
+
+journal_of : (bytes text : List ℕ) (s : ScenarioData) → scenario_of bytes ≡ Ok s → (is : IsTextOf s text) → IsJournalOf Serves s.devices is.opened is.replay.journal is.replay.ends text
+journal_of bytes text s read is = let starts = all_open s.devices is.opened is.memory in replay_journal Serves bytes text s is.opened read starts.0 is.replay
+
+pub has_one_journal : HasOneJournal
+has_one_journal bytes others text s t read read' is it =
+    let first = scenario_is bytes s read in
+    let other = scenario_is others t read' in
+    let one = one_reading Serves Serves s.devices t.devices is.opened it.opened is.replay.journal it.replay.journal is.replay.ends it.replay.ends text
+    (record { spelled = spelled_read bytes s read; names = first.names }) (record { spelled = spelled_read others t read'; names = other.names })
+    (have_lines bytes text s read is) (have_lines others text t read' it) (journal_of bytes text s read is) (journal_of others text t read' it) in
+    (one.0, one.1)

@@ -1,0 +1,68 @@
+-- The law of replay over media in memory, of journals without dumps.
+use Rattle.std.specs.Prelude.{◌≡◌, ℕ, ◌≤◌, List, length, Option, Some, None, Ok}
+use Rattle.tcmu_model.specs.Reading.{each}
+use Rattle.tcmu_model.specs.Device.{Device, opening}
+use Rattle.tcmu_model.specs.Medium.{memory_below, opened_medium}
+use Rattle.tcmu_model.specs.Drain.{drain_event}
+use Rattle.tcmu_model.specs.Sound.{Every}
+use Rattle.tcmu_model.specs.Config.{InMemory, InFile}
+use Rattle.tcmu_model.specs.ScenarioData.{DeviceLineData, ScenarioData}
+use Rattle.tcmu_model.specs.Scenario.{scenario_of}
+use Rattle.tcmu_model.specs.Scsi.{Serves}
+use Rattle.tcmu_model.specs.Several.{Journaled, IsReplayOf}
+use Rattle.text_laws.specs.Replays.{entries_of, written, IsJournalOf, KeepsLimits}
+
+-- the device of a device line as it opens over memory, all of it zeros; none where the line names a file
+abbrev pub memory_device : DeviceLineData → Option Device
+memory_device l =
+    elim (l.config.kind) [
+      | InMemory blocks ↦ Some (opening l.settings l.name (opened_medium blocks l.config.protected l.config.fails (memory_below blocks)))
+      | InFile name ↦ None
+    ]
+
+-- the text of a replay of a scenario over media in memory
+pub record IsTextOf (s : ScenarioData) (text : List ℕ) : Type 0 where
+  pub opened : List Device
+  pub memory : each memory_device s.devices ≡ Some opened
+  pub replay : IsReplayOf Serves s.devices opened s.lines text
+
+-- the text is the one text of the scenario's own replay
+pub record IsOwnText (s : ScenarioData) (text : List ℕ) : Type 0 where
+  pub is : IsTextOf s text
+  pub only : (own : List ℕ) → IsTextOf s own → own ≡ text
+
+-- the text of a journal on devices over media in memory, which leaves them nothing to do, as a replay and as a live run do
+pub record IsJournalText (ls : List DeviceLineData) (js : List Journaled) (text : List ℕ) : Type 0 where
+  pub opened : List Device
+  pub memory : each memory_device ls ≡ Some opened
+  pub ends : List Device
+  pub journal : IsJournalOf Serves ls opened js ends text
+  pub done : Every (λ d. drain_event d.state ≡ None) ends
+
+-- Every text of a replay of a scenario, where it has at most 4,194,304 bytes and the replay has at most 20,000 events, is a scenario,
+-- and the text of that scenario's own replay is the same text.
+abbrev pub LawOfReplay : Type 0
+LawOfReplay =
+    (bytes text : List ℕ) (s : ScenarioData)
+    → scenario_of bytes ≡ Ok s → (is : IsTextOf s text) → length text ≤ 4194304 → length is.replay.journal ≤ 20000
+    → (t : ScenarioData) × (scenario_of text ≡ Ok t) × IsOwnText t text
+
+-- The same of every journal on the devices of a scenario, which leaves them nothing to do: where its text keeps the limits of
+-- scenarios, it is the scenario of the journal's events, and the text of that scenario's own replay is the same text.
+abbrev pub LawOfJournals : Type 0
+LawOfJournals =
+    (bytes text : List ℕ) (s : ScenarioData) (js : List Journaled)
+    → scenario_of bytes ≡ Ok s → IsJournalText s.devices js text → KeepsLimits s.devices (entries_of js) text
+    → (scenario_of text ≡ Ok (written s.devices (entries_of js))) × IsOwnText (written s.devices (entries_of js)) text
+
+-- A scenario over media in memory has one text.
+abbrev pub HasOneText : Type 0
+HasOneText = (bytes t u : List ℕ) (r s : ScenarioData) → scenario_of bytes ≡ Ok r → scenario_of bytes ≡ Ok s → IsTextOf r t → IsTextOf s u → t ≡ u
+
+-- Texts of scenarios' replays over media in memory that are the same are of the same devices, and of the same journal: the same
+-- entries, with the same answers and the same completions.
+abbrev pub HasOneJournal : Type 0
+HasOneJournal =
+    (bytes others text : List ℕ) (s t : ScenarioData)
+    → scenario_of bytes ≡ Ok s → scenario_of others ≡ Ok t → (is : IsTextOf s text) → (it : IsTextOf t text)
+    → (s.devices ≡ t.devices) × (is.replay.journal ≡ it.replay.journal)

@@ -1,0 +1,18 @@
+-- A scenario over media in memory has one text.
+use Rattle.std.specs.Prelude.{◌≡◌, ℕ, List, Ok}
+use Rattle.tcmu_model.specs.Device.{Device}
+use Rattle.tcmu_model.specs.Sound.{Every}
+use Rattle.tcmu_model.specs.ScenarioData.{ScenarioData}
+use Rattle.tcmu_model.specs.Scenario.{scenario_of}
+use Rattle.tcmu_model.specs.Scsi.{Serves}
+use Rattle.tcmu_model.specs.Several.{IsReplayOf}
+use Rattle.block_engine.specs.Determined.{IsInMemory}
+use Rattle.text_laws.specs.Replays.{OpenAs}
+
+-- two texts of replays of a scenario that is read, on the same devices over media in memory, are the same
+abbrev pub OneText : Type 0
+OneText =
+    (bytes : List ℕ) (s : ScenarioData) (opened : List Device) (t u : List ℕ)
+    → scenario_of bytes ≡ Ok s → OpenAs s.devices opened → Every (λ d. IsInMemory d.medium) opened
+    → IsReplayOf Serves s.devices opened s.lines t → IsReplayOf Serves s.devices opened s.lines u
+    → t ≡ u
