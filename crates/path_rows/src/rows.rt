@@ -1,0 +1,210 @@
+//! Tables of calls with what each is to answer, and of completions, made over any path.
+use crate::Rig;
+use std::alloc::Global;
+use std::test::Fail;
+use tcmu_path::Path;
+use tcmu_types::{
+    Bytes, Cdb, Command, Dispatch, Done, Enter, Handle, Name, NoMemory, Publish, Reset, Respond,
+    Stat, Submit, Tmr,
+};
+
+/// A command by its parts: the bytes sent are runs of a byte and how often it stands.
+#[derive(Clone, Copy)]
+pub struct Sent {
+    pub init: &'static str,
+    pub tag: u32,
+    pub cdb: &'static [u8],
+    pub runs: &'static [(u8, u16)],
+    pub in_len: u32,
+}
+
+/// A call of a device; handles and answers name a serial.
+#[derive(Clone, Copy)]
+pub enum Call {
+    Submit(Sent),
+    Dispatch,
+    Handle(u64),
+    Respond(u64),
+    Publish,
+    Clean,
+    Tick(u32),
+    Block,
+    Unblock,
+    Reset,
+    /// A reset of level 2.
+    HardReset,
+    Restart,
+    /// A note that aborts the command of one serial.
+    Abort(u64),
+    /// A note that resets the unit, and names no command.
+    ResetUnit,
+    Enter,
+    Stat,
+    /// The events of a drain.
+    Drain,
+}
+
+/// What a call answers.
+#[derive(Clone, Copy, PartialEq, Eq)]
+pub enum Told {
+    Submit(Submit),
+    Job(u64),
+    /// The kind of a note, and how many commands it names.
+    Note(u8, usize),
+    Nothing,
+    Detached,
+    /// A status, and how many bytes go back.
+    Reply(u8, usize),
+    NotOut(u64),
+    Respond(Respond),
+    Publish(Publish),
+    /// How many completions were logged, or commands were lost.
+    Number(u64),
+    Changed(bool),
+    Reset(Reset),
+    Tmr(Tmr),
+    Enter(Enter),
+    Stat(Stat),
+    Drained,
+}
+
+/// A completion: its serial, initiator and tag, its status, its sense codes (zeros where there is none), and so many copies of a byte.
+#[derive(Clone, Copy)]
+pub struct Finished {
+    pub serial: u64,
+    pub init: &'static str,
+    pub tag: u32,
+    pub status: u8,
+    pub sense: (u8, u8, u8),
+    pub payload: (u8, usize),
+}
+
+/// The command of these parts, or a failure where the parts make none.
+pub fn command(alloc: Global, parts: &Sent) -> Result<Command, Fail> {
+    let init = Name::new(parts.init).ok_or("a name")?;
+    let cdb = Cdb::new(parts.cdb)
+        .ok()
+        .ok_or("a command descriptor block")?;
+    let mut sent = Bytes::new(alloc);
+    for &(byte, count) in parts.runs {
+        sent.reserve(count as u64)?;
+        sent.fill(byte, count as usize);
+    }
+    Ok(Command::new(init, parts.tag, cdb, sent, parts.in_len).ok_or("a command")?)
+}
+
+fn dispatched(answer: Dispatch) -> Told {
+    match answer {
+        Dispatch::Job(serial) => Told::Job(serial),
+        Dispatch::Note { kind, serials } => Told::Note(kind, serials.len()),
+        Dispatch::Nothing => Told::Nothing,
+        Dispatch::Detached => Told::Detached,
+    }
+}
+
+fn handled(answer: Handle) -> Told {
+    match answer {
+        Handle::Done(reply) => Told::Reply(reply.status.0, reply.payload.len()),
+        Handle::NotOut(serial) => Told::NotOut(serial),
+    }
+}
+
+/// Makes a call that takes memory; none where the call takes none.
+fn made<P: Path + Drop>(
+    rig: &mut Rig<P>,
+    alloc: Global,
+    call: &Call,
+) -> Result<Option<Told>, Fail> {
+    Ok(Some(match *call {
+        Call::Submit(parts) => Told::Submit(rig.submit(alloc, &command(alloc, &parts)?)?),
+        Call::Dispatch => dispatched(rig.dispatch(alloc)?),
+        Call::Handle(serial) => handled(rig.handle(alloc, serial)?),
+        Call::Abort(serial) => Told::Tmr(rig.abort(alloc, serial)?),
+        Call::ResetUnit => Told::Tmr(rig.reset_unit(alloc)?),
+        Call::Enter => Told::Enter(rig.enter(alloc)?),
+        Call::Drain => {
+            rig.drain(alloc)?;
+            Told::Drained
+        }
+        _ => return Ok(None),
+    }))
+}
+
+/// Makes a call that takes no memory; none where the call takes some.
+fn done<P: Path + Drop>(rig: &mut Rig<P>, call: &Call) -> Option<Told> {
+    Some(match *call {
+        Call::Respond(serial) => Told::Respond(rig.respond(serial)),
+        Call::Publish => Told::Publish(rig.publish()),
+        Call::Clean => Told::Number(rig.clean()),
+        Call::Tick(n) => Told::Number(rig.tick(n)),
+        Call::Block => Told::Changed(rig.block()),
+        Call::Unblock => Told::Changed(rig.unblock()),
+        Call::Reset => Told::Reset(rig.reset(1)),
+        Call::HardReset => Told::Reset(rig.reset(2)),
+        Call::Restart => Told::Number(rig.restart()),
+        Call::Stat => Told::Stat(rig.stat()),
+        _ => return None,
+    })
+}
+
+/// What the call answers, or a failure where memory lacks.
+pub fn answered<P: Path + Drop>(
+    rig: &mut Rig<P>,
+    alloc: Global,
+    call: &Call,
+) -> Result<Told, Fail> {
+    if let Some(answer) = made(rig, alloc, call)? {
+        return Ok(answer);
+    }
+    Ok(done(rig, call).ok_or("a call")?)
+}
+
+/// Makes the calls of a table, and gives the number of the first that does not answer as its row says.
+pub fn first_wrong<P: Path + Drop>(
+    rig: &mut Rig<P>,
+    alloc: Global,
+    rows: &[(Call, Told)],
+) -> Result<Option<usize>, Fail> {
+    for (at, (call, wanted)) in rows.iter().enumerate() {
+        if answered(rig, alloc, call)? != *wanted {
+            return Ok(Some(at));
+        }
+    }
+    Ok(None)
+}
+
+/// Whether a completion is as wanted.
+fn is_finished(done: &Done, wanted: &Finished) -> bool {
+    let sense = match done.sense {
+        Some(sense) => (sense.key, sense.asc, sense.ascq),
+        None => (0, 0, 0),
+    };
+    let (byte, count) = wanted.payload;
+    let bytes = done.payload.as_slice();
+    let names = done.serial == wanted.serial && done.tag == wanted.tag;
+    let codes = done.status.0 == wanted.status && sense == wanted.sense;
+    let owner = done.init.as_bytes() == wanted.init.as_bytes();
+    let payload = bytes.len() == count && bytes.iter().all(|item| *item == byte);
+    names && codes && owner && payload
+}
+
+/// Whether the log has these completions and no others.
+pub fn is_log<P: Path + Drop>(rig: &Rig<P>, wanted: &[Finished]) -> bool {
+    let log = rig.log();
+    log.len() == wanted.len()
+        && log
+            .iter()
+            .zip(wanted)
+            .all(|(done, wanted)| is_finished(done, wanted))
+}
+
+/// Makes the calls of a table: the number of the first that does not answer as its row says, and whether what is logged is as wanted.
+pub fn run<P: Path + Drop>(
+    mut rig: Rig<P>,
+    alloc: Global,
+    rows: &[(Call, Told)],
+    log: &[Finished],
+) -> Result<(Option<usize>, bool), Fail> {
+    let wrong = first_wrong(&mut rig, alloc, rows)?;
+    Ok((wrong, is_log(&rig, log)))
+}
