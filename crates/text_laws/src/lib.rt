@@ -17,3 +17,6 @@ pub use replay::{
     carried_law, journal_law, one_text_law, reading_law, replay_law, scenario_replay_law,
     spelled_law,
 };
+
+#[cfg(test)]
+mod tests;
