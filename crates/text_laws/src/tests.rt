@@ -24,6 +24,7 @@ fn lines_are_read_again() {
     comments_ignored();
     completions_ignored();
     ends_ignored();
+    dumps_told();
     carried_law();
     spelled_law();
 }
