@@ -27,3 +27,4 @@ pub mod Spoken
 pub mod OneReading
 pub mod Settled
 pub mod InMemory
+pub mod Dumped

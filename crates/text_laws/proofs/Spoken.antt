@@ -136,17 +136,11 @@ spoken_whole ls js ends sp within named =
 
 -- ---- device lines and event lines are told apart
 
-abbrev AreDeviceLines : List (List ℕ) → Type 0
-AreDeviceLines ts = Every (λ t. is_device_line t ≡ true) ts
-
-abbrev AreOthers : List (List ℕ) → Type 0
-AreOthers ts = Every (λ t. is_device_line t ≡ false) ts
-
-device_lines : (ls : List DeviceLineData) → AreDeviceLines (map told_device ls)
+device_lines : (ls : List DeviceLineData) → Every (λ t. is_device_line t ≡ true) (map told_device ls)
 device_lines [] = tt
 device_lines (l ∷ ls) = (device_spoken l, device_lines ls)
 
-event_lines : (ls : List DeviceLineData) (js : List Journaled) → AreOthers (map (told ls) js)
+event_lines : (ls : List DeviceLineData) (js : List Journaled) → Every (λ t. is_device_line t ≡ false) (map (told ls) js)
 event_lines ls [] = tt
 event_lines ls (j ∷ js) = (go (slice_get ls j.entry.device), event_lines ls js)
   where
@@ -158,21 +152,22 @@ abbrev pub head_or : List ℕ → List (List ℕ) → List ℕ
 head_or d [] = d
 head_or d (x ∷ xs) = x
 
-apart : (t u : List ℕ) → is_device_line t ≡ false → is_device_line u ≡ true → t ≡ u → ⊥
-apart t u h k e = false≢true (sym h ∙ ap is_device_line e ∙ k)
+apart : (p : List ℕ → Bool) (t u : List ℕ) → p t ≡ false → p u ≡ true → t ≡ u → ⊥
+apart p t u h k e = false≢true (sym h ∙ ap p e ∙ k)
 
-pub told_apart : (xs ys us vs : List (List ℕ)) → AreDeviceLines xs → AreOthers ys → AreDeviceLines us → AreOthers vs → xs ++ ys ≡ us ++ vs → (xs ≡ us) × (ys ≡ vs)
-told_apart [] ys [] vs h k m n e = (refl, e)
-told_apart [] [] (u ∷ us) vs h k m n e = absurd (cc)
-told_apart [] (y ∷ ys) (u ∷ us) vs h k m n e = absurd (apart y u k.0 m.0 (ap (head_or []) e))
-told_apart (x ∷ xs) ys [] [] h k m n e = absurd (cc)
-told_apart (x ∷ xs) ys [] (v ∷ vs) h k m n e = absurd (apart v x n.0 h.0 (sym (ap (head_or []) e)))
-told_apart (x ∷ xs) ys (u ∷ us) vs h k m n e =
-    let rest = told_apart xs ys us vs h.1 k m.1 n (ap (λ (l : List (List ℕ)). drop 1 l) e) in
+-- lines that pass a test in front of lines that do not
+pub told_apart : (p : List ℕ → Bool) (xs ys us vs : List (List ℕ)) → Every (λ t. p t ≡ true) xs → Every (λ t. p t ≡ false) ys → Every (λ t. p t ≡ true) us → Every (λ t. p t ≡ false) vs → xs ++ ys ≡ us ++ vs → (xs ≡ us) × (ys ≡ vs)
+told_apart p [] ys [] vs h k m n e = (refl, e)
+told_apart p [] [] (u ∷ us) vs h k m n e = absurd (cc)
+told_apart p [] (y ∷ ys) (u ∷ us) vs h k m n e = absurd (apart p y u k.0 m.0 (ap (head_or []) e))
+told_apart p (x ∷ xs) ys [] [] h k m n e = absurd (cc)
+told_apart p (x ∷ xs) ys [] (v ∷ vs) h k m n e = absurd (apart p v x n.0 h.0 (sym (ap (head_or []) e)))
+told_apart p (x ∷ xs) ys (u ∷ us) vs h k m n e =
+    let rest = told_apart p xs ys us vs h.1 k m.1 n (ap (λ (l : List (List ℕ)). drop 1 l) e) in
     (ap (λ (t : List ℕ). t ∷ xs) (ap (head_or []) e) ∙ ap (λ (l : List (List ℕ)). u ∷ l) rest.0, rest.1)
 
 pub two_parts : (ls ks : List DeviceLineData) (js fs : List Journaled) → map told_device ls ++ map (told ls) js ≡ map told_device ks ++ map (told ks) fs → (map told_device ls ≡ map told_device ks) × (map (told ls) js ≡ map (told ks) fs)
-two_parts ls ks js fs e = told_apart (map told_device ls) (map (told ls) js) (map told_device ks) (map (told ks) fs) (device_lines ls) (event_lines ls js) (device_lines ks) (event_lines ks fs) e
+two_parts ls ks js fs e = told_apart is_device_line (map told_device ls) (map (told ls) js) (map told_device ks) (map (told ks) fs) (device_lines ls) (event_lines ls js) (device_lines ks) (event_lines ks fs) e
 
 -- ---- what a line tells
 

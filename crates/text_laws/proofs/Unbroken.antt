@@ -78,7 +78,7 @@ pub pair : (b : ℕ) → Unbroken (hex_byte b)
 unfolding hex_byte
 pair b = begins (hex_digit (b / 16)) _ (hex_other (b / 16)) (begins (hex_digit (b % 16)) [] (hex_other (b % 16)) nothing)
 
-joined : (at : ℕ) (ts : List (List ℕ)) → is_other 10 at ≡ true → AreUnbroken ts → Unbroken (join_with_byte at ts)
+pub joined : (at : ℕ) (ts : List (List ℕ)) → is_other 10 at ≡ true → AreUnbroken ts → Unbroken (join_with_byte at ts)
 joined at [] a h = nothing
 joined at (t ∷ []) a h = h.0
 joined at (t ∷ u ∷ ts) a h = joins t (at ∷ join_with_byte at (u ∷ ts)) h.0 (begins at _ a (joined at (u ∷ ts) a h.1))

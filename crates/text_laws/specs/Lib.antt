@@ -9,3 +9,4 @@ pub mod Carried
 pub mod Readings
 pub mod Settled
 pub mod InMemory
+pub mod Dumps

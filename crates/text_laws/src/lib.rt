@@ -7,7 +7,8 @@ mod pieces;
 mod replay;
 
 pub use lines::{
-    comments_ignored, completions_ignored, configs_again, devices_again, ends_ignored, events_again,
+    comments_ignored, completions_ignored, configs_again, devices_again, dumps_told, ends_ignored,
+    events_again,
 };
 pub use memory::{replay_in_memory_law, text_in_memory_law};
 pub use pieces::{
@@ -17,3 +18,6 @@ pub use replay::{
     carried_law, journal_law, one_text_law, reading_law, replay_law, scenario_replay_law,
     spelled_law,
 };
+
+#[cfg(test)]
+mod tests;

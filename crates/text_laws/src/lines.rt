@@ -1,6 +1,7 @@
 //! Whole lines: what is written of each is read again.
 ghost use Rattle.text_laws.specs.Configs.{ConfigsAgain};
 ghost use Rattle.text_laws.specs.Devices.{DevicesAgain};
+ghost use Rattle.text_laws.specs.Dumps.{DumpsTold};
 ghost use Rattle.text_laws.specs.Lines.{EventsAgain, CommentsIgnored, CompletionsIgnored, EndsIgnored};
 
 /// A config is read from its text.
@@ -31,4 +32,9 @@ pub fn completions_ignored()
 /// An end line begins with `#`.
 pub fn ends_ignored()
     ensures { EndsIgnored }
+{}
+
+/// The text of a dump has one reading: the device, the mailbox, the items and the commands that are held.
+pub fn dumps_told()
+    ensures { DumpsTold }
 {}

@@ -1,9 +1,10 @@
 //! The law of replay.
-ghost use Rattle.tcmu_model.specs.Scsi.{Serves};
 ghost use Rattle.text_laws.specs.Carried.{CarriedRead, SpelledRead};
 ghost use Rattle.text_laws.specs.Readings.{HasOneReading};
 ghost use Rattle.text_laws.specs.Replays.{IsReadBack, IsReplayedAgain, IsScenarioAgain};
 ghost use Rattle.text_laws.specs.Settled.{OneText};
+
+use handler_trait::Handler;
 
 /// What a scenario carries are bytes, and tags of 32 bits.
 pub fn carried_law()
@@ -16,24 +17,25 @@ pub fn spelled_law()
 {}
 
 /// The text of a journal of devices that have lines is a scenario where it keeps the limits, that of the journal's events.
-pub fn journal_law()
-    ensures { IsReadBack Serves }
+pub fn journal_law<H: Handler>()
+    ensures { IsReadBack H.relation }
 {}
 
 /// The text of a journal that leaves its devices nothing to do is the text of a replay of its events.
-pub fn replay_law()
-    ensures { IsReplayedAgain Serves }
+pub fn replay_law<H: Handler>()
+    ensures { IsReplayedAgain H.relation }
 {}
 
 /// The text of a replay of any scenario that is read is a scenario, and the text of a replay of that scenario on the same devices,
 /// where it is at most 4,194,304 bytes and the replay has at most 20,000 events.
-pub fn scenario_replay_law()
-    ensures { IsScenarioAgain Serves }
+pub fn scenario_replay_law<H: Handler>()
+    ensures { IsScenarioAgain H.relation }
 {}
 
-/// One text of a journal has one reading: its devices, its entries with their answers, and the completions of each.
-pub fn reading_law()
-    ensures { HasOneReading Serves Serves }
+/// One text of a journal has one reading, whichever handlers served its devices: the devices, the entries with their answers, and the
+/// completions of each.
+pub fn reading_law<H: Handler, K: Handler>()
+    ensures { HasOneReading H.relation K.relation }
 {}
 
 /// A scenario whose devices are over media in memory has one text.
