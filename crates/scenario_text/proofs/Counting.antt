@@ -1,5 +1,5 @@
 -- One more line, in what is counted.
-use Rattle.std.proofs.Common.{◌≡◌, ◌≢◌, ℕ, ◌+◌, ◌<◌, ◌≤◌, Bool, true, false, cond, ◌&&◌, ◌||◌, not, nat_lt, nat_eq, List, [], ◌∷◌, ◌++◌, length, get_or, set, Option, Some, None, Ok, Err, refl, sym, ap, ◌∙◌, arith, length-append, subst}
+use Rattle.std.proofs.Common.{◌≡◌, ◌≢◌, ℕ, zero, suc, ◌+◌, ◌<◌, ◌≤◌, Bool, true, false, cond, ◌&&◌, ◌||◌, not, nat_lt, nat_eq, List, [], ◌∷◌, ◌++◌, length, get_or, set, Option, Some, None, Ok, Err, refl, sym, ap, ◌∙◌, arith, length-append, subst}
 use Rattle.std.specs.List.{sum_by, count_by}
 use Rattle.std.proofs.lemmas.List.{get_or-set_same, get_or-set_other, length-set}
 use Rattle.std.proofs.lemmas.List.Sums.{sum_by_push}
@@ -94,6 +94,29 @@ counted_more s l all dumps ins outs k lt no_dump few =
     few_dumps : (b c : Bool) → (b && (nat_lt 16 (dumps + one_if b) || c)) ≡ false → dumps + one_if b ≤ 16
     few_dumps true c e = ltb-false _ _ (or_false _ _ e).0
     few_dumps false c e = omega (arith, k.few_dumps)
+
+-- ---- one more device, before the first line
+
+more_names : (all : List (List (List ℕ))) (k : ℕ) → get_or (all ++ [] ∷ []) k [] ≡ get_or all k []
+more_names [] zero = refl
+more_names [] (suc k) = refl
+more_names (x ∷ all) zero = refl
+more_names (x ∷ all) (suc k) = more_names all k
+
+pub counted_device : (ds : List DeviceLineData) (ls : List LineData) (all : List (List (List ℕ))) (d : DeviceLineData) (dumps ins outs : ℕ) → Counted ds ls all dumps ins outs → length ds + 1 ≤ 16
+    → Counted (ds ++ d ∷ []) ls (all ++ [] ∷ []) dumps ins outs
+counted_device ds ls all d dumps ins outs k few = record {
+  names_are = λ i. more_names all i ∙ k.names_are i;
+  names_of_all = omega (arith, length-append all ([] ∷ []), length-append ds (d ∷ []), k.names_of_all);
+  few_devices = omega (arith, few, length-append ds (d ∷ []));
+  dumps_are = k.dumps_are;
+  ins_are = k.ins_are;
+  outs_are = k.outs_are;
+  few_lines = k.few_lines;
+  few_dumps = k.few_dumps;
+  few_in = k.few_in;
+  few_out = k.few_out;
+}
 
 -- ---- what a line gives
 

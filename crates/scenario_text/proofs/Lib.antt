@@ -1,3 +1,4 @@
 pub mod Fields
+pub mod Naming
 pub mod Counting
 pub mod Limits

@@ -10,12 +10,12 @@ use Rattle.tcmu_model.specs.ScenarioRules.{IsScenario, IsScript}
 use Rattle.tcmu_model.proofs.ScenarioLaws.{scenario_is}
 use Rattle.tcmu_model.proofs.ScriptLaws.{script_is}
 use Rattle.tcmu_model.proofs.SaidLaws.{IsSaid}
-use Rattle.scenario_text.specs.Giving.{HasDevice}
+use Rattle.scenario_text.specs.Giving.{HasPlace}
 
--- a line speaks of a device that is there
-pub has_device : (s : ScenarioData) (said : Said) → IsSaid s said → HasDevice s said
-has_device s (Opens d) is = tt
-has_device s (Adds l) is = is.device
+-- a line opens a device with a new name, or speaks of a device that is there
+pub has_place : (s : ScenarioData) (said : Said) → IsSaid s said → HasPlace s said
+has_place s (Opens d) is = record { name = is.line.name; other = is.name }
+has_place s (Adds l) is = is.device
 
 pub playable : (x : ScriptData) (s : ScenarioData) (device : ℕ) → x ≡ script_of s device → IsScenario s → IsScript x
 playable x s device e k = subst IsScript (sym e) (script_is s device k)

@@ -1,8 +1,25 @@
 -- What is counted while lines are read.
-use Rattle.std.specs.Prelude.{◌≡◌, ℕ, ◌≤◌, Bool, ◌&&◌, ◌||◌, not, nat_lt, List, [], length, Some, None, if◌then◌else◌, slice_index_or, slice_set}
-use Rattle.std.specs.List.{sum_by, count_by}
-use Rattle.tcmu_model.specs.ScenarioData.{DeviceLineData, LineData, command_of}
+use Rattle.std.specs.Prelude.{◌≡◌, ℕ, ◌≤◌, Bool, false, IsTrue, map, ◌&&◌, ◌||◌, not, nat_lt, List, [], length, Option, Some, None, bytes_eq, if◌then◌else◌, slice_index_or, slice_set}
+use Rattle.std.specs.List.{list_any, position, sum_by, count_by}
+use Rattle.tcmu_types.specs.Naming.{is_name}
+use Rattle.tcmu_model.specs.Sound.{Every}
+use Rattle.tcmu_model.specs.Said.{has_name}
+use Rattle.tcmu_model.specs.ScenarioData.{DeviceLineData, LineData, ScenarioData, command_of}
 use Rattle.tcmu_model.specs.Scenario.{with_name, initiators, is_dump, small_at, bytes_in, bytes_out}
+
+-- a name that no device of these has
+pub record IsNewName (s : ScenarioData) (d : DeviceLineData) : Type 0 where
+  pub name : IsTrue (is_name d.name)
+  pub other : list_any (has_name d.name) s.devices ≡ false
+
+-- the place of a text among these names, where it is a name
+abbrev pub place_in : List (List ℕ) → List ℕ → Option ℕ
+place_in names text = if is_name text then position (bytes_eq text) names else None
+
+-- the names of these devices
+pub record AreNames (ds : List DeviceLineData) (names : List (List ℕ)) : Type 0 where
+  pub are : names ≡ map (λ d. d.name) ds
+  pub each : Every (λ d. IsTrue (is_name d.name)) ds
 
 -- names: the initiators of each device
 pub record Counted (ds : List DeviceLineData) (ls : List LineData) (names : List (List (List ℕ))) (dumps ins outs : ℕ) : Type 0 where

@@ -4,6 +4,7 @@ use Rattle.tcmu_model.specs.declared.faults.Why.{Why}
 use Rattle.tcmu_model.specs.ScenarioData.{ScenarioData}
 use Rattle.tcmu_model.specs.Said.{Said, Opens, Adds}
 use Rattle.tcmu_model.specs.Scenario.{Bad}
+use Rattle.scenario_text.specs.Counts.{IsNewName}
 use Rattle.scenario_text.specs.declared.kinds.LineFault.{LineFault}
 use Rattle.scenario_text.specs.declared.kinds.LineFault.TheVariants as line
 use Rattle.scenario_text.specs.declared.kinds.ScenarioFault.{ScenarioFault}
@@ -33,7 +34,7 @@ abbrev pub said_data : SaidLine → Said
 said_data (said.Opens d) = Opens d
 said_data (said.Adds l) = Adds l
 
--- a line of a device that is there
-abbrev pub HasDevice : ScenarioData → Said → Type 0
-HasDevice s (Opens d) = Unit {0}
-HasDevice s (Adds l) = l.device < length s.devices
+-- a device with a new name, or a line of a device that is there
+abbrev pub HasPlace : ScenarioData → Said → Type 0
+HasPlace s (Opens d) = IsNewName s d
+HasPlace s (Adds l) = l.device < length s.devices

@@ -1,32 +1,13 @@
-//! Look-ups among the devices that are there. A scenario has at most 16 of them, so each is a scan.
-ghost use Rattle.std.specs.Prelude.{◌≡◌, IfSome, bytes_eq, length, ◌<◌};
-ghost use Rattle.std.specs.List.{list_any, position};
-ghost use Rattle.tcmu_model.specs.Said.{has_name, same_file};
+//! What the other lines ask of the devices that are there. A scenario has at most 16 of them, so a file is found by a scan.
+ghost use Rattle.std.specs.Prelude.{◌≡◌};
+ghost use Rattle.std.specs.List.{list_any};
+ghost use Rattle.tcmu_model.specs.Said.{same_file};
 ghost use Rattle.tcmu_model.specs.Scenario.{is_small, small_at};
 ghost use Rattle.device_config.specs.Views.{medium_data};
 
 use crate::kinds::DeviceLine;
 use device_config::MediumKind;
 use tcmu_types::Settings;
-
-fn has_name(device: &DeviceLine, name: &[u8]) -> bool
-    ensures { result ≡ has_name name.now device.now }
-{
-    device.name.as_bytes() == name
-}
-
-/// The number of the device of this name.
-pub fn place_of(devices: &[DeviceLine], name: &[u8]) -> Option<usize>
-    ensures { result ≡ position (has_name name.now) devices.now }
-{
-    devices.iter().position(|device| has_name(device, name))
-}
-
-pub fn any_named(devices: &[DeviceLine], name: &[u8]) -> bool
-    ensures { result ≡ list_any (has_name name.now) devices.now }
-{
-    devices.iter().any(|device| has_name(device, name))
-}
 
 fn same_file(a: &MediumKind, b: &MediumKind) -> bool
     ensures { result ≡ same_file (medium_data a.now) (medium_data b.now) }

@@ -5,6 +5,7 @@ mod counts;
 mod devices;
 mod kinds;
 mod lines;
+mod names;
 mod reading;
 mod said;
 mod scripts;

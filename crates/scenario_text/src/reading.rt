@@ -3,7 +3,7 @@ ghost use Rattle.std.specs.Prelude.{◌≡◌, ◌<◌, ◌||◌, length, IfOk};
 ghost use Rattle.tcmu_model.specs.Lines.{fields_of};
 ghost use Rattle.tcmu_model.specs.Scenario.{is_not_yet, with_rules, with_said, with_fields, with_text, scenario_of};
 ghost use Rattle.tcmu_model.specs.ScenarioRules.{IsScenario};
-ghost use Rattle.scenario_text.specs.Giving.{LineGives, Gives, HasDevice, said_data};
+ghost use Rattle.scenario_text.specs.Giving.{LineGives, Gives, HasPlace, said_data};
 
 use crate::counts::is_dump;
 use crate::kinds::{LineFault, Scenario, ScenarioFault};
@@ -25,7 +25,7 @@ fn is_not_yet(so_far: &SoFar, said: &SaidLine) -> bool
 }
 
 fn with_rules(alloc: Global, so_far: SoFar, said: SaidLine) -> Result<SoFar, LineFault>
-    requires { HasDevice so_far (said_data said) }
+    requires { HasPlace so_far (said_data said) }
     ensures { LineGives (λ x. x) result (with_rules so_far (said_data said)) }
 {
     match said {
@@ -36,7 +36,7 @@ fn with_rules(alloc: Global, so_far: SoFar, said: SaidLine) -> Result<SoFar, Lin
 
 #[tactic(auto, unfolding(tcmu_model::specs::Scenario::with_said))]
 fn with_said(alloc: Global, so_far: SoFar, said: SaidLine) -> Result<SoFar, LineFault>
-    requires { HasDevice so_far (said_data said) }
+    requires { HasPlace so_far (said_data said) }
     ensures { LineGives (λ x. x) result (with_said so_far (said_data said)) }
 {
     let not_yet = is_not_yet(&so_far, &said);

@@ -8,8 +8,8 @@ ghost use Rattle.tcmu_model.specs.ScenarioRules.{IsScenario, IsScript};
 ghost use Rattle.tcmu_model.specs.Script.{sent_by, is_admin, admin_in, admin_of, init_line, script_of};
 ghost use Rattle.scenario_text.specs.Views.{kind_data, as_list};
 
-use crate::counts::Names;
 use crate::kinds::{Commands, Events, InitLine, InitLines, Line, LineKind, Scenario, Script};
+use crate::names::Names;
 use std::alloc::Global;
 use tcmu_types::{Command, Event, Name, NoMemory, Serials};
 

@@ -4,23 +4,25 @@ ghost use Rattle.std.specs.List.{list_any};
 ghost use Rattle.tcmu_model.specs.Said.{has_name, device_at, same_file};
 ghost use Rattle.tcmu_model.specs.Scenario.{with_line, with_device, nothing_yet};
 ghost use Rattle.device_config.specs.Views.{medium_data};
-ghost use Rattle.scenario_text.specs.Counts.{dump_by, many_by, one_if};
+ghost use Rattle.scenario_text.specs.Counts.{dump_by, many_by, one_if, IsNewName};
 ghost use Rattle.scenario_text.specs.Giving.{LineGives};
 
-use crate::counts::{Names, bytes_in, bytes_out, is_dump, names_at, note_initiator};
-use crate::devices::{any_in_file, any_named, place_of, small_at};
+use crate::counts::{bytes_in, bytes_out, is_dump, names_at, note_initiator};
+use crate::devices::{any_in_file, small_at};
 use crate::kinds::{DeviceLine, Devices, Line, LineFault, Lines, Scenario};
+use crate::names::Names;
 use device_config::MediumKind;
 use std::alloc::Global;
 use std::marker::Model;
 use tcmu_model::Why;
 use tcmu_types::Name;
 
-/// The scenario so far.
-#[derive(Debug, Drop)]
+/// The scenario so far, with the names of its devices and of the initiators of each.
+#[derive(Drop)]
 pub struct SoFar {
     devices: Devices,
     lines: Lines,
+    names: Names,
     initiators: Vec<Names>,
     dumps: u32,
     bytes_in: u64,
@@ -29,16 +31,16 @@ pub struct SoFar {
 
 impl Model for SoFar {
     ghost use Rattle.tcmu_model.specs.ScenarioData.{ScenarioData};
-    ghost use Rattle.scenario_text.specs.Counts.{Counted};
+    ghost use Rattle.scenario_text.specs.Counts.{Counted, AreNames};
 
     ghost Value = { ScenarioData };
 
     ghost view = { λ a. record { devices = a.devices.items; lines = a.lines.items } };
 
-    ghost invariant = { λ a. Counted a.devices.items a.lines.items a.initiators.items a.dumps a.bytes_in a.bytes_out };
+    ghost invariant = { λ a. Counted a.devices.items a.lines.items a.initiators.items a.dumps a.bytes_in a.bytes_out × AreNames a.devices.items a.names };
 }
 
-fn breaks_dump(devices: &[DeviceLine], dumps: u32, line: &Line) -> bool
+pub(crate) fn breaks_dump(devices: &[DeviceLine], dumps: u32, line: &Line) -> bool
     ensures { result ≡ dump_by devices.now dumps line.now }
 {
     if !is_dump(line) {
@@ -67,6 +69,7 @@ impl SoFar {
         SoFar {
             devices: Devices::new(alloc),
             lines: Lines::new(alloc),
+            names: Names::new(alloc),
             initiators: Vec::new(alloc),
             dumps: 0,
             bytes_in: 0,
@@ -78,7 +81,7 @@ impl SoFar {
     pub fn device_at(&self, name: &[u8]) -> Option<u32>
         ensures { result ≡ device_at self.now name.now }
     {
-        match place_of(self.devices.as_slice(), name) {
+        match self.names.place_of(name) {
             Some(at) => Some(at as u32),
             None => None,
         }
@@ -87,7 +90,7 @@ impl SoFar {
     pub fn has_device(&self, name: &[u8]) -> bool
         ensures { result ≡ list_any (has_name name.now) self.now.devices }
     {
-        any_named(self.devices.as_slice(), name)
+        self.device_at(name).is_some()
     }
 
     /// Whether a device has the same file.
@@ -115,6 +118,7 @@ impl SoFar {
         let SoFar {
             devices,
             mut lines,
+            names,
             mut initiators,
             dumps,
             bytes_in: ins,
@@ -127,8 +131,8 @@ impl SoFar {
         note_initiator(&mut initiators, &line)?;
         let ins = ins + bytes_in(&line);
         let outs = outs + bytes_out(&line);
-        let names = names_at(&initiators, line.device);
-        if breaks_many(names, lines.len() + 1, ins, outs) {
+        let senders = names_at(&initiators, line.device);
+        if breaks_many(senders, lines.len() + 1, ins, outs) {
             return Err(LineFault::Bad(Why::Many));
         }
         lines.reserve(1)?;
@@ -136,6 +140,7 @@ impl SoFar {
         Ok(SoFar {
             devices,
             lines,
+            names,
             initiators,
             dumps,
             bytes_in: ins,
@@ -146,11 +151,13 @@ impl SoFar {
     /// With this device behind the others.
     #[tactic(auto, unfolding(tcmu_model::specs::Scenario::with_device))]
     pub fn with_device(self, alloc: Global, device: DeviceLine) -> Result<SoFar, LineFault>
+        requires { IsNewName self device }
         ensures { LineGives (λ x. x) result (with_device self device) }
     {
         let SoFar {
             mut devices,
             lines,
+            mut names,
             mut initiators,
             dumps,
             bytes_in,
@@ -163,11 +170,13 @@ impl SoFar {
             return Err(LineFault::Bad(Why::Many));
         }
         devices.reserve(1)?;
+        names.note(&device.name)?;
         devices.push(device);
         initiators.push(Names::new(alloc))?;
         Ok(SoFar {
             devices,
             lines,
+            names,
             initiators,
             dumps,
             bytes_in,

@@ -1,11 +1,8 @@
 //! Texts that are scenarios, and the first faults of others: each rule at each place where it can be broken.
-use crate::kinds::LineFault;
-use crate::said::{SaidLine, said_by};
-use crate::so_far::SoFar;
-use crate::{ScenarioFault, Why, read_scenario, script};
+use crate::so_far::breaks_dump;
+use crate::{Line, LineKind, ScenarioFault, Why, read_scenario, script};
 use std::alloc::Global;
 use std::test::Fail;
-use tcmu_model::Verb;
 
 const DEVICE: &str = "device d0 tcm-user/0/d0/mem/64 ring=4096 blocks=16 flags=ooo timeout=30";
 
@@ -290,48 +287,124 @@ fn limits(rt: HostRuntime) -> Result<(), Fail> {
     Ok(())
 }
 
-/// The scenario with the device of these fields behind the others.
-fn with_device(rt: &HostRuntime, so_far: SoFar, fields: &[u8]) -> Result<SoFar, Why> {
-    let alloc = rt.alloc();
-    match said_by(alloc, &so_far, Verb::Device, fields) {
-        Ok(SaidLine::Opens(device)) => match so_far.with_device(alloc, device) {
-            Ok(more) => Ok(more),
-            Err(LineFault::Bad(why)) => Err(why),
-            Err(LineFault::NoMemory) => Err(Why::TooLong),
-        },
-        Err(LineFault::Bad(why)) => Err(why),
-        _ => Err(Why::TooLong),
-    }
+/// The line of a device of this number, over a file of its own.
+fn file_device(alloc: Global, number: u32) -> Result<String, Fail> {
+    Ok(format!(in alloc;
+        "device d{number} tcm-user/0/d{number}/file/f{number} ring=8192 blocks=65 flags=ooo timeout=30\n"
+    )?)
 }
 
-/// A 17th initiator and a 17th device are one too many.
+/// Device lines behind others: up to 16 of them, before the first other line, each with a name and a file of its own.
+#[test]
+fn more_devices(rt: HostRuntime) -> Result<(), Fail> {
+    let alloc = rt.alloc();
+    for (path, more, want) in [
+        ("mem/64", "d1 tcm-user/0/d1/mem/64", None),
+        ("file/x", "d1 tcm-user/0/d1/file/y", None),
+        ("file/x", "d1 tcm-user/0/d1/file/X", None),
+        ("file/64", "d1 tcm-user/0/d1/mem/64", None),
+        ("file/x", "d1 tcm-user/0/d1/file/x", Some(Why::Config)),
+        ("file/x", "d1 tcm-user/0/d1/ro/file/x", Some(Why::Config)),
+        (
+            "ro/file/x",
+            "d1 tcm-user/0/d1/fail/1/file/x",
+            Some(Why::Config),
+        ),
+        (
+            "fail/2/file/x",
+            "d1 tcm-user/0/d1/file/x",
+            Some(Why::Config),
+        ),
+        ("mem/64", "d0 tcm-user/0/d0/mem/64", Some(Why::Name)),
+        ("mem/64", "d1 tcm-user/0/d0/mem/64", Some(Why::Config)),
+    ] {
+        let rest = "ring=4096 blocks=16 flags=ooo timeout=30";
+        let text = format!(in alloc;
+            "device d0 tcm-user/0/d0/{path} {rest}\ndevice {more} {rest}"
+        )?;
+        let got = fault_of(alloc, text.as_bytes());
+        assert_eq!(rt; got, want.map(|why| (2, why)), "{path} and {more}");
+    }
+    Ok(())
+}
+
+/// A 17th initiator of a device and a 17th device are one too many, and no device line stands behind another line.
 #[test]
 fn sixteen(rt: HostRuntime) -> Result<(), Fail> {
     let alloc = rt.alloc();
-    let mut text = format!(in alloc; "{DEVICE}\n")?;
-    let mut so_far = SoFar::new(alloc);
-    for i in 0..16u32 {
-        let line = format!(in alloc; "submit d0 i{i} 1 28000000000000000100 in=1\n")?;
-        text.push_str(&line)?;
-        let fields = format!(in alloc;
-            "i{i} tcm-user/0/i{i}/file/f{i} ring=8192 blocks=65 flags=ooo timeout=30"
-        )?;
-        match with_device(&rt, so_far, fields.as_bytes()) {
-            Ok(more) => so_far = more,
-            Err(why) => panic!(rt; "device {i}: {}", why.text()),
+    let mut text = String::new(alloc);
+    for number in 0..16u32 {
+        text.push_str(&file_device(alloc, number)?)?;
+    }
+    let more = file_device(alloc, 16)?;
+    let seventeen = format!(in alloc; "{text}{more}")?;
+    let first = fault_of(alloc, seventeen.as_bytes());
+    assert_eq!(rt; first, Some((17, Why::Many)));
+    let behind = format!(in alloc; "{text}stat d15\n{more}")?;
+    let first = fault_of(alloc, behind.as_bytes());
+    assert_eq!(rt; first, Some((18, Why::Order)));
+    for device in 0..16u32 {
+        for init in 0..16u32 {
+            let line = format!(in alloc; "submit d{device} i{init} 1 28000000000000000100 in=1\n")?;
+            text.push_str(&line)?;
         }
     }
-    let sixteen = fault_of(alloc, text.as_bytes());
-    assert_eq!(rt; sixteen, None);
-    text.push_str("submit d0 i16 1 28000000000000000100 in=1")?;
-    let seventeen = fault_of(alloc, text.as_bytes());
-    assert_eq!(rt; seventeen, Some((18, Why::Many)));
-    let device = with_device(
-        &rt,
-        so_far,
-        b"i16 tcm-user/0/i16/file/f16 ring=8192 blocks=65 flags=ooo timeout=30",
-    );
-    assert_eq!(rt; device.err(), Some(Why::Many));
+    let first = fault_of(alloc, text.as_bytes());
+    assert_eq!(rt; first, None);
+    text.push_str("submit d7 i16 1 28000000000000000100 in=1")?;
+    let first = fault_of(alloc, text.as_bytes());
+    assert_eq!(rt; first, Some((273, Why::Many)));
+    Ok(())
+}
+
+/// Which device may be dumped: `dump` where it may not, and else the last rule. A 17th dump is one too many.
+#[test]
+fn dumps(rt: HostRuntime) -> Result<(), Fail> {
+    let alloc = rt.alloc();
+    for (settings, want) in [
+        ("ring=65536 blocks=64 flags=none timeout=0", Why::NotYet),
+        ("ring=69632 blocks=64 flags=none timeout=0", Why::Dump),
+        ("ring=65536 blocks=65 flags=none timeout=0", Why::Dump),
+        (
+            "ring=4096 blocks=32 flags=none timeout=0 pages=2",
+            Why::NotYet,
+        ),
+        (
+            "ring=4096 blocks=13 flags=none timeout=0 pages=5",
+            Why::Dump,
+        ),
+    ] {
+        let text = format!(in alloc; "device d0 tcm-user/0/d0/mem/64 {settings}\ndump d0")?;
+        let got = fault_of(alloc, text.as_bytes());
+        assert_eq!(rt; got, Some((2, want)), "{settings}");
+    }
+    let Ok(scenario) = read_scenario(alloc, DEVICE.as_bytes()) else {
+        panic!(rt; "no scenario");
+    };
+    for (count, device, what, want) in [
+        (16u32, 0u32, LineKind::Dump, false),
+        (17, 0, LineKind::Dump, true),
+        (17, 0, LineKind::Drain, false),
+        (1, 1, LineKind::Dump, true),
+    ] {
+        let line = Line { device, what };
+        let got = breaks_dump(scenario.devices.as_slice(), count, &line);
+        assert_eq!(rt; got, want, "{count} dumps, device {device}");
+    }
+    Ok(())
+}
+
+/// The longest text, and one byte more.
+#[test]
+fn longest(rt: HostRuntime) -> Result<(), Fail> {
+    let alloc = rt.alloc();
+    let mut text = Vec::new(alloc);
+    text.resize(4_194_304, b'#')?;
+    let first = fault_of(alloc, text.as_slice());
+    assert_eq!(rt; first, None);
+    text.push(b'#')?;
+    let first = fault_of(alloc, text.as_slice());
+    assert_eq!(rt; first, Some((0, Why::TooLong)));
     Ok(())
 }
 

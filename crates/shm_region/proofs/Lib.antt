@@ -4,3 +4,4 @@ mod Lent
 mod Over
 mod Shown
 mod Copied
+mod Area

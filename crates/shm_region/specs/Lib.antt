@@ -1,2 +1,4 @@
+pub mod AreaStart
+pub mod Places
 pub mod Lends
 pub mod Copies

@@ -1,4 +1,5 @@
-//! Laws of lending and copying.
+//! Laws of where the data area begins, of lending and of copying.
+ghost use Rattle.shm_region.specs.AreaStart.{AreaBeginsAtPage, OpensAtArea};
 ghost use Rattle.shm_region.specs.Copies.{CopiesBack, CopiesBeside};
 ghost use Rattle.tcmu_model.specs.Regions.{LendsAndTakesBack};
 
@@ -12,4 +13,11 @@ pub fn lends_and_takes_back()
 pub fn copies_back()
     ensures back { CopiesBack }
     ensures beside { CopiesBeside }
+{}
+
+/// For each size of a ring the data area begins at the least multiple of 4096 that is not below the ring's end, and the front of a new
+/// region ends there.
+pub fn area_begins_at_page()
+    ensures begins { AreaBeginsAtPage }
+    ensures opens { OpensAtArea }
 {}

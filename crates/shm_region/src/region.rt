@@ -1,8 +1,10 @@
 //! The region of one device.
-ghost use Rattle.std.specs.Prelude.{◌≡◌, ℕ, [], ◌∷◌, ◌+◌, ◌-◌, ◌*◌, ◌^◌, ◌<◌, ◌≤◌, ◌++◌, length, slice_get, Some, None, IfSome, is_ok, is_some, option_map, if◌then◌else◌, IfOk, OnOk, OnErr};
+ghost use Rattle.std.specs.Prelude.{◌≡◌, ℕ, [], ◌∷◌, ◌+◌, ◌-◌, ◌*◌, ◌^◌, ◌<◌, ◌≤◌, ◌++◌, length, slice_get, Some, None, true, IfSome, IsSome, is_ok, is_some, option_map, if◌then◌else◌, IfOk, OnOk, OnErr};
 ghost use Rattle.tcmu_model.specs.Lengths.{block_size};
 ghost use Rattle.tcmu_model.specs.Layout.{le, field, put, zeros, padded, flag_bits, head_place, tail_place, data_start, mailbox_bytes, device_mailbox};
 ghost use Rattle.tcmu_model.specs.Regions.{RegionState, IsRegion, size_of, bytes_of, block_at, home, is_home, put_home, opening_region, cleared, grown_to, shrunk_to, with_block, overlaid};
+ghost use Rattle.std.specs.Borrow.{sem};
+ghost use Rattle.shm_region.specs.Places.{LendsHome, LendsBytesIn};
 
 use iovec_scatter::Block;
 use mailbox_bytes::fields::{put_bytes, put_u32, u32_at};
@@ -89,9 +91,30 @@ fn append(blocks: &mut Vec<Option<Block>>, block: Block) -> Result<(), NoMemory>
     }
 }
 
+/// The block in a place that is not lent.
+fn home_of(place: &mut Option<Block>) -> &mut Block
+    requires { IsSome place.old }
+    ensures* writes_back { sem 𝓛 (LendsHome place.entry result) }
+    ensures value { place.old ≡ Some result.now }
+{
+    match place {
+        Some(block) => block,
+        None => unreachable!(),
+    }
+}
+
+/// The bytes of such a block.
+fn bytes_in(place: &mut Option<Block>) -> &mut [u8]
+    requires { IsSome place.old }
+    ensures* writes_back { sem 𝓛 (LendsBytesIn place.entry result) }
+    ensures value { place.old ≡ Some result.now }
+{
+    home_of(place).as_mut_slice()
+}
+
 impl Region {
     ghost use Rattle.std.specs.Borrow.{sem};
-    ghost use Rattle.shm_region.specs.Lends.{LendsFront};
+    ghost use Rattle.shm_region.specs.Lends.{LendsFront, LendsBlock, LendsArea};
 
     /// A new region: the mailbox with the settings' values, an empty ring, zeros up to the data area, and no block.
     pub fn new(alloc: Global, settings: Settings) -> Result<Region, NoMemory>
@@ -200,6 +223,34 @@ impl Region {
         ensures { option_map (λ b. b.now) result ≡ block_at self.now block }
     {
         self.home(block as u64)
+    }
+
+    /// The bytes of a block to write over; None exactly where it is lent or not there.
+    pub fn area_mut(&mut self, block: u32) -> Option<&mut [u8]>
+        ensures* writes_back { sem 𝓛 (LendsArea self.entry block result) }
+        ensures value { option_map (λ b. b.now) result ≡ block_at self.old block }
+    {
+        if self.is_home(block) {
+            Some(self.bytes_at(block))
+        } else {
+            None
+        }
+    }
+
+    /// Whether a block is in the area and not lent.
+    fn is_home(&self, block: u32) -> bool
+        ensures { result ≡ is_home (slice_get self.now.blocks block) }
+    {
+        matches!(self.blocks.get(block as usize), Some(Some(_)))
+    }
+
+    /// The bytes of a block that is at home, to write over.
+    fn bytes_at(&mut self, block: u32) -> &mut [u8]
+        requires { is_home (slice_get self.old.blocks block) ≡ true }
+        ensures* writes_back { sem 𝓛 (LendsBlock self.entry block result) }
+        ensures value { block_at self.old block ≡ Some result.now }
+    {
+        bytes_in(&mut self.blocks[block as usize])
     }
 
     /// Drops the last blocks, lent or not, until there are at most `blocks`.

@@ -267,3 +267,31 @@ fn a_lent_block_reads_as_zeros_and_comes_back(rt: HostRuntime) -> Result<(), Fai
     assert!(rt; byte_of(&region, 0, 4095).is_none() && byte_of(&region, 1, 0).is_none());
     Ok(())
 }
+
+/// Fills a block that is at home.
+fn fill_block(region: &mut Region, block: u32, byte: u8) -> bool {
+    match region.area_mut(block) {
+        Some(bytes) => {
+            bytes.fill(byte);
+            true
+        }
+        None => false,
+    }
+}
+
+#[test]
+fn a_block_is_written_in_its_place(rt: HostRuntime) -> Result<(), Fail> {
+    let mut region = region(rt.alloc(), 1)?;
+    assert!(rt; fill_block(&mut region, 1, 7) && !fill_block(&mut region, 2, 7));
+    assert_eq!(rt;
+        read_at(&region, rt.alloc(), DATA_OFF + 4094)?,
+        [0, 0, 7, 7]
+    );
+    let first = Iov {
+        base: DATA_OFF,
+        len: 4096,
+    };
+    let (answer, _, _) = lent(&mut region, rt.alloc(), &[first])?;
+    assert!(rt; answer && !fill_block(&mut region, 0, 7));
+    Ok(())
+}

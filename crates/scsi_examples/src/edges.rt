@@ -1,0 +1,229 @@
+//! Each form of a command at its last range, one block past it, and with a count of 0; the limits of WRITE SAME and of UNMAP's lists.
+use crate::fixture::{
+    Case, Disk, FIELD, GOOD, LIST_FIELD, LIST_LENGTH, OPERATION_CODE, Outcome, RANGE, ask, disk,
+    filled, first_wrong, outcome,
+};
+use std::alloc::Global;
+use std::test::Fail;
+
+/// An UNMAP, its parameter list, and how it ends.
+type ListCase = (&'static str, &'static str, Outcome);
+
+// On 256 logical blocks: commands that answer bytes.
+const READS: [Case; 25] = [
+    ("080000000000", 0, 131_072, GOOD),
+    ("080000010000", 0, 131_072, RANGE),
+    ("08e000000100", 0, 512, GOOD),
+    ("2800000000ff00000100", 0, 512, GOOD),
+    ("28000000010000000100", 0, 512, RANGE),
+    ("a80000000101000000000000", 0, 512, RANGE),
+    ("88000000000000000100000000010000", 0, 512, RANGE),
+    ("88000000000000000101000000000000", 0, 512, RANGE),
+    ("03fe00001200", 0, 18, GOOD),
+    ("12fe00002400", 0, 36, GOOD),
+    ("120100002400", 0, 36, GOOD),
+    ("120180002400", 0, 36, GOOD),
+    ("1201b0004000", 0, 64, GOOD),
+    ("1a000a002400", 0, 36, GOOD),
+    ("1a003f002400", 0, 36, GOOD),
+    ("1a0048002400", 0, 36, FIELD),
+    ("1a0088002400", 0, 36, FIELD),
+    ("9ef00000000000000000000000200000", 0, 32, GOOD),
+    ("9e000000000000000000000000200000", 0, 32, FIELD),
+    ("a00001000000000000100000", 0, 16, GOOD),
+    ("a00002000000000000100000", 0, 16, GOOD),
+    ("040000000000", 0, 0, OPERATION_CODE),
+    ("5a003f00000000002400", 0, 36, OPERATION_CODE),
+    ("7f000000000000000000000000000000", 0, 0, OPERATION_CODE),
+    ("a30000000000000000100000", 0, 16, OPERATION_CODE),
+];
+
+// On 256 logical blocks: commands that take bytes, or none.
+const WRITES: [Case; 18] = [
+    ("0a0000000000", 131_072, 0, GOOD),
+    ("0a0000000000", 512, 0, FIELD),
+    ("0a0000010000", 131_072, 0, RANGE),
+    ("0ae000000100", 512, 0, GOOD),
+    ("2a00000000ff00000100", 512, 0, GOOD),
+    ("2a000000010000000100", 512, 0, RANGE),
+    ("aa0000000101000000000000", 0, 0, RANGE),
+    ("8a000000000000000100000000000000", 0, 0, GOOD),
+    ("3500000000ff00000100", 0, 0, GOOD),
+    ("35000000010000000100", 0, 0, RANGE),
+    ("35000000010100000000", 0, 0, RANGE),
+    ("910000000000000000ff000000010000", 0, 0, GOOD),
+    ("91000000000000000100000000010000", 0, 0, RANGE),
+    ("93000000000000000000000000010000", 1_024, 0, FIELD),
+    ("890000000000000000fe000000020000", 2_048, 0, GOOD),
+    ("89000000000000000101000000000000", 0, 0, RANGE),
+    ("89000000000000000000000000000000", 512, 0, FIELD),
+    ("5f000000000000001800", 24, 0, OPERATION_CODE),
+];
+
+// On 2048 logical blocks: the counts of WRITE SAME.
+const SAME: [Case; 8] = [
+    ("41000000000000080000", 512, 0, GOOD),
+    ("41000000000000080100", 512, 0, FIELD),
+    ("41000000000100080000", 512, 0, RANGE),
+    ("41000000000000000000", 512, 0, FIELD),
+    ("93000000000000000000000008000000", 512, 0, GOOD),
+    ("93000000000000000000000008010000", 512, 0, FIELD),
+    ("93000000000000000001000008000000", 512, 0, RANGE),
+    ("93000000000000000000000000000000", 512, 0, FIELD),
+];
+
+// On 64 logical blocks: the head of a list is 8 bytes, each descriptor 16.
+const LISTS: [ListCase; 17] = [
+    ("42000000000000000100", "00", LIST_LENGTH),
+    ("42000000000000000700", "00050000000000", LIST_LENGTH),
+    ("42000000000000000800", "0006000000000000", GOOD),
+    ("42000000000000000800", "0007000000000000", LIST_FIELD),
+    ("42000000000000000800", "0006000100000000", LIST_FIELD),
+    (
+        "42000000000000001700",
+        "0015000f00000000000000000000004100000001000000",
+        GOOD,
+    ),
+    (
+        "42000000000000001800",
+        "0016001000000000000000000000003f0000000100000000",
+        GOOD,
+    ),
+    (
+        "42000000000000001800",
+        "0016001000000000000000000000003f0000000200000000",
+        RANGE,
+    ),
+    (
+        "42000000000000001800",
+        "001600100000000000000000000000400000000000000000",
+        GOOD,
+    ),
+    (
+        "42000000000000001800",
+        "001600100000000000000000000000410000000000000000",
+        RANGE,
+    ),
+    (
+        "42000000000000001800",
+        "0017001000000000000000000000003f0000000100000000",
+        LIST_FIELD,
+    ),
+    (
+        "42000000000000001800",
+        "0016001100000000000000000000003f0000000100000000",
+        LIST_FIELD,
+    ),
+    (
+        "42000000000000001800",
+        "001600100000000000000000000000000000800000000000",
+        RANGE,
+    ),
+    (
+        "42000000000000001800",
+        "001600100000000000000000000000000000800100000000",
+        LIST_FIELD,
+    ),
+    (
+        "42000000000000001800",
+        "00160010000000000000000000000000ffffffff00000000",
+        LIST_FIELD,
+    ),
+    (
+        "42000000000000002800",
+        "00260020000000000000000000000000000040000000000000000000000000000000400000000000",
+        RANGE,
+    ),
+    (
+        "42000000000000002800",
+        "00260020000000000000000000000000000040000000000000000000000000000000400100000000",
+        LIST_FIELD,
+    ),
+];
+
+#[test]
+fn reads_and_pages_at_their_limits(rt: HostRuntime) -> Result<(), Fail> {
+    let alloc = rt.alloc();
+    let mut disk = disk(alloc, 256)?;
+    assert_eq!(rt; first_wrong(alloc, &mut disk, &READS)?, None);
+    Ok(())
+}
+
+#[test]
+fn writes_and_syncs_at_their_limits(rt: HostRuntime) -> Result<(), Fail> {
+    let alloc = rt.alloc();
+    let mut disk = disk(alloc, 256)?;
+    assert_eq!(rt; first_wrong(alloc, &mut disk, &WRITES)?, None);
+    Ok(())
+}
+
+#[test]
+fn write_same_is_of_2048_blocks_at_most(rt: HostRuntime) -> Result<(), Fail> {
+    let alloc = rt.alloc();
+    let mut disk = disk(alloc, 2_048)?;
+    assert_eq!(rt; first_wrong(alloc, &mut disk, &SAME)?, None);
+    Ok(())
+}
+
+/// How an UNMAP ends, its parameter list in hexadecimal digits.
+fn unmapped(alloc: Global, disk: &mut Disk, cdb: &str, list: &str) -> Result<Outcome, Fail> {
+    let list = hex::decode(alloc, list).ok().ok_or("hexadecimal digits")?;
+    Ok(outcome(&ask(alloc, disk, cdb, &list, 0)?))
+}
+
+#[test]
+fn an_unmap_list_is_checked_before_ranges(rt: HostRuntime) -> Result<(), Fail> {
+    let alloc = rt.alloc();
+    let mut disk = disk(alloc, 64)?;
+    for &(cdb, list, wanted) in &LISTS {
+        let answer = unmapped(alloc, &mut disk, cdb, list)?;
+        assert_eq!(rt; answer, wanted, "{cdb} {list}");
+    }
+    Ok(())
+}
+
+/// How an UNMAP with a list of a head and so many descriptors of no block ends.
+fn many_unmapped(alloc: Global, cdb: &str, head: &[u8], count: u16) -> Result<Outcome, Fail> {
+    let mut disk = disk(alloc, 64)?;
+    let mut list = filled(alloc, 0, 0)?;
+    list.extend_from_slice(head)?;
+    list.resize(8 + 16 * count as usize, 0)?;
+    Ok(outcome(&ask(alloc, &mut disk, cdb, &list, 0)?))
+}
+
+#[test]
+fn an_unmap_list_has_256_descriptors_at_most(rt: HostRuntime) -> Result<(), Fail> {
+    let alloc = rt.alloc();
+    let most = many_unmapped(alloc, "42000000000000100800", b"\x10\x06\x10\x00", 256)?;
+    assert_eq!(rt; most, GOOD);
+    let over = many_unmapped(alloc, "42000000000000101800", b"\x10\x16\x10\x10", 257)?;
+    assert_eq!(rt; over, LIST_FIELD);
+    Ok(())
+}
+
+/// Writes logical block 3; whether it is then read as it was written.
+fn write_one(alloc: Global, disk: &mut Disk) -> Result<bool, Fail> {
+    let sent = filled(alloc, 0x5a, 512)?;
+    let reply = ask(alloc, disk, "2a000000000300000100", &sent, 0)?;
+    Ok(outcome(&reply) == GOOD && is_written(alloc, disk)?)
+}
+
+/// Whether logical block 3 is as `write_one` wrote it.
+fn is_written(alloc: Global, disk: &mut Disk) -> Result<bool, Fail> {
+    let reply = ask(alloc, disk, "28000000000300000100", &[], 512)?;
+    let bytes = reply.payload.as_slice();
+    Ok(bytes.len() == 512 && bytes.iter().all(|byte| *byte == 0x5a))
+}
+
+#[test]
+fn an_unmap_out_of_range_changes_nothing(rt: HostRuntime) -> Result<(), Fail> {
+    let alloc = rt.alloc();
+    let mut disk = disk(alloc, 64)?;
+    assert!(rt; write_one(alloc, &mut disk)?);
+    let one_in_range =
+        "00260020000000000000000000000003000000010000000000000000000000400000000100000000";
+    let answer = unmapped(alloc, &mut disk, "42000000000000002800", one_in_range)?;
+    assert_eq!(rt; answer, RANGE);
+    assert!(rt; is_written(alloc, &mut disk)?);
+    Ok(())
+}
