@@ -1,9 +1,29 @@
-//! Each law called once, those of every handler at an engine over memory.
-use crate::*;
-use block_engine::Engine;
-use media::MemMedium;
+//! Each law called once, those of every handler at one that may do what the SCSI commands mean.
+ghost use Rattle.std.specs.Prelude.{[]};
+ghost use Rattle.tcmu_model.specs.Medium.{memory_state};
+ghost use Rattle.tcmu_model.specs.Scsi.{Serves};
 
-type MemoryEngine = Engine<MemMedium>;
+use crate::*;
+use handler_trait::{Handler, Request};
+use std::alloc::Global;
+use tcmu_types::{NoMemory, Reply};
+
+/// A handler that finds memory wanting whatever it is asked.
+struct Wanting;
+
+impl Handler for Wanting {
+    ghost name = { λ h. [] };
+
+    ghost medium = { λ h. memory_state 1 [] 0 };
+
+    ghost faults = { λ h. 0 };
+
+    ghost relation = { Serves };
+
+    fn handle(&mut self, _alloc: Global, _request: &Request) -> Result<Reply, NoMemory> {
+        Err(NoMemory)
+    }
+}
 
 #[test]
 fn pieces_are_read_again() {
@@ -31,10 +51,10 @@ fn lines_are_read_again() {
 
 #[test]
 fn journals_are_read_again() {
-    journal_law::<MemoryEngine>();
-    replay_law::<MemoryEngine>();
-    scenario_replay_law::<MemoryEngine>();
-    reading_law::<MemoryEngine, MemoryEngine>();
+    journal_law::<Wanting>();
+    replay_law::<Wanting>();
+    scenario_replay_law::<Wanting>();
+    reading_law::<Wanting, Wanting>();
     one_text_law();
     replay_in_memory_law();
     text_in_memory_law();
