@@ -1,0 +1,45 @@
+//! Files with one name, and media of them.
+use device_config::parse_config;
+use edge::{MemFiles, MemStore};
+use media::{MakeFault, Media, make_medium};
+use std::alloc::Global;
+use std::test::Fail;
+use tcmu_types::{Bytes, Serials};
+
+pub fn zeros(alloc: Global, count: usize) -> Result<Bytes, Fail> {
+    let mut bytes = Vec::new(alloc);
+    bytes.resize(count, 0)?;
+    Ok(Bytes::from_vec(bytes))
+}
+
+/// Files with `img` alone, of so many bytes of zeros, whose store fails at these calls.
+pub fn files_with(alloc: Global, size: usize, fails: &[u64]) -> Result<MemFiles, Fail> {
+    let store = MemStore::new(zeros(alloc, size)?, Serials::from_slice(alloc, fails)?);
+    let mut files = MemFiles::new(alloc, Serials::new(alloc));
+    files.add(alloc, b"img", store)?;
+    Ok(files)
+}
+
+fn make(
+    alloc: Global,
+    config: &str,
+    files: &mut MemFiles,
+) -> Result<Result<Media<MemStore>, MakeFault>, Fail> {
+    let config = parse_config(alloc, config).ok().ok_or("a config")?;
+    Ok(make_medium(alloc, &config, files))
+}
+
+pub fn made(alloc: Global, config: &str, files: &mut MemFiles) -> Result<Media<MemStore>, Fail> {
+    match make(alloc, config, files)? {
+        Ok(medium) => Ok(medium),
+        Err(_) => Err(Fail::new("a medium")),
+    }
+}
+
+pub fn fault_of(
+    alloc: Global,
+    config: &str,
+    files: &mut MemFiles,
+) -> Result<Option<MakeFault>, Fail> {
+    Ok(make(alloc, config, files)?.err())
+}
