@@ -1,38 +1,28 @@
 -- What is read of a scenario text can be served.
-use Rattle.std.proofs.Common.{◌≡◌, ℕ, ◌+◌, ◌≤◌, Bool, true, false, cond, not, nat_lt, List, [], ◌∷◌, ◌++◌, length, Result, Ok, Err, refl, arith, subst, length-append}
+use Rattle.std.proofs.Common.{◌≡◌, ℕ, ◌+◌, Bool, true, false, cond, nat_lt, List, [], ◌∷◌, ◌++◌, length, Result, Ok, Err, refl, subst}
 use Rattle.std.specs.List.{list_all}
-use Rattle.std.proofs.lemmas.Bool.{ltb-false}
 use Rattle.std.proofs.lemmas.List.Elements.{All-nil, All-push}
 use Rattle.tcmu_model.specs.Fields.{pieces}
 use Rattle.tcmu_model.specs.Words.{verb_of}
 use Rattle.tcmu_model.specs.Lines.{before_hash, fields_of, is_allowed}
 use Rattle.tcmu_model.specs.ScenarioData.{ScenarioData, DeviceLineData, LineData}
 use Rattle.tcmu_model.specs.Said.{Said, Opens, Adds, said_by}
-use Rattle.tcmu_model.specs.Scenario.{is_plain_memory, is_dump, with_line, with_device, with_rules, is_not_yet, with_said, with_fields, with_text, with_lines, nothing_yet, scenario_of, Bad}
+use Rattle.tcmu_model.specs.Scenario.{is_dump, with_line, with_device, with_rules, is_not_yet, with_said, with_fields, with_text, with_lines, nothing_yet, scenario_of, Bad}
 use Rattle.tcmu_model.specs.ScenarioRules.{IsServed}
 use Rattle.tcmu_model.specs.declared.faults.Why.{Why}
 use Rattle.tcmu_model.specs.declared.faults.Why.TheVariants as why
-use Rattle.tcmu_model.proofs.Readings.{same_ok, step, read_step, not_false, neither}
+use Rattle.tcmu_model.proofs.Readings.{same_ok, step, read_step}
 use Rattle.tcmu_model.proofs.ScenarioLaws.{kept_line, kept_device}
 
-device_served : (s t : ScenarioData) (d : DeviceLineData) → IsServed s → is_not_yet s (Opens d) ≡ false → with_device s d ≡ Ok t → IsServed t
-unfolding is_not_yet
-device_served s t d k n e =
-    let both = neither (not (is_plain_memory d.config)) (nat_lt 0 (length s.devices)) n in
-    let none : length s.devices ≤ 0 = ltb-false _ _ both.1 in
-    let served : IsServed (record s { devices = s.devices ++ d ∷ [] }) = record {
-      one = omega (arith, none, length-append s.devices (d ∷ []));
-      memory = All-push (λ x. is_plain_memory x.config ≡ true) s.devices d k.memory (not_false _ both.0);
-      no_dumps = k.no_dumps;
-    } in
+device_served : (s t : ScenarioData) (d : DeviceLineData) → IsServed s → with_device s d ≡ Ok t → IsServed t
+device_served s t d k e =
+    let served : IsServed (record s { devices = s.devices ++ d ∷ [] }) = record { no_dumps = k.no_dumps } in
     subst IsServed (kept_device s t d e).0 served
 
 line_served : (s t : ScenarioData) (l : LineData) → IsServed s → is_not_yet s (Adds l) ≡ false → with_line s l ≡ Ok t → IsServed t
 unfolding is_not_yet
 line_served s t l k n e =
     let served : IsServed (record s { lines = s.lines ++ l ∷ [] }) = record {
-      one = k.one;
-      memory = k.memory;
       no_dumps = All-push (λ x. is_dump x ≡ false) s.lines l k.no_dumps n;
     } in
     subst IsServed (kept_line s t l e).0 served
@@ -49,7 +39,7 @@ said_served s t said k e =
     parts false u e = (refl, same_ok u t e)
 
     by_rules : (said : Said) (u : ScenarioData) → is_not_yet s said ≡ false → with_rules s said ≡ Ok u → IsServed u
-    by_rules (Opens d) u n e = device_served s u d k n e
+    by_rules (Opens d) u n e = device_served s u d k e
     by_rules (Adds l) u n e = line_served s u l k n e
 
 fields_served : (s t : ScenarioData) (fields : List (List ℕ)) → IsServed s → with_fields s fields ≡ Ok t → IsServed t
@@ -77,7 +67,7 @@ lines_served n s t (text ∷ texts) k e = go (with_text s text) refl e (λ u. li
     go (Ok u) is e more = more u (text_served s u text k is) e
 
 nothing_served : IsServed nothing_yet
-nothing_served = record { one = omega arith; memory = All-nil _; no_dumps = All-nil _ }
+nothing_served = record { no_dumps = All-nil _ }
 
 pub scenario_served : (bytes : List ℕ) (s : ScenarioData) → scenario_of bytes ≡ Ok s → IsServed s
 unfolding scenario_of

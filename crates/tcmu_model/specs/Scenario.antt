@@ -81,9 +81,9 @@ with_rules s (Adds l) = with_line s l
 abbrev pub is_plain_memory : ConfigData → Bool
 is_plain_memory c = elim (c.kind) [ InMemory n ↦ not c.protected && (length c.fails == 0) | InFile name ↦ false ]
 
--- another medium than plain memory, a second device, and dumps
+-- dumps
 unfoldable pub is_not_yet : ScenarioData → Said → Bool
-is_not_yet s (Opens d) = not (is_plain_memory d.config) || nat_lt 0 (length s.devices)
+is_not_yet s (Opens d) = false
 is_not_yet s (Adds l) = is_dump l
 
 -- ---- lines

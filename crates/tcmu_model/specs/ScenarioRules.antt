@@ -9,7 +9,7 @@ use Rattle.tcmu_model.specs.Fields.{is_rising}
 use Rattle.tcmu_model.specs.Config.{ConfigData, MediumData, InMemory, InFile, is_file_name}
 use Rattle.tcmu_model.specs.ScenarioData.{DeviceLineData, LineWhat, Makes, Drains, Dumps, LineData, ScenarioData}
 use Rattle.tcmu_model.specs.Said.{same_file}
-use Rattle.tcmu_model.specs.Scenario.{is_dump, is_plain_memory, small_at, bytes_in, bytes_out, initiators}
+use Rattle.tcmu_model.specs.Scenario.{is_dump, small_at, bytes_in, bytes_out, initiators}
 use Rattle.tcmu_model.specs.Script.{InitLineData, ScriptData, is_admin}
 
 -- a number within its limits
@@ -88,10 +88,8 @@ pub record IsScenario (s : ScenarioData) : Type 0 where
   pub few_in : sum_by bytes_in s.lines ≤ 67108864
   pub few_out : sum_by bytes_out s.lines ≤ 67108864
 
--- What is served so far: at most one device, over plain memory, and no dumps.
+-- What is served so far: no dumps.
 pub record IsServed (s : ScenarioData) : Type 0 where
-  pub one : length s.devices ≤ 1
-  pub memory : All (λ d. is_plain_memory d.config ≡ true) s.devices
   pub no_dumps : All (λ l. is_dump l ≡ false) s.lines
 
 -- ==== scripts

@@ -16,7 +16,7 @@ pub fn scenario_law()
     ensures { (bytes : List ℕ) (s : ScenarioData) → scenario_of bytes ≡ Ok s → IsScenario s }
 {}
 
-/// What is read of a scenario text is served: it has at most one device, over plain memory, and no dumps.
+/// What is read of a scenario text is served: it has no dumps.
 pub fn served_law()
     ensures { (bytes : List ℕ) (s : ScenarioData) → scenario_of bytes ≡ Ok s → IsServed s }
 {}

@@ -1,9 +1,15 @@
 //! Names of devices and of initiators.
-ghost use Rattle.std.specs.Prelude.{◌≡◌, IfSome, is_some, IsTrue};
+ghost use Rattle.std.specs.Prelude.{◌≡◌, IfSome, is_some, IsTrue, bytes_eq, nat_eq};
 ghost use Rattle.std.specs.List.{list_all};
+ghost use Rattle.std.specs.Cmp.{partial_equiv_from_equiv};
+ghost use Rattle.std.specs.Cmp.Lexicographic.{nat_list_eq_equiv};
+ghost use Rattle.std.specs.Cmp.Rules.{hashing};
+ghost use Rattle.std.specs.Hash as fed;
+ghost use Rattle.std.proofs.Common.{rules};
 ghost use Rattle.tcmu_types.specs.Naming.{is_name, is_letter, is_name_byte};
 
 use arrayvec::ArrayVec;
+use std::hash::{Hash, Hasher};
 use std::marker::Model;
 
 /// A name: 1 to 16 characters of `a` to `z`, `0` to `9` and `_`, the first a letter.
@@ -21,6 +27,30 @@ impl Model for Name {
     ghost view = { λ a. a.characters.items };
 
     ghost invariant = { λ a. IsTrue (is_name a.characters.items) };
+}
+
+impl PartialEq for Name {
+    ghost eq = { bytes_eq };
+
+    ghost laws = { partial_equiv_from_equiv nat_list_eq_equiv };
+
+    fn eq(&self, other: &Name) -> bool {
+        self.as_bytes() == other.as_bytes()
+    }
+}
+
+impl Eq for Name {
+    ghost laws = { nat_list_eq_equiv };
+}
+
+impl Hash for Name {
+    ghost hash_input = { fed.slice fed.u8 };
+
+    ghost respects_eq = { Prim.search (hashing, rules) };
+
+    fn hash<H: Hasher>(&self, state: &mut H) {
+        self.as_bytes().hash(state);
+    }
 }
 
 fn is_letter(character: u8) -> bool

@@ -52,6 +52,8 @@ fn names_are_short_and_plain(rt: HostRuntime) -> Result<(), Fail> {
     }
     let name = Name::new("disk_0").ok_or("a name")?;
     assert_eq!(rt; name.copy().as_bytes(), b"disk_0".as_slice());
+    assert!(rt; name == name.copy());
+    assert!(rt; Name::new("disk_1").is_some_and(|other| name != other));
     Ok(())
 }
 

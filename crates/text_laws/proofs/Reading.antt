@@ -1,7 +1,7 @@
 -- The whole text of a replay is read line by line.
-use Rattle.std.proofs.Common.{◌≡◌, ℕ, zero, suc, ◌+◌, ◌≤◌, Bool, true, false, cond, ◌&&◌, not, nat_eq, IsTrue, List, [], ◌∷◌, ◌++◌, length, take, drop, All, get_or, Option, Some, None, Ok, Err, refl, sym, ap, subst, ◌∙◌, arith, codes, append_assoc, length-append}
+use Rattle.std.proofs.Common.{◌≡◌, ℕ, zero, suc, ◌+◌, ◌≤◌, Bool, true, false, cond, not, nat_eq, IsTrue, List, [], ◌∷◌, ◌++◌, length, take, drop, All, get_or, Option, Some, None, Ok, Err, refl, sym, ap, subst, ◌∙◌, arith, codes, append_assoc, length-append}
 use Rattle.std.specs.List.{list_any, flat_map, sum_by}
-use Rattle.std.proofs.lemmas.Bool.{and_parts, eq-eqb, eqb-true, le-ltb, cond-false}
+use Rattle.std.proofs.lemmas.Bool.{eq-eqb, le-ltb, cond-false}
 use Rattle.std.specs.Str.{bytes_eq}
 use Rattle.tcmu_model.specs.Text.{config_text}
 use Rattle.std.proofs.lemmas.List.{append-nil}
@@ -14,15 +14,14 @@ use Rattle.tcmu_types.specs.Events.{EventData, EntryData}
 use Rattle.tcmu_types.specs.Events as ev
 use Rattle.tcmu_model.specs.Fields.{pieces}
 use Rattle.tcmu_model.specs.Sound.{Every}
-use Rattle.tcmu_model.specs.Config.{ConfigData, MediumData, InMemory, InFile}
 use Rattle.tcmu_model.specs.ScenarioData.{DeviceLineData, LineData, ScenarioData, command_of}
-use Rattle.tcmu_model.specs.ScenarioRules.{IsDeviceLine, IsEvent, IsLine, IsScenario}
+use Rattle.tcmu_model.specs.ScenarioRules.{IsEvent, IsLine, IsScenario}
 use Rattle.tcmu_model.specs.Said.{device_at, Adds, Opens}
-use Rattle.tcmu_model.specs.Scenario.{bytes_in, bytes_out, with_name, with_initiator, initiators, initiators_from, breaks_dump, breaks_many, with_line, with_device, is_plain_memory, is_not_yet, with_said, with_text, with_lines, nothing_yet, scenario_of}
+use Rattle.tcmu_model.specs.Scenario.{bytes_in, bytes_out, with_name, with_initiator, initiators, initiators_from, breaks_dump, breaks_many, with_line, with_device, is_not_yet, with_said, with_text, with_lines, nothing_yet, scenario_of}
 use Rattle.tcmu_model.specs.Text.{spaced, line, device_spelling, device_text, event_text, answer_text, completion_text, event_line, entry_text, entries_text, end_text, hex_byte, sense_text, payload_text}
 use Rattle.tcmu_model.specs.Text.{command_text, data_fields, serials_text}
 use Rattle.std.specs.Fmt.{decimal}
-use Rattle.text_laws.specs.Configs.{is_other, FileLacks}
+use Rattle.text_laws.specs.Configs.{is_other}
 use Rattle.text_laws.specs.Devices.{IsSpelledDevice}
 use Rattle.text_laws.specs.Lines.{CarriesBytes, made}
 use Rattle.text_laws.specs.Replays.{lines_of, written}
@@ -169,9 +168,9 @@ adds : (l : DeviceLineData) (front : List LineData) (e : EventData) → Fits (fr
 unfolding with_said with_line breaks_dump is_not_yet
 adds l front e h = rw (keeps_many (front ++ made 0 e ∷ []) h) refl
 
-opens : (l : DeviceLineData) → is_plain_memory l.config ≡ true → with_said nothing_yet (Opens l) ≡ Ok (so_far l [])
+opens : (l : DeviceLineData) → with_said nothing_yet (Opens l) ≡ Ok (so_far l [])
 unfolding with_said with_device is_not_yet
-opens l plain = rw plain refl
+opens l = refl
 
 its_name : (l : DeviceLineData) (front : List LineData) → device_at (so_far l front) l.name ≡ Some 0
 its_name l front = rw (same_text l.name l.name refl) refl
@@ -220,39 +219,22 @@ reads_entries l (e ∷ es) done front tail n is h named fits k =
 
 -- ---- the device line
 
-plain_spelled : (c : ConfigData) → is_plain_memory c ≡ true → (FileLacks 58 c.kind) × (FileLacks 35 c.kind) × (c.fails ≡ [])
-plain_spelled c plain = go c.kind c.fails plain
-  where
-    nothing : (fs : List ℕ) → nat_eq (length fs) 0 ≡ true → fs ≡ []
-    nothing [] e = refl
-    nothing (f ∷ fs) e = absurd (omega (arith, eqb-true (length (f ∷ fs)) 0 e))
-
-    go : (m : MediumData) (fs : List ℕ) → elim m [ InMemory n ↦ not c.protected && nat_eq (length fs) 0 | InFile name ↦ false ] ≡ true → (FileLacks 58 m) × (FileLacks 35 m) × (fs ≡ [])
-    go (InMemory n) fs e = (tt, tt, nothing fs (and_parts (not c.protected) (nat_eq (length fs) 0) e).1)
-    go (InFile name) fs e = absurd (cc)
-
-is_spelled : (l : DeviceLineData) → IsDeviceLine l → is_plain_memory l.config ≡ true → IsSpelledDevice l
-is_spelled l is plain =
-    let p = plain_spelled l.config plain in
-    record { line = is; config = record { config = is.config; one = λ some. absurd (omega (arith, some, ap (λ (fs : List ℕ). length fs) p.2)); file = p.0 }; file = p.1 }
-
-pub reads_device : (l : DeviceLineData) (rest : List ℕ) (t : ScenarioData) → IsDeviceLine l → is_plain_memory l.config ≡ true → Reads (so_far l []) rest t → Reads nothing_yet (device_text l ++ rest) t
+pub reads_device : (l : DeviceLineData) (rest : List ℕ) (t : ScenarioData) → IsSpelledDevice l → Reads (so_far l []) rest t → Reads nothing_yet (device_text l ++ rest) t
 unfolding device_text
-reads_device l rest t is plain k =
-    let sp = is_spelled l is plain in
+reads_device l rest t sp k =
     let fs = l.name ∷ config_text l.config ∷ settings_list l.settings in
     let clean : Unbroken (device_spelling l) = subst Unbroken (sym (spelled l))
-    (unbroken.fields (codes "device") fs (record { bytes = refl }) (unbroken.words fs (name_word l.name is.name, (config_word l sp, settings_words l.settings is.settings)))) in
+    (unbroken.fields (codes "device") fs (record { bytes = refl }) (unbroken.words fs (name_word l.name sp.line.name, (config_word l sp, settings_words l.settings sp.line.settings)))) in
     reads_line nothing_yet (so_far l []) t (device_spelling l ++ codes " # ready") rest (unbroken.joins (device_spelling l) (codes " # ready") clean (record { bytes = refl }))
-    (devices_again nothing_yet l (codes "ready") sp (record { name = refl; file = refl }) ∙ opens l plain) k
+    (devices_again nothing_yet l (codes "ready") sp (record { name = refl; file = refl }) ∙ opens l) k
 
-pub reads_whole : (l : DeviceLineData) (es : List EntryData) (done : List DoneData) (k : ℕ) → is_plain_memory l.config ≡ true → IsScenario (written l es) → Every (λ e. CarriesBytes e.event) es → Every Named done
+pub reads_whole : (l : DeviceLineData) (es : List EntryData) (done : List DoneData) (k : ℕ) → IsSpelledDevice l → IsScenario (written l es) → Every (λ e. CarriesBytes e.event) es → Every Named done
     → length (device_text l ++ entries_text l.name l.settings.qfull es done ++ end_text l.name k) ≤ 4194304
     → scenario_of (device_text l ++ entries_text l.name l.settings.qfull es done ++ end_text l.name k) ≡ Ok (written l es)
 unfolding scenario_of
-reads_whole l es done k plain is h named size =
-    let line_is : IsDeviceLine l = All-head IsDeviceLine l [] is.devices in
-    let entries = reads_entries l es done [] (end_text l.name k) line_is.name is.lines h named (fits_whole (written l es) is) (reads_end (written l es) l.name k line_is.name) in
+reads_whole l es done k sp is h named size =
+    let name = sp.line.name in
+    let entries = reads_entries l es done [] (end_text l.name k) name is.lines h named (fits_whole (written l es) is) (reads_end (written l es) l.name k name) in
     cond-false _ _ _ (le-ltb _ _ size)
     ∙ ap (λ text. with_lines 1 nothing_yet (pieces 10 text)) (append_assoc (device_text l) (entries_text l.name l.settings.qfull es done) (end_text l.name k))
-    ∙ reads_device l (entries_text l.name l.settings.qfull es done ++ end_text l.name k) (written l es) line_is plain entries 1
+    ∙ reads_device l (entries_text l.name l.settings.qfull es done ++ end_text l.name k) (written l es) sp entries 1

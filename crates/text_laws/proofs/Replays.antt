@@ -83,12 +83,12 @@ made_again R d d' [] r h none = (subst (λ (x : Device). drain_event x.state ≡
 made_again R d d' (e ∷ es) r h none = (e ∷ [], es, r.0, refl, (e, h.0, refl, r.1, refl), made_again R r.0 d' es r.2 h.1 none)
 
 pub replayed_again : (R : HandlerRelation) → IsReplayedAgain R
-replayed_again R l medium lines text plain is keeps =
+replayed_again R l medium lines text sp is keeps =
     let opened = opening l.settings l.name medium in
     let named = log_named R l.settings l.name medium is.entries is.end is.legal in
     let ended = replays_are R opened is.end lines is.entries is.replays in
     let read : scenario_of text ≡ Ok (written l is.entries) = ap scenario_of is.whole
-    ∙ reads_whole l is.entries is.end.state.log (open_count is.end.state) plain keeps.scenario keeps.bytes named (subst (λ (t : List ℕ). length t ≤ 4194304) is.whole keeps.size) in
+    ∙ reads_whole l is.entries is.end.state.log (open_count is.end.state) sp keeps.scenario keeps.bytes named (subst (λ (t : List ℕ). length t ≤ 4194304) is.whole keeps.size) in
     (read, record { entries = is.entries; end = is.end; replays = made_again R opened is.end is.entries is.legal ended.entries ended.rest; legal = is.legal; whole = is.whole })
 
 -- ---- one text has one device and one list of events
@@ -105,8 +105,8 @@ first_or l [] = l
 first_or l (k ∷ ks) = k
 
 pub events_told : (R : HandlerRelation) → TellsEvents R
-events_told R l k m n ls ks text plain plain' is it keeps keeps' =
-    let read = (replayed_again R l m ls text plain is keeps).0 in
-    let read' = (replayed_again R k n ks text plain' it keeps').0 in
+events_told R l k m n ls ks text sp sp' is it keeps keeps' =
+    let read = (replayed_again R l m ls text sp is keeps).0 in
+    let read' = (replayed_again R k n ks text sp' it keeps').0 in
     let same : written l is.entries ≡ written k it.entries = same_ok (written l is.entries) (written k it.entries) (sym read ∙ read') in
     (ap (λ (s : ScenarioData). first_or l s.devices) same, sym (events_are is.entries) ∙ ap (λ (s : ScenarioData). map event_of s.lines) same ∙ events_are it.entries)

@@ -1,6 +1,5 @@
 -- The text of the replay of a scenario that is read.
-use Rattle.std.proofs.Common.{◌≡◌, ℕ, Bool, true, false, cond, List, [], ◌∷◌, map, All, Option, Some, None, sym, subst}
-use Rattle.std.proofs.lemmas.List.Elements.{All-head}
+use Rattle.std.proofs.Common.{◌≡◌, ℕ, Bool, true, false, cond, List, [], ◌∷◌, map, Option, Some, None, sym, subst}
 use Rattle.tcmu_types.specs.Events.{EventData, EntryData}
 use Rattle.tcmu_types.specs.Events as ev
 use Rattle.tcmu_types.specs.declared.stat.Todo.{Todo}
@@ -9,12 +8,10 @@ use Rattle.tcmu_model.specs.Steps.{HandlerRelation}
 use Rattle.tcmu_model.specs.Drain.{chosen, drain_event, todo_of, Drains}
 use Rattle.tcmu_model.specs.ScenarioData.{DeviceLineData, LineWhat, LineData}
 use Rattle.tcmu_model.specs.ScenarioData as line
-use Rattle.tcmu_model.specs.Scenario.{is_plain_memory}
 use Rattle.tcmu_model.specs.Replay.{Plays, Replays}
 use Rattle.tcmu_model.specs.Sound.{Every}
 use Rattle.tcmu_model.proofs.Everies.{every-append, every-map}
 use Rattle.tcmu_model.proofs.Readings.{same_some}
-use Rattle.tcmu_model.proofs.ServedLaws.{scenario_served}
 use Rattle.text_laws.specs.Lines.{CarriesBytes}
 use Rattle.text_laws.specs.Carried.{IsCarriedWhat}
 use Rattle.text_laws.specs.Replays.{IsScenarioAgain}
@@ -56,9 +53,7 @@ replays_carry R d d' (what ∷ more) es k h =
     subst (Every Carries) (sym h.3) (every-append Carries h.0 h.1 (plays_carry R d h.2 what h.0 k.0 h.4) (replays_carry R h.2 d' more h.1 k.1 h.5))
 
 pub scenario_again : (R : HandlerRelation) → IsScenarioAgain R
-scenario_again R bytes text s l medium read one is size limits =
-    let served = scenario_served bytes s read in
-    let plain : is_plain_memory l.config ≡ true = All-head (λ d. is_plain_memory d.config ≡ true) l [] (subst (All (λ d. is_plain_memory d.config ≡ true)) one served.memory) in
+scenario_again R bytes text s l medium read one sp is size limits =
     let whats = every-map (λ (x : LineData). x.what) (λ (x : LineData). IsCarriedWhat x.what) IsCarriedWhat s.lines (λ x k. k) (carried_read bytes s read) in
     let carries = replays_carry R (opening l.settings l.name medium) is.end (map (λ (x : LineData). x.what) s.lines) is.entries whats is.replays in
-    replayed_again R l medium (map (λ (x : LineData). x.what) s.lines) text plain is (record { size = size; scenario = limits; bytes = carries })
+    replayed_again R l medium (map (λ (x : LineData). x.what) s.lines) text sp is (record { size = size; scenario = limits; bytes = carries })

@@ -1,5 +1,5 @@
--- The law of replay: the text of a replay over memory, without dumps, is a scenario, whose own replay has the same text.
-use Rattle.std.specs.Prelude.{◌≡◌, ℕ, ◌≤◌, true, List, [], ◌∷◌, length, map, Ok}
+-- The law of replay: the text of a replay of one device, without dumps, is a scenario, whose own replay has the same text.
+use Rattle.std.specs.Prelude.{◌≡◌, ℕ, ◌≤◌, List, [], ◌∷◌, length, map, Ok}
 use Rattle.tcmu_types.specs.Events.{EntryData}
 use Rattle.tcmu_model.specs.MediumState.{MediumState}
 use Rattle.tcmu_model.specs.Device.{opening}
@@ -7,8 +7,9 @@ use Rattle.tcmu_model.specs.Steps.{HandlerRelation}
 use Rattle.tcmu_model.specs.Sound.{Every}
 use Rattle.tcmu_model.specs.ScenarioData.{DeviceLineData, LineData, LineWhat, ScenarioData}
 use Rattle.tcmu_model.specs.ScenarioRules.{IsScenario}
-use Rattle.tcmu_model.specs.Scenario.{is_plain_memory, scenario_of}
+use Rattle.tcmu_model.specs.Scenario.{scenario_of}
 use Rattle.tcmu_model.specs.Replay.{IsReplayText}
+use Rattle.text_laws.specs.Devices.{IsSpelledDevice}
 use Rattle.text_laws.specs.Lines.{CarriesBytes, made}
 
 -- the lines that make the events of these entries
@@ -30,31 +31,32 @@ pub record KeepsLimits (l : DeviceLineData) (es : List EntryData) (text : List �
 abbrev pub asks : ScenarioData → List LineWhat
 asks s = map (λ l. l.what) s.lines
 
--- Over any handler: the text of a replay of a device over memory that keeps the limits is a scenario, that of the replay's events, and
--- it is the text of a replay of that scenario.
+-- Over any handler: the text of a replay of a device that has a line, where it keeps the limits, is a scenario, that of the replay's
+-- events, and it is the text of a replay of that scenario.
 abbrev pub IsReplayedAgain : HandlerRelation → Type 0
 IsReplayedAgain R =
     (l : DeviceLineData) (medium : MediumState) (lines : List LineWhat) (text : List ℕ)
-    → is_plain_memory l.config ≡ true
+    → IsSpelledDevice l
     → (is : IsReplayText R l (opening l.settings l.name medium) lines text)
     → KeepsLimits l is.entries text
     → (scenario_of text ≡ Ok (written l is.entries)) × IsReplayText R l (opening l.settings l.name medium) (asks (written l is.entries)) text
 
--- Two replays over memory that keep the limits and have one text are of one device, and their events are the same in the same order.
+-- Two replays of devices that have lines, where both keep the limits and have one text, are of one device, and their events are the
+-- same in the same order.
 abbrev pub TellsEvents : HandlerRelation → Type 0
 TellsEvents R =
     (l k : DeviceLineData) (m n : MediumState) (ls ks : List LineWhat) (text : List ℕ)
-    → is_plain_memory l.config ≡ true → is_plain_memory k.config ≡ true
+    → IsSpelledDevice l → IsSpelledDevice k
     → (is : IsReplayText R l (opening l.settings l.name m) ls text) → (it : IsReplayText R k (opening k.settings k.name n) ks text)
     → KeepsLimits l is.entries text → KeepsLimits k it.entries text
     → (l ≡ k) × (map (λ e. e.event) is.entries ≡ map (λ e. e.event) it.entries)
 
--- The same of every scenario that is read: the text of its replay is a scenario where the text is short enough and its events are
+-- The same of every scenario of one device that is read: the text of its replay is a scenario where the text is short enough and its events are
 -- within the limits of a scenario.
 abbrev pub IsScenarioAgain : HandlerRelation → Type 0
 IsScenarioAgain R =
     (bytes text : List ℕ) (s : ScenarioData) (l : DeviceLineData) (medium : MediumState)
-    → scenario_of bytes ≡ Ok s → s.devices ≡ l ∷ []
+    → scenario_of bytes ≡ Ok s → s.devices ≡ l ∷ [] → IsSpelledDevice l
     → (is : IsReplayText R l (opening l.settings l.name medium) (asks s) text)
     → length text ≤ 4194304 → IsScenario (written l is.entries)
     → (scenario_of text ≡ Ok (written l is.entries)) × IsReplayText R l (opening l.settings l.name medium) (asks (written l is.entries)) text

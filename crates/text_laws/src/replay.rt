@@ -3,8 +3,8 @@ ghost use Rattle.tcmu_model.specs.Scsi.{Serves};
 ghost use Rattle.text_laws.specs.Carried.{CarriedRead};
 ghost use Rattle.text_laws.specs.Replays.{IsReplayedAgain, TellsEvents, IsScenarioAgain};
 
-/// Where the text of a replay without dumps over memory keeps the limits of scenarios, it is a scenario, and it is the text of that
-/// scenario's replay.
+/// Where the text of a replay without dumps, of one device that has a line, keeps the limits of scenarios, it is a scenario, and it
+/// is the text of that scenario's replay.
 pub fn replay_law()
     ensures { IsReplayedAgain Serves }
 {}
@@ -19,7 +19,7 @@ pub fn carried_law()
     ensures { CarriedRead }
 {}
 
-/// The text of the replay of any scenario that is read is a scenario, and the text of that scenario's replay, where it is at most
+/// The text of the replay of any scenario of one device that is read is a scenario, and the text of that scenario's replay, where it is at most
 /// 4,194,304 bytes and its events keep the limits of scenarios.
 pub fn scenario_replay_law()
     ensures { IsScenarioAgain Serves }
