@@ -1,5 +1,5 @@
 -- The data blocks of each command, as a journal gives them: the least free numbers, when the command is laid.
-use Rattle.std.specs.Prelude.{◌≡◌, ℕ, suc, zero, ◌+◌, ◌||◌, ◌==◌, Bool, List, [], ◌∷◌, ◌++◌, take, drop, Option, Some, None, if◌then◌else◌}
+use Rattle.std.specs.Prelude.{◌≡◌, ℕ, suc, zero, ◌+◌, ◌||◌, ◌==◌, Bool, List, [], ◌∷◌, ◌++◌, take, drop, Option, Some, None, slice_get, if◌then◌else◌}
 use Rattle.std.specs.List.{flat_map, list_any, filter}
 use Rattle.tcmu_types.specs.Data.{CommandData}
 use Rattle.tcmu_types.specs.Events.{EventData, AnswerData, EntryData}
@@ -37,6 +37,10 @@ free_from held n (suc k) = if is_among held n then free_from held (n + 1) k else
 -- the n least free numbers below the limit, rising
 abbrev pub least_free : ℕ → List ℕ → ℕ → List ℕ
 least_free limit held n = take n (free_from held 0 limit)
+
+-- the least of them
+abbrev pub first_free : ℕ → List ℕ → Option ℕ
+first_free limit held = slice_get (free_from held 0 limit) 0
 
 -- a command is laid: it gets the blocks that it needs
 abbrev pub with_taken : DeviceState → List Taken → ℕ → CommandData → List Taken

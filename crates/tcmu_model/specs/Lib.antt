@@ -35,3 +35,4 @@ pub mod Examples
 pub mod Regions
 pub mod Pending
 pub mod Journals
+pub mod Load

@@ -1,6 +1,6 @@
 -- The command ring: all items that were laid in it since the last reset, and three places in their list, up to which they are
 -- cleared, published and dispatched. No offset is kept: each is a sum of lengths (the kernel's tcmu-design, "Command ring").
-use Rattle.std.specs.Prelude.{ℕ, ◌+◌, ◌-◌, ◌%◌, ◌==◌, nat_lt, nat_le, Bool, true, false, List, [], ◌∷◌, ◌++◌, take, drop, if◌then◌else◌}
+use Rattle.std.specs.Prelude.{ℕ, ◌+◌, ◌-◌, ◌%◌, ◌==◌, nat_lt, nat_le, Bool, true, false, List, [], ◌∷◌, ◌++◌, take, drop, map, if◌then◌else◌}
 use Rattle.std.specs.List.{sum_by, count_by, prefix_len, flat_map}
 use Rattle.tcmu_types.specs.Data.{CommandData}
 
@@ -24,6 +24,14 @@ pub record RingState : Type 0 where
 
 abbrev pub empty_ring : ℕ → RingState
 empty_ring size = record { size = size; laid = []; cleared = 0; published = 0; dispatched = 0 }
+
+-- items of these lengths; for the ring's room they are as good as padding
+abbrev pub items_of : List ℕ → List Item
+items_of lens = map (λ n. record { len = n; laid = Pad }) lens
+
+-- a ring of a size in which items of these lengths were laid, of which so many are cleared
+abbrev pub ring_of : ℕ → List ℕ → ℕ → RingState
+ring_of size lens cleared = record { size = size; laid = items_of lens; cleared = cleared; published = cleared; dispatched = cleared }
 
 -- ==== room
 

@@ -14,6 +14,7 @@ mod laws_states;
 mod lengths;
 mod mailbox;
 mod op;
+pub mod plain;
 mod state;
 #[cfg(test)]
 mod tests;
@@ -35,5 +36,6 @@ pub use op::{CdbFault, Extent, Op};
 pub use state::CommandState;
 pub use words::{Subtype, Verb};
 pub use worked::{
-    expiry_examples, note_examples, order_examples, reset_examples, room_examples, waiting_examples,
+    expiry_examples, load_examples, note_examples, order_examples, reset_examples, room_examples,
+    waiting_examples,
 };

@@ -51,3 +51,56 @@ fn lengths_of_notes(rt: HostRuntime) {
         assert_eq!(rt; tmr_length(count), length);
     }
 }
+
+#[test]
+fn room_of_a_ring(rt: HostRuntime) {
+    let full = [128; 31];
+    assert_eq!(rt;
+        (plain::head(4096, &full), plain::used(&full, 0)),
+        (3968, 3968)
+    );
+    assert_eq!(rt;
+        (plain::need(4096, &full, 128), plain::free(4096, &full, 0)),
+        (128, 127)
+    );
+    assert!(rt; !plain::fits(4096, &full, 0, 128) && plain::fits(4096, &full, 1, 128));
+}
+
+#[test]
+fn padding_of_an_item(rt: HostRuntime) {
+    let turned = [144; 28];
+    assert_eq!(rt;
+        (plain::head(4096, &turned), plain::pad(4096, &turned, 144)),
+        (4032, 64)
+    );
+    assert_eq!(rt;
+        (
+            plain::pad(4096, &turned, 64),
+            plain::need(4096, &turned, 144)
+        ),
+        (0, 208)
+    );
+    let nearly = [2048, 2040];
+    assert_eq!(rt;
+        (
+            plain::pad(4096, &nearly, 120),
+            plain::need(4096, &nearly, 120)
+        ),
+        (8, 128)
+    );
+    assert_eq!(rt; plain::free(4096, &nearly, 0), 7);
+    assert!(rt; !plain::fits(4096, &nearly, 0, 120));
+}
+
+#[test]
+fn free_blocks(rt: HostRuntime) {
+    assert!(rt; plain::is_held(&[2, 0], 2) && !plain::is_held(&[2, 0], 1));
+    for (held, limit, free) in [
+        ([0, 1], 4, Some(2)),
+        ([0, 2], 4, Some(1)),
+        ([1, 2], 4, Some(0)),
+        ([0, 1], 2, None),
+    ] {
+        assert_eq!(rt; plain::first_free(&held, limit), free);
+    }
+}
