@@ -1,7 +1,7 @@
 //! Reading a whole text, line by line.
 ghost use Rattle.std.specs.Prelude.{◌≡◌, ◌<◌, ◌||◌, length, IfOk};
 ghost use Rattle.tcmu_model.specs.Lines.{fields_of};
-ghost use Rattle.tcmu_model.specs.Scenario.{is_plain_memory, is_not_yet, with_rules, with_said, with_fields, with_text, scenario_of};
+ghost use Rattle.tcmu_model.specs.Scenario.{is_not_yet, with_rules, with_said, with_fields, with_text, scenario_of};
 ghost use Rattle.tcmu_model.specs.ScenarioRules.{IsScenario};
 ghost use Rattle.scenario_text.specs.Giving.{LineGives, Gives, HasDevice, said_data};
 
@@ -11,26 +11,15 @@ use crate::lines::{all_allowed, before_hash, next_field, verb_of};
 use crate::said::{SaidLine, said_by};
 use crate::so_far::SoFar;
 use device_config::fields::cut;
-use device_config::{Config, MediumKind};
 use std::alloc::Global;
 use tcmu_model::Why;
-
-/// The subtype `mem`.
-fn is_plain_memory(config: &Config) -> bool
-    ensures { result ≡ is_plain_memory config.now }
-{
-    match &config.kind {
-        MediumKind::Memory(_) => !config.protected && config.fails.is_empty(),
-        MediumKind::File(_) => false,
-    }
-}
 
 #[tactic(auto, unfolding(tcmu_model::specs::Scenario::is_not_yet))]
 fn is_not_yet(so_far: &SoFar, said: &SaidLine) -> bool
     ensures { result ≡ is_not_yet so_far.now (said_data said.now) }
 {
     match said {
-        SaidLine::Opens(device) => !is_plain_memory(&device.config) || 0 < so_far.device_count(),
+        SaidLine::Opens(_) => false,
         SaidLine::Adds(line) => is_dump(line),
     }
 }

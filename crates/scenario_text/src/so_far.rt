@@ -97,12 +97,6 @@ impl SoFar {
         any_in_file(self.devices.as_slice(), kind)
     }
 
-    pub fn device_count(&self) -> usize
-        ensures { result ≡ length self.now.devices }
-    {
-        self.devices.len()
-    }
-
     pub fn into_scenario(self) -> Scenario
         ensures { result ≡ self }
     {

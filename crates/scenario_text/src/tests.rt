@@ -133,15 +133,15 @@ fn device_lines(rt: HostRuntime) -> Result<(), Fail> {
         ),
         (
             "tcm-user/0/d0/ro/mem/64 ring=4096 blocks=16 flags=ooo timeout=30",
-            Some(Why::NotYet),
+            None,
         ),
         (
             "tcm-user/0/d0/fail/1+2/mem/64 ring=4096 blocks=16 flags=ooo timeout=30",
-            Some(Why::NotYet),
+            None,
         ),
         (
             "tcm-user/0/d0/file/a/b ring=4096 blocks=16 flags=ooo timeout=30",
-            Some(Why::NotYet),
+            None,
         ),
     ] {
         let alone = format!(in alloc; "device d0 {fields}")?;
@@ -241,7 +241,7 @@ fn other_lines(rt: HostRuntime) -> Result<(), Fail> {
         ),
         (
             "device d1 tcm-user/0/d1/ro/file/x ring=4096 blocks=16 flags=ooo timeout=30",
-            Some(Why::NotYet),
+            None,
         ),
     ] {
         let text = format!(in alloc; "{DEVICE}\n{line}")?;
