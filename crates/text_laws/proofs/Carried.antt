@@ -1,30 +1,37 @@
 -- What is read of a scenario carries bytes, and tags of 32 bits.
-use Rattle.std.proofs.Common.{◌≡◌, ℕ, zero, suc, ◌+◌, ◌-◌, ◌*◌, ◌<◌, ◌≤◌, Bool, true, false, cond, ◌&&◌, nat_eq, nat_lt, nat_le, List, [], ◌∷◌, ◌++◌, length, replicate, drop, get_or, Option, Some, None, Result, Ok, Err, refl, sym, subst, arith}
+use Rattle.std.proofs.Common.{◌≡◌, ℕ, zero, suc, ◌+◌, ◌-◌, ◌*◌, ◌<◌, ◌≤◌, Bool, true, false, cond, ◌&&◌, nat_eq, nat_lt, nat_le, List, [], ◌∷◌, ◌++◌, length, replicate, drop, get_or, Option, Some, None, Result, Ok, Err, All, refl, sym, subst, arith, codes}
 use Rattle.std.specs.List.{list_all, flat_map}
 use Rattle.std.specs.Option.{option_map, option_and_then, ok_or}
 use Rattle.std.proofs.lemmas.Bool.{and_parts, leb-true}
+use Rattle.std.proofs.lemmas.List.Elements.{All-head, All-tail}
 use Rattle.tcmu_types.specs.Rules.{is_directed}
 use Rattle.tcmu_types.specs.Data.{CommandData}
 use Rattle.tcmu_types.specs.Events.{EventData}
 use Rattle.tcmu_types.specs.Events as ev
 use Rattle.tcmu_model.specs.Reading.{each}
-use Rattle.tcmu_model.specs.Fields.{is_digit, number_of, hex_value, hex_pair, bytes_of_hex, is_cdb, cdb_of, run_of, runs_of, only_if, pieces, name_of, serials_of}
+use Rattle.tcmu_model.specs.Fields.{is_digit, number_of, after_word, hex_value, hex_pair, bytes_of_hex, is_cdb, cdb_of, run_of, runs_of, only_if, pieces, name_of, serials_of}
 use Rattle.tcmu_model.specs.Words.{verb_of}
-use Rattle.tcmu_model.specs.Lines.{before_hash, fields_of, is_allowed, one_field, three_fields, submit_fields, device_fields, PayloadField, NoPayload, InBytes, OutRuns}
-use Rattle.tcmu_model.specs.ScenarioData.{LineData, LineWhat, Makes, Drains, Dumps, ScenarioData}
-use Rattle.tcmu_model.specs.Said.{Said, Opens, Adds, device_at, new_name, device_config, settings_of, payload_of, device_line, submit_line, plain_line, number_at, number_line, tmr_line, said_by}
+use Rattle.tcmu_model.specs.Lines.{before_hash, fields_of, is_allowed, one_field, three_fields, submit_fields, device_fields, DeviceFields, LastFields, last_fields, PayloadField, NoPayload, InBytes, OutRuns}
+use Rattle.tcmu_model.specs.Config.{ConfigData, config_of}
+use Rattle.tcmu_model.specs.ScenarioData.{DeviceLineData, LineData, LineWhat, Makes, Drains, Dumps, ScenarioData}
+use Rattle.tcmu_model.specs.ScenarioRules.{IsDeviceLine}
+use Rattle.tcmu_model.specs.Said.{Said, Opens, Adds, device_at, new_name, device_config, is_own, settings_of, payload_of, device_line, submit_line, plain_line, number_at, number_line, tmr_line, said_by}
 use Rattle.tcmu_model.specs.Scenario.{with_rules, is_not_yet, with_said, with_fields, with_text, with_lines, nothing_yet, scenario_of, Bad}
 use Rattle.tcmu_model.specs.Sound.{Every}
+use Rattle.tcmu_model.specs.declared.faults.ConfigFault.{ConfigFault}
 use Rattle.tcmu_model.specs.declared.faults.Why.{Why}
 use Rattle.tcmu_model.specs.declared.faults.Why.TheVariants as why
 use Rattle.tcmu_model.specs.declared.words.Verb.{Verb}
 use Rattle.tcmu_model.specs.declared.words.Verb.TheVariants as verb
 use Rattle.tcmu_model.proofs.Readings.{same_some, same_ok, step, read_step, both, mapped, passed, number_within}
 use Rattle.tcmu_model.proofs.Everies.{every-append}
-use Rattle.tcmu_model.proofs.ScenarioLaws.{kept_line, kept_device}
+use Rattle.tcmu_model.proofs.ScenarioLaws.{kept_line, kept_device, scenario_is}
 use Rattle.text_laws.specs.Bytes.{AreBytes}
 use Rattle.text_laws.specs.Lines.{IsCarried, CarriesBytes}
-use Rattle.text_laws.specs.Carried.{IsCarriedWhat, CarriedRead}
+use Rattle.text_laws.specs.Configs.{FileLacks}
+use Rattle.text_laws.specs.Devices.{IsSpelledDevice}
+use Rattle.text_laws.specs.Carried.{IsCarriedWhat, CarriedRead, SpelledRead}
+use Rattle.text_laws.proofs.Spelled.{Lacks, config_legible, config_lacks, fields_lack}
 
 -- ---- bytes
 
@@ -95,8 +102,12 @@ runs_bytes text bytes e =
 
 -- ---- lines
 
+-- a config that has a text in a scenario
+abbrev IsLegible : ConfigData → Type 0
+IsLegible c = (0 < length c.fails → c.protected ≡ false) × FileLacks 58 c.kind × FileLacks 35 c.kind
+
 abbrev IsCarriedSaid : Said → Type 0
-IsCarriedSaid (Opens d) = Unit {0}
+IsCarriedSaid (Opens d) = IsLegible d.config
 IsCarriedSaid (Adds l) = IsCarriedWhat l.what
 
 payload_bytes : (p : PayloadField) (x : List ℕ × ℕ) → payload_of p ≡ Ok x → AreBytes x.0
@@ -128,14 +139,47 @@ submit_carries s fields said e =
     let carried : IsCarried c = record { tag = w.most; cdb = cdb_bytes f.0.cdb cdb.0 cdb.1; sent = payload_bytes f.0.payload payload.0 payload.1 } in
     subst IsCarriedSaid (same_ok _ said command.2) (subst IsCarried way.1 carried)
 
-device_carries : (s : ScenarioData) (fields : List (List ℕ)) (said : Said) → device_line s fields ≡ Ok said → IsCarriedSaid said
+config_carries : (s : ScenarioData) (name text : List ℕ) (c : ConfigData) → Lacks 35 text → device_config s name text ≡ Some c → IsLegible c
+unfolding device_config
+config_carries s name text c clean e = go (config_of text) refl e
+  where
+    go : (r : Result ConfigData ConfigFault) → config_of text ≡ r → ◌≡◌ {A = Option ConfigData} (elim r [ Ok d ↦ only_if (is_own s name) d | Err f ↦ None ]) (Some c) → IsLegible c
+    go (Err f) is e = absurd (cc)
+    go (Ok d) is e =
+        let same = passed (is_own s name) d c e in
+        let legible = config_legible text d is in
+        subst IsLegible same.1 (legible.1, legible.0, config_lacks 35 text d clean is)
+
+config_field : (fields : List (List ℕ)) (f : DeviceFields) → Every (Lacks 35) fields → device_fields fields ≡ Some f → Lacks 35 f.config
+unfolding device_fields
+config_field (name ∷ config ∷ ring ∷ blocks ∷ flags ∷ timeout ∷ more) f clean e =
+    go (after_word (codes "ring=") ring) (after_word (codes "blocks=") blocks) (after_word (codes "flags=") flags) (after_word (codes "timeout=") timeout) (last_fields more) e
+  where
+    read : List ℕ → List ℕ → List ℕ → List ℕ → LastFields → DeviceFields
+    read r b g t l = record { name = name; config = config; ring = r; blocks = b; flags = g; timeout = t; last = l }
+
+    go : (r b g t : Option (List ℕ)) (l : Option LastFields) → option_and_then (λ r. option_and_then (λ b. option_and_then (λ g. option_and_then (λ t. option_map (λ l. read r b g t l) l) t) g) b) r ≡ Some f → Lacks 35 f.config
+    go (Some r) (Some b) (Some g) (Some t) (Some l) e = subst (λ (x : DeviceFields). Lacks 35 x.config) (same_some (read r b g t l) f e) clean.1.0
+    go None b g t l e = absurd (cc)
+    go (Some r) None g t l e = absurd (cc)
+    go (Some r) (Some b) None t l e = absurd (cc)
+    go (Some r) (Some b) (Some g) None l e = absurd (cc)
+    go (Some r) (Some b) (Some g) (Some t) None e = absurd (cc)
+config_field [] f clean e = absurd (cc)
+config_field (a ∷ []) f clean e = absurd (cc)
+config_field (a ∷ b ∷ []) f clean e = absurd (cc)
+config_field (a ∷ b ∷ c ∷ []) f clean e = absurd (cc)
+config_field (a ∷ b ∷ c ∷ d ∷ []) f clean e = absurd (cc)
+config_field (a ∷ b ∷ c ∷ d ∷ g ∷ []) f clean e = absurd (cc)
+
+device_carries : (s : ScenarioData) (fields : List (List ℕ)) (said : Said) → Every (Lacks 35) fields → device_line s fields ≡ Ok said → IsCarriedSaid said
 unfolding device_line
-device_carries s fields said e =
+device_carries s fields said clean e =
     let f = read_step (device_fields fields) why.Fields _ said e in
     let name = read_step (new_name s f.0.name) why.Name _ said f.2 in
     let config = read_step (device_config s name.0 f.0.config) why.Config _ said name.2 in
     let settings = step (settings_of f.0) _ said config.2 in
-    subst IsCarriedSaid (same_ok _ said settings.2) tt
+    subst IsCarriedSaid (same_ok _ said settings.2) (config_carries s name.0 f.0.config config.0 (config_field fields f.0 clean f.1) config.1)
 
 plain_carries : (s : ScenarioData) (what : LineWhat) (fields : List (List ℕ)) (said : Said) → IsCarriedWhat what → plain_line s what fields ≡ Ok said → IsCarriedSaid said
 unfolding plain_line
@@ -158,34 +202,35 @@ tmr_carries s fields said e =
     let serials = read_step (serials_of f.0.2) why.Number _ said kind.2 in
     subst IsCarriedSaid (same_ok _ said serials.2) tt
 
-said_carries : (s : ScenarioData) (v : Verb) (fields : List (List ℕ)) (said : Said) → said_by s v fields ≡ Ok said → IsCarriedSaid said
+said_carries : (s : ScenarioData) (v : Verb) (fields : List (List ℕ)) (said : Said) → Every (Lacks 35) fields → said_by s v fields ≡ Ok said → IsCarriedSaid said
 unfolding said_by
-said_carries s verb.Device fields said e = device_carries s fields said e
-said_carries s verb.Submit fields said e = submit_carries s fields said e
-said_carries s verb.Dispatch fields said e = plain_carries s (Makes ev.Dispatch) fields said tt e
-said_carries s verb.Handle fields said e = number_carries s 1 1000000000 ev.Handle fields said (λ n. tt) e
-said_carries s verb.Respond fields said e = number_carries s 1 1000000000 ev.Respond fields said (λ n. tt) e
-said_carries s verb.Publish fields said e = plain_carries s (Makes ev.Publish) fields said tt e
-said_carries s verb.Clean fields said e = plain_carries s (Makes ev.Clean) fields said tt e
-said_carries s verb.Enter fields said e = plain_carries s (Makes ev.Enter) fields said tt e
-said_carries s verb.Tick fields said e = number_carries s 0 1000000 ev.Tick fields said (λ n. tt) e
-said_carries s verb.Block fields said e = plain_carries s (Makes ev.Block) fields said tt e
-said_carries s verb.Unblock fields said e = plain_carries s (Makes ev.Unblock) fields said tt e
-said_carries s verb.Reset fields said e = number_carries s 1 2 ev.Reset fields said (λ n. tt) e
-said_carries s verb.Restart fields said e = plain_carries s (Makes ev.Restart) fields said tt e
-said_carries s verb.Tmr fields said e = tmr_carries s fields said e
-said_carries s verb.Stat fields said e = plain_carries s (Makes ev.Stat) fields said tt e
-said_carries s verb.Dump fields said e = plain_carries s Dumps fields said tt e
-said_carries s verb.Drain fields said e = plain_carries s Drains fields said tt e
+said_carries s verb.Device fields said clean e = device_carries s fields said clean e
+said_carries s verb.Submit fields said clean e = submit_carries s fields said e
+said_carries s verb.Dispatch fields said clean e = plain_carries s (Makes ev.Dispatch) fields said tt e
+said_carries s verb.Handle fields said clean e = number_carries s 1 1000000000 ev.Handle fields said (λ n. tt) e
+said_carries s verb.Respond fields said clean e = number_carries s 1 1000000000 ev.Respond fields said (λ n. tt) e
+said_carries s verb.Publish fields said clean e = plain_carries s (Makes ev.Publish) fields said tt e
+said_carries s verb.Clean fields said clean e = plain_carries s (Makes ev.Clean) fields said tt e
+said_carries s verb.Enter fields said clean e = plain_carries s (Makes ev.Enter) fields said tt e
+said_carries s verb.Tick fields said clean e = number_carries s 0 1000000 ev.Tick fields said (λ n. tt) e
+said_carries s verb.Block fields said clean e = plain_carries s (Makes ev.Block) fields said tt e
+said_carries s verb.Unblock fields said clean e = plain_carries s (Makes ev.Unblock) fields said tt e
+said_carries s verb.Reset fields said clean e = number_carries s 1 2 ev.Reset fields said (λ n. tt) e
+said_carries s verb.Restart fields said clean e = plain_carries s (Makes ev.Restart) fields said tt e
+said_carries s verb.Tmr fields said clean e = tmr_carries s fields said e
+said_carries s verb.Stat fields said clean e = plain_carries s (Makes ev.Stat) fields said tt e
+said_carries s verb.Dump fields said clean e = plain_carries s Dumps fields said tt e
+said_carries s verb.Drain fields said clean e = plain_carries s Drains fields said tt e
 
 -- ---- scenarios
 
-abbrev IsCarriedAll : ScenarioData → Type 0
-IsCarriedAll s = Every (λ l. IsCarriedWhat l.what) s.lines
+record IsCarriedAll (s : ScenarioData) : Type 0 where
+  lines : Every (λ l. IsCarriedWhat l.what) s.lines
+  devices : Every (λ d. IsLegible d.config) s.devices
 
 rules_carry : (s t : ScenarioData) (said : Said) → IsCarriedAll s → IsCarriedSaid said → with_rules s said ≡ Ok t → IsCarriedAll t
-rules_carry s t (Opens d) k n e = subst IsCarriedAll (kept_device s t d e).0 k
-rules_carry s t (Adds l) k n e = subst IsCarriedAll (kept_line s t l e).0 (every-append (λ (x : LineData). IsCarriedWhat x.what) s.lines (l ∷ []) k (n, tt))
+rules_carry s t (Opens d) k n e = subst IsCarriedAll (kept_device s t d e).0 (record { lines = k.lines; devices = every-append (λ (x : DeviceLineData). IsLegible x.config) s.devices (d ∷ []) k.devices (n, tt) })
+rules_carry s t (Adds l) k n e = subst IsCarriedAll (kept_line s t l e).0 (record { lines = every-append (λ (x : LineData). IsCarriedWhat x.what) s.lines (l ∷ []) k.lines (n, tt); devices = k.devices })
 
 with_said_carries : (s t : ScenarioData) (said : Said) → IsCarriedAll s → IsCarriedSaid said → with_said s said ≡ Ok t → IsCarriedAll t
 unfolding with_said
@@ -197,20 +242,20 @@ with_said_carries s t said k n e =
     served true u e = absurd (cc)
     served false u e = same_ok u t e
 
-with_fields_carries : (s t : ScenarioData) (fields : List (List ℕ)) → IsCarriedAll s → with_fields s fields ≡ Ok t → IsCarriedAll t
+with_fields_carries : (s t : ScenarioData) (fields : List (List ℕ)) → Every (Lacks 35) fields → IsCarriedAll s → with_fields s fields ≡ Ok t → IsCarriedAll t
 unfolding with_fields
-with_fields_carries s t [] k e = subst IsCarriedAll (same_ok s t e) k
-with_fields_carries s t (word ∷ fields) k e =
+with_fields_carries s t [] clean k e = subst IsCarriedAll (same_ok s t e) k
+with_fields_carries s t (word ∷ fields) clean k e =
     let v = read_step (verb_of word) why.Verb _ t e in
     let said = step (said_by s v.0 fields) _ t v.2 in
-    with_said_carries s t said.0 k (said_carries s v.0 fields said.0 said.1) said.2
+    with_said_carries s t said.0 k (said_carries s v.0 fields said.0 clean.1 said.1) said.2
 
 with_text_carries : (s t : ScenarioData) (text : List ℕ) → IsCarriedAll s → with_text s text ≡ Ok t → IsCarriedAll t
 unfolding with_text
 with_text_carries s t text k e = go (list_all is_allowed (before_hash text)) e
   where
     go : (b : Bool) → ◌≡◌ {A = Result ScenarioData Why} (cond b (with_fields s (fields_of (before_hash text))) (Err why.Byte)) (Ok t) → IsCarriedAll t
-    go true e = with_fields_carries s t (fields_of (before_hash text)) k e
+    go true e = with_fields_carries s t (fields_of (before_hash text)) (fields_lack text) k e
     go false e = absurd (cc)
 
 with_lines_carries : (n : ℕ) (s t : ScenarioData) (texts : List (List ℕ)) → IsCarriedAll s → with_lines n s texts ≡ Ok t → IsCarriedAll t
@@ -221,10 +266,26 @@ with_lines_carries n s t (text ∷ texts) k e = go (with_text s text) refl e (λ
     go (Err f) is e more = absurd (cc)
     go (Ok u) is e more = more u (with_text_carries s u text k is) e
 
-pub carried_read : CarriedRead
+read_carries : (bytes : List ℕ) (s : ScenarioData) → scenario_of bytes ≡ Ok s → IsCarriedAll s
 unfolding scenario_of
-carried_read bytes s e = go (nat_lt 4194304 (length bytes)) e
+read_carries bytes s e = go (nat_lt 4194304 (length bytes)) e
   where
     go : (b : Bool) → ◌≡◌ {A = Result ScenarioData Bad} (cond b (Err (record { line = 0; why = why.TooLong })) (with_lines 1 nothing_yet (pieces 10 bytes))) (Ok s) → IsCarriedAll s
     go true e = absurd (cc)
-    go false e = with_lines_carries 1 nothing_yet s (pieces 10 bytes) tt e
+    go false e = with_lines_carries 1 nothing_yet s (pieces 10 bytes) (record { lines = tt; devices = tt }) e
+
+pub carried_read : CarriedRead
+carried_read bytes s e = let carries = read_carries bytes s e in carries.lines
+
+-- both what a device line keeps and that its config has a text
+spelled_each : (ds : List DeviceLineData) → All IsDeviceLine ds → Every (λ d. IsLegible d.config) ds → Every IsSpelledDevice ds
+spelled_each [] all each = tt
+spelled_each (d ∷ ds) all each =
+    let is = All-head IsDeviceLine d ds all in
+    (record { line = is; config = record { config = is.config; one = each.0.0; file = each.0.1 }; file = each.0.2 }, spelled_each ds (All-tail IsDeviceLine d ds all) each.1)
+
+pub spelled_read : SpelledRead
+spelled_read bytes s e =
+    let carries = read_carries bytes s e in
+    let is = scenario_is bytes s e in
+    spelled_each s.devices is.devices carries.devices

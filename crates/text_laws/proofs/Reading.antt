@@ -1,40 +1,43 @@
--- The whole text of a replay is read line by line.
-use Rattle.std.proofs.Common.{◌≡◌, ℕ, zero, suc, ◌+◌, ◌≤◌, Bool, true, false, cond, not, nat_eq, IsTrue, List, [], ◌∷◌, ◌++◌, length, take, drop, All, get_or, Option, Some, None, Ok, Err, refl, sym, ap, subst, ◌∙◌, arith, codes, append_assoc, length-append}
-use Rattle.std.specs.List.{list_any, flat_map, sum_by}
-use Rattle.std.proofs.lemmas.Bool.{eq-eqb, le-ltb, cond-false}
+-- The whole text of a journal is read line by line.
+use Rattle.std.proofs.Common.{◌≡◌, ◌≢◌, ℕ, suc, ◌+◌, ◌<◌, ◌≤◌, Bool, true, false, cond, not, nat_eq, List, [], ◌∷◌, ◌++◌, length, All, get_or, slice_get, Option, Some, None, Ok, Err, refl, sym, ap, subst, ◌∙◌, arith, codes, append_assoc, length-append}
+use Rattle.std.specs.List.{flat_map, list_any, sum_by, AllPairs, position_or_len}
 use Rattle.std.specs.Str.{bytes_eq}
-use Rattle.tcmu_model.specs.Text.{config_text}
+use Rattle.std.specs.Fmt.{decimal}
+use Rattle.std.proofs.lemmas.Bool.{eq-eqb, le-ltb, lt-ltb, cond-true, cond-false}
+use Rattle.std.proofs.lemmas.Option.{get_or_from_slice_get}
 use Rattle.std.proofs.lemmas.List.{append-nil}
 use Rattle.std.proofs.lemmas.List.Splits.{slice_split_at}
-use Rattle.std.proofs.lemmas.List.Sums.{AllPass-from_list_all, sum_by-append}
-use Rattle.std.proofs.lemmas.List.Elements.{All-head, All-tail}
-use Rattle.tcmu_types.specs.Naming.{is_name}
+use Rattle.std.proofs.lemmas.List.Sums.{AllPass-from_list_all, sum_by-append, position_or_len_is}
 use Rattle.tcmu_types.specs.Data.{CommandData, DoneData}
 use Rattle.tcmu_types.specs.Events.{EventData, EntryData}
-use Rattle.tcmu_types.specs.Events as ev
+use Rattle.tcmu_types.specs.Naming.{is_name}
+use Rattle.tcmu_model.specs.Device.{Device}
 use Rattle.tcmu_model.specs.Fields.{pieces}
+use Rattle.tcmu_model.specs.Replay.{open_count}
+use Rattle.tcmu_model.specs.Several.{Journaled, journaled_text, ends_text}
 use Rattle.tcmu_model.specs.Sound.{Every}
 use Rattle.tcmu_model.specs.ScenarioData.{DeviceLineData, LineData, ScenarioData, command_of}
-use Rattle.tcmu_model.specs.ScenarioRules.{IsEvent, IsLine, IsScenario}
-use Rattle.tcmu_model.specs.Said.{device_at, Adds, Opens}
+use Rattle.tcmu_model.specs.ScenarioRules.{IsEvent, IsScenario}
+use Rattle.tcmu_model.specs.Said.{has_name, same_file, device_at, Adds, Opens}
 use Rattle.tcmu_model.specs.Scenario.{bytes_in, bytes_out, with_name, with_initiator, initiators, initiators_from, breaks_dump, breaks_many, with_line, with_device, is_not_yet, with_said, with_text, with_lines, nothing_yet, scenario_of}
-use Rattle.tcmu_model.specs.Text.{spaced, line, device_spelling, device_text, event_text, answer_text, completion_text, event_line, entry_text, entries_text, end_text, hex_byte, sense_text, payload_text}
-use Rattle.tcmu_model.specs.Text.{command_text, data_fields, serials_text}
-use Rattle.std.specs.Fmt.{decimal}
+use Rattle.tcmu_model.specs.Text.{spaced, line, device_text, event_text, answer_text, completion_text, event_line, entry_text, end_text}
+use Rattle.tcmu_model.proofs.Everies.{every-weaker, every-none}
+use Rattle.tcmu_model.proofs.Readings.{same_bytes}
 use Rattle.text_laws.specs.Configs.{is_other}
-use Rattle.text_laws.specs.Devices.{IsSpelledDevice}
+use Rattle.text_laws.specs.Devices.{IsSpelledDevice, IsNew}
 use Rattle.text_laws.specs.Lines.{CarriesBytes, made}
-use Rattle.text_laws.specs.Replays.{lines_of, written}
-use Rattle.text_laws.proofs.Fields.{name_word, hex_word}
-use Rattle.text_laws.proofs.Devices.{devices_again, spelled, config_word, settings_words, settings_list, same_text}
-use Rattle.text_laws.proofs.Events.{events_again, data_words}
-use Rattle.text_laws.proofs.Unbroken as unbroken
-use Rattle.text_laws.proofs.Unbroken.{Unbroken, AreUnbroken}
+use Rattle.text_laws.specs.Replays.{lines_of, entries_of, written}
+use Rattle.text_laws.proofs.Asked.{IsWithinLines}
 use Rattle.text_laws.proofs.Comments.{comments_ignored, empty_ignored}
+use Rattle.text_laws.proofs.Devices.{devices_again, same_text}
+use Rattle.text_laws.proofs.Events.{events_again}
+use Rattle.text_laws.proofs.Sets.{get_found, get_within, every_get}
+use Rattle.text_laws.proofs.Unbroken.{Unbroken}
+use Rattle.text_laws.proofs.WholeLines.{Named, done_fields, done_line, end_line, told_event, told_line, told_device, device_told_line}
 
 -- ---- lines are cut again
 
-first_line : (t rest : List ℕ) → Unbroken t → pieces 10 (line t ++ rest) ≡ t ∷ pieces 10 rest
+pub first_line : (t rest : List ℕ) → Unbroken t → pieces 10 (line t ++ rest) ≡ t ∷ pieces 10 rest
 first_line t rest h = ap (pieces 10) (append_assoc t (10 ∷ []) rest) ∙ slice_split_at (λ b. nat_eq b 10) t 10 rest whole (eq-eqb 10 10 refl)
   where
     no_feed : (x : ℕ) → is_other 10 x ≡ true → nat_eq x 10 ≡ false
@@ -59,21 +62,11 @@ reads_line s m t text rest h e k = λ n.
 reads_nothing : (s : ScenarioData) → Reads s [] s
 reads_nothing s = λ n. ap (λ r. elim r [ Ok x ↦ with_lines (n + 1) x [] | Err f ↦ Err (record { line = n; why = f }) ]) (empty_ignored s)
 
--- ---- completions and the end line
-
-abbrev pub Named : DoneData → Type 0
-Named c = IsTrue (is_name c.init)
-
-name_line : (name : List ℕ) → is_name name ≡ true → Unbroken name
-name_line name h = unbroken.word name (name_word name h)
+-- ---- completions and end lines
 
 reads_done : (s t : ScenarioData) (name : List ℕ) (c : DoneData) (rest : List ℕ) → is_name name ≡ true → Named c → Reads s rest t → Reads s (completion_text name c ++ rest) t
 unfolding completion_text
-reads_done s t name c rest n h k =
-    let fs = name ∷ decimal c.serial ∷ c.init ∷ decimal c.tag ∷ hex_byte c.status ∷ sense_text c.sense ∷ payload_text c.payload ∷ [] in
-    let clean : Unbroken (spaced (codes "# done") fs) = unbroken.fields (codes "# done") fs (record { bytes = refl })
-    (name_line name n, (unbroken.number c.serial, (name_line c.init h, (unbroken.number c.tag, (unbroken.pair c.status, (unbroken.sense c.sense, (unbroken.payload c.payload, tt))))))) in
-    reads_line s s t (spaced (codes "# done") fs) rest clean (comments_ignored s _) k
+reads_done s t name c rest n h k = reads_line s s t (spaced (codes "# done") (done_fields name c)) rest (done_line name c n h) (comments_ignored s _) k
 
 reads_dones : (s t : ScenarioData) (name : List ℕ) (cs : List DoneData) (rest : List ℕ) → is_name name ≡ true → Every Named cs → Reads s rest t → Reads s (flat_map (completion_text name) cs ++ rest) t
 reads_dones s t name [] rest n h k = k
@@ -81,44 +74,25 @@ reads_dones s t name (c ∷ cs) rest n h k =
     subst (λ text. Reads s text t) (sym (append_assoc (completion_text name c) (flat_map (completion_text name) cs) rest))
     (reads_done s t name c (flat_map (completion_text name) cs ++ rest) n h.0 (reads_dones s t name cs rest n h.1 k))
 
-reads_end : (s : ScenarioData) (name : List ℕ) (k : ℕ) → is_name name ≡ true → Reads s (end_text name k) s
+reads_end : (s t : ScenarioData) (name : List ℕ) (k : ℕ) (rest : List ℕ) → is_name name ≡ true → Reads s rest t → Reads s (end_text name k ++ rest) t
 unfolding end_text
-reads_end s name k n =
-    let fs = name ∷ decimal k ∷ [] in
-    let clean : Unbroken (spaced (codes "# open") fs) = unbroken.fields (codes "# open") fs (record { bytes = refl }) (name_line name n, (unbroken.number k, tt)) in
-    subst (λ text. Reads s text s) (append-nil (line (spaced (codes "# open") fs))) (reads_line s s s (spaced (codes "# open") fs) [] clean (comments_ignored s _) (reads_nothing s))
+reads_end s t name k rest n more = reads_line s s t (spaced (codes "# open") (name ∷ decimal k ∷ [])) rest (end_line name k n) (comments_ignored s _) more
 
--- ---- event lines
-
-event_line_is : (name : List ℕ) (e : EventData) → is_name name ≡ true → IsEvent e → CarriesBytes e → Unbroken (event_text name e)
-unfolding event_text command_text
-event_line_is name (ev.Submit c) n is h =
-    unbroken.fields (codes "submit") (name ∷ c.init ∷ decimal c.tag ∷ flat_map hex_byte c.cdb ∷ data_fields c) (record { bytes = refl })
-    (name_line name n, (name_line c.init is.init, (unbroken.number c.tag, (unbroken.word (flat_map hex_byte c.cdb) (hex_word c.cdb h.cdb is.cdb.some), unbroken.words (data_fields c) (data_words c is h)))))
-event_line_is name ev.Dispatch n is h = unbroken.fields (codes "dispatch") (name ∷ []) (record { bytes = refl }) (name_line name n, tt)
-event_line_is name (ev.Handle s) n is h = unbroken.fields (codes "handle") (name ∷ decimal s ∷ []) (record { bytes = refl }) (name_line name n, (unbroken.number s, tt))
-event_line_is name (ev.Respond s) n is h = unbroken.fields (codes "respond") (name ∷ decimal s ∷ []) (record { bytes = refl }) (name_line name n, (unbroken.number s, tt))
-event_line_is name ev.Publish n is h = unbroken.fields (codes "publish") (name ∷ []) (record { bytes = refl }) (name_line name n, tt)
-event_line_is name ev.Clean n is h = unbroken.fields (codes "clean") (name ∷ []) (record { bytes = refl }) (name_line name n, tt)
-event_line_is name ev.Enter n is h = unbroken.fields (codes "enter") (name ∷ []) (record { bytes = refl }) (name_line name n, tt)
-event_line_is name (ev.Tick k) n is h = unbroken.fields (codes "tick") (name ∷ decimal k ∷ []) (record { bytes = refl }) (name_line name n, (unbroken.number k, tt))
-event_line_is name ev.Block n is h = unbroken.fields (codes "block") (name ∷ []) (record { bytes = refl }) (name_line name n, tt)
-event_line_is name ev.Unblock n is h = unbroken.fields (codes "unblock") (name ∷ []) (record { bytes = refl }) (name_line name n, tt)
-event_line_is name (ev.Reset k) n is h = unbroken.fields (codes "reset") (name ∷ decimal k ∷ []) (record { bytes = refl }) (name_line name n, (unbroken.number k, tt))
-event_line_is name ev.Restart n is h = unbroken.fields (codes "restart") (name ∷ []) (record { bytes = refl }) (name_line name n, tt)
-event_line_is name (ev.Tmr k ss) n is h = unbroken.fields (codes "tmr") (name ∷ decimal k ∷ serials_text ss ∷ []) (record { bytes = refl }) (name_line name n, (unbroken.number k, (unbroken.serials ss, tt)))
-event_line_is name ev.Stat n is h = unbroken.fields (codes "stat") (name ∷ []) (record { bytes = refl }) (name_line name n, tt)
+pub reads_ends : (s : ScenarioData) (ls : List DeviceLineData) (ends : List Device) → Every IsSpelledDevice ls → Reads s (ends_text ls ends) s
+reads_ends s [] ends h = reads_nothing s
+reads_ends s (l ∷ ls) [] h = reads_nothing s
+reads_ends s (l ∷ ls) (d ∷ ends) h = reads_end s s l.name (open_count d.state) (ends_text ls ends) h.0.line.name (reads_ends s ls ends h.1)
 
 -- ---- the limits of a front of the lines
 
 pub record Fits (ls : List LineData) : Type 0 where
   pub few : length ls ≤ 20000
-  pub initiators : length (initiators 0 ls) ≤ 16
+  pub initiators : (device : ℕ) → length (initiators device ls) ≤ 16
   pub ins : sum_by bytes_in ls ≤ 67108864
   pub outs : sum_by bytes_out ls ≤ 67108864
 
-pub fits_whole : (s : ScenarioData) → IsScenario s → Fits s.lines
-fits_whole s is = record { few = is.few_lines; initiators = is.few_initiators 0; ins = is.few_in; outs = is.few_out }
+fits_whole : (s : ScenarioData) → IsScenario s → Fits s.lines
+fits_whole s is = record { few = is.few_lines; initiators = is.few_initiators; ins = is.few_in; outs = is.few_out }
 
 grows_by : (names : List (List ℕ)) (name : List ℕ) → length names ≤ length (with_name names name)
 grows_by names name = go (list_any (λ n. bytes_eq n name) names)
@@ -152,89 +126,129 @@ sum_front f xs ys = omega (arith, sum_by-append f xs ys)
 fits_front : (xs ys : List LineData) → Fits (xs ++ ys) → Fits xs
 fits_front xs ys h = record {
   few = omega (arith, h.few, length-append xs ys);
-  initiators = omega (arith, h.initiators, ap (λ (l : List (List ℕ)). length l) (initiators_append 0 [] xs ys), grows 0 (initiators_from 0 [] xs) ys);
+  initiators = λ d. omega (arith, h.initiators d, ap (λ (l : List (List ℕ)). length l) (initiators_append d [] xs ys), grows d (initiators_from d [] xs) ys);
   ins = omega (arith, h.ins, sum_front bytes_in xs ys);
   outs = omega (arith, h.outs, sum_front bytes_out xs ys);
 }
 
-keeps_many : (ls : List LineData) → Fits ls → breaks_many ls 0 ≡ false
+keeps_many : (ls : List LineData) (device : ℕ) → Fits ls → breaks_many ls device ≡ false
 unfolding breaks_many
-keeps_many ls h = rw (le-ltb _ _ h.initiators, le-ltb _ _ h.few, le-ltb _ _ h.ins, le-ltb _ _ h.outs) refl
+keeps_many ls device h = rw (le-ltb _ _ (h.initiators device), le-ltb _ _ h.few, le-ltb _ _ h.ins, le-ltb _ _ h.outs) refl
 
-abbrev pub so_far : DeviceLineData → List LineData → ScenarioData
-so_far l front = record { devices = l ∷ []; lines = front }
+-- ---- event lines
 
-adds : (l : DeviceLineData) (front : List LineData) (e : EventData) → Fits (front ++ made 0 e ∷ []) → with_said (so_far l front) (Adds (made 0 e)) ≡ Ok (so_far l (front ++ made 0 e ∷ []))
+-- these devices, and lines up to here
+abbrev pub so_far : List DeviceLineData → List LineData → ScenarioData
+so_far ls front = record { devices = ls; lines = front }
+
+pub adds : (ls : List DeviceLineData) (front : List LineData) (at : ℕ) (e : EventData) → Fits (front ++ made at e ∷ []) → with_said (so_far ls front) (Adds (made at e)) ≡ Ok (so_far ls (front ++ made at e ∷ []))
 unfolding with_said with_line breaks_dump is_not_yet
-adds l front e h = rw (keeps_many (front ++ made 0 e ∷ []) h) refl
+adds ls front at e h = rw (keeps_many (front ++ made at e ∷ []) at h) refl
 
-opens : (l : DeviceLineData) → with_said nothing_yet (Opens l) ≡ Ok (so_far l [])
+abbrev DifferInName : DeviceLineData → DeviceLineData → Type 0
+DifferInName d e = d.name ≢ e.name
+
+differ : (a b : List ℕ) → a ≢ b → bytes_eq a b ≡ false
+differ a b ne = go (bytes_eq a b) refl
+  where
+    go : (x : Bool) → bytes_eq a b ≡ x → x ≡ false
+    go true e = absurd (ne (same_bytes a b e))
+    go false e = refl
+
+-- a device is found under its name
+pub its_number : (ls : List DeviceLineData) (front : List LineData) (at : ℕ) (l : DeviceLineData) → AllPairs DifferInName ls → slice_get ls at ≡ Some l → device_at (so_far ls front) l.name ≡ Some at
+its_number ls front at l pairs e =
+    let lt = get_within ls at l e in
+    let here : get_or ls at l ≡ l = get_or_from_slice_get ls at l l e in
+    let place : position_or_len (has_name l.name) ls ≡ at = position_or_len_is (has_name l.name) ls at l (omega (arith, lt)) (λ k less. before k less here) (λ less. same_text (get_or ls at l).name l.name (ap (λ (d : DeviceLineData). d.name) here)) in
+    cond-true _ _ _ (lt-ltb (position_or_len (has_name l.name) ls) (length ls) (omega (arith, place, lt))) ∙ ap (λ (k : ℕ). Some k) place
+  where
+    before : (k : ℕ) → k < at → get_or ls at l ≡ l → has_name l.name (get_or ls k l) ≡ false
+    before k less here = differ (get_or ls k l).name l.name (λ q. pairs k at l less (get_within ls at l e) (q ∙ ap (λ (d : DeviceLineData). d.name) (sym here)))
+
+reads_event : (ls : List DeviceLineData) (l : DeviceLineData) (front : List LineData) (e : EntryData) (rest : List ℕ) (t : ScenarioData) → AllPairs DifferInName ls → slice_get ls e.device ≡ Some l → is_name l.name ≡ true → IsEvent e.event → CarriesBytes e.event
+    → Fits (front ++ made e.device e.event ∷ []) → Reads (so_far ls (front ++ made e.device e.event ∷ [])) rest t → Reads (so_far ls front) (event_line l.name l.settings.qfull e.event e.answer ++ rest) t
+unfolding event_line
+reads_event ls l front e rest t pairs found n is h fits k =
+    let shown = answer_text l.settings.qfull e.event e.answer in
+    reads_line (so_far ls front) (so_far ls (front ++ made e.device e.event ∷ [])) t (told_event l.name l.settings.qfull e.event e.answer) rest (told_line l.name l.settings.qfull e.event e.answer n is h)
+    (ap (with_text (so_far ls front)) (append_assoc (event_text l.name e.event) (codes " # ") shown)
+    ∙ events_again (so_far ls front) e.device l.name e.event shown (its_number ls front e.device l pairs found) n is h ∙ adds ls front e.device e.event fits) k
+
+reads_entry : (ls : List DeviceLineData) (l : DeviceLineData) (front : List LineData) (j : Journaled) (rest : List ℕ) (t : ScenarioData) → AllPairs DifferInName ls → slice_get ls j.entry.device ≡ Some l → is_name l.name ≡ true → IsEvent j.entry.event → CarriesBytes j.entry.event
+    → Every Named j.completions → Fits (front ++ made j.entry.device j.entry.event ∷ []) → Reads (so_far ls (front ++ made j.entry.device j.entry.event ∷ [])) rest t
+    → Reads (so_far ls front) (entry_text l.name l.settings.qfull j.entry j.completions ++ rest) t
+unfolding entry_text
+reads_entry ls l front j rest t pairs found n is h named fits k =
+    let e = j.entry in
+    let dones = reads_dones (so_far ls (front ++ made e.device e.event ∷ [])) t l.name j.completions rest n named k in
+    subst (λ text. Reads (so_far ls front) text t) (sym (append_assoc (event_line l.name l.settings.qfull e.event e.answer) (flat_map (completion_text l.name) j.completions) rest))
+    (reads_event ls l front e (flat_map (completion_text l.name) j.completions ++ rest) t pairs found n is h fits dones)
+
+pub reads_journal : (ls : List DeviceLineData) (js : List Journaled) (front : List LineData) (rest : List ℕ) (t : ScenarioData) → AllPairs DifferInName ls → Every IsSpelledDevice ls → Every (λ j. IsWithinLines (length ls) j.entry) js
+    → Every (λ j. Every Named j.completions) js → Fits (front ++ lines_of (entries_of js)) → Reads (so_far ls (front ++ lines_of (entries_of js))) rest t → Reads (so_far ls front) (flat_map (journaled_text ls) js ++ rest) t
+reads_journal ls [] front rest t pairs spelled within named fits k = subst (λ (xs : List LineData). Reads (so_far ls xs) rest t) (append-nil front) k
+reads_journal ls (j ∷ js) front rest t pairs spelled within named fits k =
+    let e = j.entry in
+    let found = get_found ls e.device within.0.device in
+    let l = found.0 in
+    let next : front ++ made e.device e.event ∷ [] ++ lines_of (entries_of js) ≡ front ++ made e.device e.event ∷ lines_of (entries_of js) = append_assoc front (made e.device e.event ∷ []) (lines_of (entries_of js)) in
+    let fits_next = subst Fits (sym next) fits in
+    let later = reads_journal ls js (front ++ made e.device e.event ∷ []) rest t pairs spelled within.1 named.1 fits_next (subst (λ (xs : List LineData). Reads (so_far ls xs) rest t) (sym next) k) in
+    let sp = every_get IsSpelledDevice ls e.device l spelled found.1 in
+    let one = reads_entry ls l front j (flat_map (journaled_text ls) js ++ rest) t pairs found.1 sp.line.name within.0.event within.0.bytes named.0 (fits_front (front ++ made e.device e.event ∷ []) (lines_of (entries_of js)) fits_next) later in
+    let text_is : journaled_text ls j ≡ entry_text l.name l.settings.qfull j.entry j.completions = ap (λ o. elim o [ Some m ↦ entry_text m.name m.settings.qfull j.entry j.completions | None ↦ [] ]) found.1 in
+    subst (λ text. Reads (so_far ls front) text t)
+    (ap (λ (x : List ℕ). x ++ (flat_map (journaled_text ls) js ++ rest)) (sym text_is) ∙ sym (append_assoc (journaled_text ls j) (flat_map (journaled_text ls) js) rest)) one
+
+-- ---- device lines
+
+-- what stands of each pair stands of each item before another
+get_behind : {X : Type 0} (xs : List X) (y d : X) (ys : List X) → get_or (xs ++ y ∷ ys) (length xs) d ≡ y
+get_behind [] y d ys = refl
+get_behind (x ∷ xs) y d ys = get_behind xs y d ys
+
+pairs_before : {X : Type 0} (R : X → X → Type 0) (xs : List X) (y : X) (ys : List X) → AllPairs R (xs ++ y ∷ ys) → Every (λ x. R x y) xs
+pairs_before R [] y ys h = tt
+pairs_before R (x ∷ xs) y ys h = (
+  subst (R x) (get_behind xs y y ys) (h 0 (suc (length xs)) y (omega arith) (omega (arith, length-append xs (y ∷ ys)))),
+  pairs_before R xs y ys (λ i j d less lt. h (suc i) (suc j) d (omega (arith, less)) (omega (arith, lt))),
+)
+
+abbrev DifferInFile : DeviceLineData → DeviceLineData → Type 0
+DifferInFile d e = same_file d.config.kind e.config.kind ≡ false
+
+pub opens : (ds : List DeviceLineData) (l : DeviceLineData) → length ds + 1 ≤ 16 → with_said (so_far ds []) (Opens l) ≡ Ok (so_far (ds ++ l ∷ []) [])
 unfolding with_said with_device is_not_yet
-opens l = refl
+opens ds l few = rw (le-ltb _ _ few) refl
 
-its_name : (l : DeviceLineData) (front : List LineData) → device_at (so_far l front) l.name ≡ Some 0
-its_name l front = rw (same_text l.name l.name refl) refl
+is_new : (ds : List DeviceLineData) (l : DeviceLineData) (more : List DeviceLineData) → AllPairs DifferInName (ds ++ l ∷ more) → AllPairs DifferInFile (ds ++ l ∷ more) → IsNew (so_far ds []) l
+is_new ds l more names files = record {
+  name = every-none (has_name l.name) ds (every-weaker (λ d. DifferInName d l) (λ d. has_name l.name d ≡ false) ds (λ d ne. differ d.name l.name ne) (pairs_before DifferInName ds l more names));
+  file = every-none (λ e. same_file e.config.kind l.config.kind) ds (pairs_before DifferInFile ds l more files);
+}
+
+pub reads_devices : (ds ls : List DeviceLineData) (rest : List ℕ) (t : ScenarioData) → Every IsSpelledDevice ls → AllPairs DifferInName (ds ++ ls) → AllPairs DifferInFile (ds ++ ls) → length (ds ++ ls) ≤ 16
+    → Reads (so_far (ds ++ ls) []) rest t → Reads (so_far ds []) (flat_map device_text ls ++ rest) t
+unfolding device_text
+reads_devices ds [] rest t spelled names files few k = subst (λ (xs : List DeviceLineData). Reads (so_far xs []) rest t) (append-nil ds) k
+reads_devices ds (l ∷ ls) rest t spelled names files few k =
+    let next : ds ++ l ∷ [] ++ ls ≡ ds ++ l ∷ ls = append_assoc ds (l ∷ []) ls in
+    let later = reads_devices (ds ++ l ∷ []) ls rest t spelled.1 (subst (AllPairs DifferInName) (sym next) names) (subst (AllPairs DifferInFile) (sym next) files)
+    (omega (arith, few, ap (λ (xs : List DeviceLineData). length xs) next)) (subst (λ (xs : List DeviceLineData). Reads (so_far xs []) rest t) (sym next) k) in
+    let room : length ds + 1 ≤ 16 = omega (arith, few, length-append ds (l ∷ ls)) in
+    subst (λ text. Reads (so_far ds []) text t) (sym (append_assoc (device_text l) (flat_map device_text ls) rest))
+    (reads_line (so_far ds []) (so_far (ds ++ l ∷ []) []) t (told_device l) (flat_map device_text ls ++ rest) (device_told_line l spelled.0)
+    (devices_again (so_far ds []) l (codes "ready") spelled.0 (is_new ds l ls names files) ∙ opens ds l room) later)
 
 -- ---- whole texts
 
-every_take : (n : ℕ) (cs : List DoneData) → Every Named cs → Every Named (take n cs)
-every_take zero cs h = tt
-every_take (suc n) [] h = tt
-every_take (suc n) (c ∷ cs) h = (h.0, every_take n cs h.1)
-
-every_drop : (n : ℕ) (cs : List DoneData) → Every Named cs → Every Named (drop n cs)
-every_drop zero cs h = h
-every_drop (suc n) [] h = tt
-every_drop (suc n) (c ∷ cs) h = every_drop n cs h.1
-
-reads_event : (l : DeviceLineData) (front : List LineData) (e : EntryData) (rest : List ℕ) (t : ScenarioData) → is_name l.name ≡ true → IsEvent e.event → CarriesBytes e.event → Fits (front ++ made 0 e.event ∷ [])
-    → Reads (so_far l (front ++ made 0 e.event ∷ [])) rest t → Reads (so_far l front) (event_line l.name l.settings.qfull e.event e.answer ++ rest) t
-unfolding event_line
-reads_event l front e rest t n is h fits k =
-    let shown = answer_text l.settings.qfull e.event e.answer in
-    let clean : Unbroken (event_text l.name e.event ++ codes " # " ++ shown) =
-    unbroken.joins (event_text l.name e.event ++ codes " # ") shown (unbroken.joins (event_text l.name e.event) (codes " # ") (event_line_is l.name e.event n is h) (record { bytes = refl })) (unbroken.answer l.settings.qfull e.event e.answer) in
-    reads_line (so_far l front) (so_far l (front ++ made 0 e.event ∷ [])) t (event_text l.name e.event ++ codes " # " ++ shown) rest clean
-    (ap (with_text (so_far l front)) (append_assoc (event_text l.name e.event) (codes " # ") shown)
-    ∙ events_again (so_far l front) 0 l.name e.event shown (its_name l front) n is h ∙ adds l front e.event fits) k
-
-pub reads_entries : (l : DeviceLineData) (es : List EntryData) (done : List DoneData) (front : List LineData) (tail : List ℕ) → is_name l.name ≡ true → All (IsLine (l ∷ [])) (lines_of es) → Every (λ e. CarriesBytes e.event) es
-    → Every Named done → Fits (front ++ lines_of es) → Reads (so_far l (front ++ lines_of es)) tail (so_far l (front ++ lines_of es))
-    → Reads (so_far l front) (entries_text l.name l.settings.qfull es done ++ tail) (so_far l (front ++ lines_of es))
-unfolding entry_text
-reads_entries l [] done front tail n is h named fits k = subst (λ (ls : List LineData). Reads (so_far l ls) tail (so_far l (front ++ []))) (append-nil front) k
-reads_entries l (e ∷ es) done front tail n is h named fits k =
-    let next : front ++ made 0 e.event ∷ [] ++ lines_of es ≡ front ++ made 0 e.event ∷ lines_of es = append_assoc front (made 0 e.event ∷ []) (lines_of es) in
-    let first = All-head (IsLine (l ∷ [])) (made 0 e.event) (lines_of es) is in
-    let rest = entries_text l.name l.settings.qfull es (drop e.logged done) in
-    let later : Reads (so_far l (front ++ made 0 e.event ∷ [])) (rest ++ tail) (so_far l (front ++ made 0 e.event ∷ [] ++ lines_of es)) =
-    reads_entries l es (drop e.logged done) (front ++ made 0 e.event ∷ []) tail n (All-tail (IsLine (l ∷ [])) (made 0 e.event) (lines_of es) is) h.1 (every_drop e.logged done named)
-    (subst Fits (sym next) fits) (subst (λ (ls : List LineData). Reads (so_far l ls) tail (so_far l ls)) (sym next) k) in
-    let whole = subst (λ (ls : List LineData). Reads (so_far l (front ++ made 0 e.event ∷ [])) (rest ++ tail) (so_far l ls)) next later in
-    let dones = reads_dones (so_far l (front ++ made 0 e.event ∷ [])) _ l.name (take e.logged done) (rest ++ tail) n (every_take e.logged done named) whole in
-    let all = reads_event l front e (flat_map (completion_text l.name) (take e.logged done) ++ (rest ++ tail)) _ n first.what h.0 (fits_front (front ++ made 0 e.event ∷ []) (lines_of es) (subst Fits (sym next) fits)) dones in
-    subst (λ text. Reads (so_far l front) text (so_far l (front ++ made 0 e.event ∷ lines_of es)))
-    (sym (append_assoc (event_line l.name l.settings.qfull e.event e.answer ++ flat_map (completion_text l.name) (take e.logged done)) rest tail
-    ∙ append_assoc (event_line l.name l.settings.qfull e.event e.answer) (flat_map (completion_text l.name) (take e.logged done)) (rest ++ tail))) all
-
--- ---- the device line
-
-pub reads_device : (l : DeviceLineData) (rest : List ℕ) (t : ScenarioData) → IsSpelledDevice l → Reads (so_far l []) rest t → Reads nothing_yet (device_text l ++ rest) t
-unfolding device_text
-reads_device l rest t sp k =
-    let fs = l.name ∷ config_text l.config ∷ settings_list l.settings in
-    let clean : Unbroken (device_spelling l) = subst Unbroken (sym (spelled l))
-    (unbroken.fields (codes "device") fs (record { bytes = refl }) (unbroken.words fs (name_word l.name sp.line.name, (config_word l sp, settings_words l.settings sp.line.settings)))) in
-    reads_line nothing_yet (so_far l []) t (device_spelling l ++ codes " # ready") rest (unbroken.joins (device_spelling l) (codes " # ready") clean (record { bytes = refl }))
-    (devices_again nothing_yet l (codes "ready") sp (record { name = refl; file = refl }) ∙ opens l) k
-
-pub reads_whole : (l : DeviceLineData) (es : List EntryData) (done : List DoneData) (k : ℕ) → IsSpelledDevice l → IsScenario (written l es) → Every (λ e. CarriesBytes e.event) es → Every Named done
-    → length (device_text l ++ entries_text l.name l.settings.qfull es done ++ end_text l.name k) ≤ 4194304
-    → scenario_of (device_text l ++ entries_text l.name l.settings.qfull es done ++ end_text l.name k) ≡ Ok (written l es)
+pub reads_whole : (ls : List DeviceLineData) (js : List Journaled) (ends : List Device) → Every IsSpelledDevice ls → IsScenario (written ls (entries_of js)) → Every (λ j. IsWithinLines (length ls) j.entry) js → Every (λ j. Every Named j.completions) js
+    → length (flat_map device_text ls ++ flat_map (journaled_text ls) js ++ ends_text ls ends) ≤ 4194304
+    → scenario_of (flat_map device_text ls ++ flat_map (journaled_text ls) js ++ ends_text ls ends) ≡ Ok (written ls (entries_of js))
 unfolding scenario_of
-reads_whole l es done k sp is h named size =
-    let name = sp.line.name in
-    let entries = reads_entries l es done [] (end_text l.name k) name is.lines h named (fits_whole (written l es) is) (reads_end (written l es) l.name k name) in
+reads_whole ls js ends spelled is within named size =
+    let journal = reads_journal ls js [] (ends_text ls ends) (written ls (entries_of js)) is.names spelled within named (fits_whole (written ls (entries_of js)) is) (reads_ends (written ls (entries_of js)) ls ends spelled) in
     cond-false _ _ _ (le-ltb _ _ size)
-    ∙ ap (λ text. with_lines 1 nothing_yet (pieces 10 text)) (append_assoc (device_text l) (entries_text l.name l.settings.qfull es done) (end_text l.name k))
-    ∙ reads_device l (entries_text l.name l.settings.qfull es done ++ end_text l.name k) (written l es) sp entries 1
+    ∙ ap (λ text. with_lines 1 nothing_yet (pieces 10 text)) (append_assoc (flat_map device_text ls) (flat_map (journaled_text ls) js) (ends_text ls ends))
+    ∙ reads_devices [] ls (flat_map (journaled_text ls) js ++ ends_text ls ends) (written ls (entries_of js)) spelled is.names is.files is.few_devices journal 1

@@ -1,5 +1,7 @@
--- The text of a replay is a scenario, and the text of that scenario's replay.
-use Rattle.std.proofs.Common.{◌≡◌, ⊎_elim, ℕ, ◌≤◌, IsTrue, List, [], ◌∷◌, length, map, None, Ok, refl, sym, ap, subst, ◌∙◌}
+-- The text of a journal is a scenario, and the text of a replay of that scenario.
+use Rattle.std.proofs.Common.{◌≡◌, ⊎_elim, ℕ, suc, ◌+◌, ◌<◌, ◌≤◌, IsTrue, List, [], ◌∷◌, length, All, slice_set, None, Ok, refl, sym, ap, subst, ◌∙◌, arith}
+use Rattle.std.specs.List.{filter}
+use Rattle.std.proofs.lemmas.List.Elements.{All-head, All-tail}
 use Rattle.tcmu_types.specs.Naming.{is_name}
 use Rattle.tcmu_types.specs.Rules.{IsCommand}
 use Rattle.tcmu_types.specs.Data.{CommandData, DoneData, SettingsData}
@@ -10,20 +12,30 @@ use Rattle.tcmu_types.specs.declared.answer.Submit.TheVariants as submit
 use Rattle.tcmu_model.specs.MediumState.{MediumState}
 use Rattle.tcmu_model.specs.Device.{Device, opening}
 use Rattle.tcmu_model.specs.Steps.{HandlerRelation, Makes, Submits, Run}
-use Rattle.tcmu_model.specs.Drain.{drain_event, Drains}
-use Rattle.tcmu_model.specs.ScenarioData.{DeviceLineData, LineWhat, LineData, ScenarioData}
-use Rattle.tcmu_model.proofs.Readings.{same_ok}
-use Rattle.tcmu_model.specs.ScenarioData as line
+use Rattle.tcmu_model.specs.Drain.{drain_event}
+use Rattle.tcmu_model.specs.ScenarioData.{DeviceLineData, LineData, ScenarioData}
+use Rattle.tcmu_model.specs.ScenarioRules.{IsLine}
 use Rattle.tcmu_model.specs.Scenario.{scenario_of}
-use Rattle.tcmu_model.specs.Replay.{Plays, Replays, open_count}
+use Rattle.tcmu_model.specs.Several.{Journaled, is_of, RunLogs, IsLegalEach, DrainsEach, ReplaysEach, IsReplayOf}
 use Rattle.tcmu_model.specs.Journals.{Has, WasAccepted}
 use Rattle.tcmu_model.specs.Sound.{Every}
-use Rattle.tcmu_model.proofs.Everies.{every-weaker, every-append}
+use Rattle.tcmu_model.proofs.Everies.{every-weaker, every-mapped}
 use Rattle.tcmu_model.proofs.Journals.{run_senders}
-use Rattle.text_laws.specs.Replays.{lines_of, written, IsReplayedAgain, TellsEvents}
-use Rattle.text_laws.proofs.Reading.{Named, reads_whole}
+use Rattle.tcmu_model.proofs.SoundEvents.{sound_opening}
+use Rattle.tcmu_model.proofs.ScenarioLaws.{scenario_is}
+use Rattle.text_laws.specs.Carried.{IsCarriedWhat}
+use Rattle.text_laws.specs.Devices.{IsSpelledDevice}
+use Rattle.text_laws.specs.Lines.{CarriesBytes, made}
+use Rattle.text_laws.specs.Replays.{entries_of, lines_of, OpenAs, IsJournalOf, IsReadBack, IsReplayedAgain, IsScenarioAgain}
+use Rattle.text_laws.proofs.Asked.{HasAccepted, IsAskable, IsWithinLines, IsAsked, replays_asked}
+use Rattle.text_laws.proofs.Carried.{carried_read, spelled_read}
+use Rattle.text_laws.proofs.Kept.{replay_keeps}
+use Rattle.text_laws.proofs.Legal.{first_step, run_entries, completions_keep, each_of}
+use Rattle.text_laws.proofs.Reading.{reads_whole}
+use Rattle.text_laws.proofs.Sets.{get_found, every_get, length_set, same_items}
+use Rattle.text_laws.proofs.WholeLines.{Named}
 
--- ---- the initiators in the log are names
+-- ---- the initiators of completions are names
 
 has_command : (R : HandlerRelation) (d d' : Device) (es : List EntryData) (c : CommandData) (a : Submit) → Run R d es d' → Has es (ev.Submit c) (ev.Submitted a) → IsCommand c
 has_command R d d' [] c a r h = absurd h
@@ -52,61 +64,129 @@ log_named R s name medium es d r = every-weaker (HasSender es) Named d.state.log
         let is = accepted_command R (opening s name medium) d es e.serial k.0 r k.1 in
         subst (λ (i : List ℕ). IsTrue (is_name i)) (sym k.2) is.init
 
--- ---- a replay ends with nothing to do, and its entries are of its device
+-- ---- devices as they open
 
-abbrev IsOfDevice : EntryData → Type 0
-IsOfDevice e = e.device ≡ 0
+pub opened_count : (ls : List DeviceLineData) (opened : List Device) → OpenAs ls opened → length opened ≡ length ls
+opened_count [] [] h = refl
+opened_count [] (d ∷ ds) h = absurd h
+opened_count (l ∷ ls) [] h = absurd h
+opened_count (l ∷ ls) (d ∷ ds) h = ap suc (opened_count ls ds h.1)
 
-record Ended (es : List EntryData) (d : Device) : Type 0 where
-  rest : drain_event d.state ≡ None
-  entries : Every IsOfDevice es
+-- the device of this number opened by some line
+abbrev Opened : Device → Type 0
+Opened d = (l : DeviceLineData) × (medium : MediumState) × (d ≡ opening l.settings l.name medium)
 
-drains_are : (R : HandlerRelation) (d d' : Device) (es : List EntryData) → Drains R 0 d es d' → Ended es d'
-drains_are R d d' [] h = record { rest = subst (λ (x : Device). drain_event x.state ≡ None) (sym h.1) h.0; entries = tt }
-drains_are R d d' (e ∷ es) h = let r = drains_are R h.2 d' es h.4 in record { rest = r.rest; entries = (h.0, r.entries) }
+each_opened : (ls : List DeviceLineData) (opened : List Device) → OpenAs ls opened → Every Opened opened
+each_opened [] [] h = tt
+each_opened [] (d ∷ ds) h = absurd h
+each_opened (l ∷ ls) [] h = absurd h
+each_opened (l ∷ ls) (d ∷ ds) h = ((l, h.0.0, h.0.1), each_opened ls ds h.1)
 
-plays_are : (R : HandlerRelation) (d d' : Device) (what : LineWhat) (es : List EntryData) → Plays R 0 d what es d' → Every IsOfDevice es
-plays_are R d d' (line.Makes event) es h = subst (Every IsOfDevice) (sym h.4) (h.1, tt)
-plays_are R d d' line.Drains es h = let r = drains_are R d d' es h in r.entries
-plays_are R d d' line.Dumps es h = absurd h
+pub accepted_none : (ls : List DeviceLineData) (opened : List Device) → Every IsSpelledDevice ls → OpenAs ls opened → Every (HasAccepted 0) opened
+accepted_none [] [] sp h = tt
+accepted_none [] (d ∷ ds) sp h = absurd h
+accepted_none (l ∷ ls) [] sp h = absurd h
+accepted_none (l ∷ ls) (d ∷ ds) sp h =
+    (subst (HasAccepted 0) (sym h.0.1) (record { sound = sound_opening l.settings sp.0.line.settings; few = omega arith }), accepted_none ls ds sp.1 h.1)
 
-replays_are : (R : HandlerRelation) (d d' : Device) (ls : List LineWhat) (es : List EntryData) → Replays R 0 d ls es d' → Ended es d'
-replays_are R d d' [] es h = drains_are R d d' es h
-replays_are R d d' (what ∷ more) es h =
-    let r = replays_are R h.2 d' more h.1 h.5 in
-    record { rest = r.rest; entries = subst (Every IsOfDevice) (sym h.3) (every-append IsOfDevice h.0 h.1 (plays_are R d h.2 what h.0 h.4) r.entries) }
+-- ---- what a journal tells of its completions
 
--- ---- the events of the entries, as lines, make the same entries
+run_named : (R : HandlerRelation) (d d' : Device) (js : List Journaled) → Opened d → RunLogs R d js d' → Every (λ j. Every Named j.completions) js
+run_named R d d' js o run =
+    let started = subst (λ (x : Device). RunLogs R x js d') o.2 run in
+    let log = log_named R o.0.settings o.0.name o.1 (entries_of js) d' (run_entries R (opening o.0.settings o.0.name o.1) d' js started) in
+    (completions_keep R Named (opening o.0.settings o.0.name o.1) d' js started log).0
 
-made_again : (R : HandlerRelation) (d d' : Device) (es : List EntryData) → Run R d es d' → Every IsOfDevice es → drain_event d'.state ≡ None → Replays R 0 d (map (λ l. l.what) (lines_of es)) es d'
-made_again R d d' [] r h none = (subst (λ (x : Device). drain_event x.state ≡ None) r none, r)
-made_again R d d' (e ∷ es) r h none = (e ∷ [], es, r.0, refl, (e, h.0, refl, r.1, refl), made_again R r.0 d' es r.2 h.1 none)
+pub journal_named : (R : HandlerRelation) (ls : List DeviceLineData) (opened : List Device) (js : List Journaled) (ends : List Device) (text : List ℕ) → IsJournalOf R ls opened js ends text → Every (λ j. Every Named j.completions) js
+journal_named R ls opened js ends text is = each_of (λ j. Every Named j.completions) (length ls) js is.devices own
+  where
+    own : (k : ℕ) → k < length ls → Every (λ j. Every Named j.completions) (filter (is_of k) js)
+    own k lt =
+        let first = get_found opened k (omega (arith, lt, opened_count ls opened is.opens)) in
+        let last = get_found ends k (omega (arith, lt, is.count)) in
+        run_named R first.0 last.0 (filter (is_of k) js) (every_get Opened opened k first.0 (each_opened ls opened is.opens) first.1) (is.legal k first.0 last.0 first.1 last.1)
+
+-- ---- the text is a scenario
+
+within_limits : (ls : List DeviceLineData) (js : List Journaled) → All (IsLine ls) (lines_of (entries_of js)) → Every (λ e. CarriesBytes e.event) (entries_of js) → Every (λ j. IsWithinLines (length ls) j.entry) js
+within_limits ls [] all bytes = tt
+within_limits ls (j ∷ js) all bytes =
+    let first = All-head (IsLine ls) (made j.entry.device j.entry.event) (lines_of (entries_of js)) all in
+    (record { device = first.device; event = first.what; bytes = bytes.0 }, within_limits ls js (All-tail (IsLine ls) (made j.entry.device j.entry.event) (lines_of (entries_of js)) all) bytes.1)
+
+pub read_back : (R : HandlerRelation) → IsReadBack R
+read_back R ls opened js ends text spelled is keeps =
+    let within = within_limits ls js keeps.scenario.lines keeps.bytes in
+    ap scenario_of is.whole
+    ∙ reads_whole ls js ends spelled keeps.scenario within (journal_named R ls opened js ends text is) (subst (λ (t : List ℕ). length t ≤ 4194304) is.whole keeps.size)
+
+-- ---- the events make the same entries
+
+abbrev IsDone : Device → Type 0
+IsDone d = drain_event d.state ≡ None
+
+drains_nothing : (R : HandlerRelation) (at : ℕ) (ds : List Device) → Every IsDone ds → DrainsEach R at ds [] ds
+drains_nothing R at [] h = (refl, refl)
+drains_nothing R at (d ∷ ds) h = ([], [], d, ds, refl, refl, (h.0, refl), drains_nothing R (at + 1) ds h.1)
+
+made_again : (R : HandlerRelation) (ds : List Device) (js : List Journaled) (ends : List Device) → length ends ≡ length ds → Every (λ j. j.entry.device < length ds) js → IsLegalEach R ds js ends → Every IsDone ends → ReplaysEach R ds (lines_of (entries_of js)) (entries_of js) ends
+made_again R ds [] ends count within legal done =
+    let same : ends ≡ ds = same_items ds ends (sym count) legal in
+    subst (λ (xs : List Device). DrainsEach R 0 ds [] xs) (sym same) (drains_nothing R 0 ds (subst (Every IsDone) same done))
+made_again R ds (j ∷ js) ends count within legal done =
+    let first = get_found ds j.entry.device within.0 in
+    let last = get_found ends j.entry.device (omega (arith, within.0, count)) in
+    let step = first_step R ds first.0 last.0 j js ends first.1 last.1 legal in
+    let same = length_set ds j.entry.device step.mid in
+    let rest = made_again R (slice_set ds j.entry.device step.mid) js ends (count ∙ sym same) (subst (λ (n : ℕ). Every (λ (x : Journaled). x.entry.device < n) js) (sym same) within.1) step.rest done in
+    (j.entry ∷ [], entries_of js, first.0, step.mid, refl, first.1, (j.entry, refl, refl, step.step, refl), rest)
 
 pub replayed_again : (R : HandlerRelation) → IsReplayedAgain R
-replayed_again R l medium lines text sp is keeps =
-    let opened = opening l.settings l.name medium in
-    let named = log_named R l.settings l.name medium is.entries is.end is.legal in
-    let ended = replays_are R opened is.end lines is.entries is.replays in
-    let read : scenario_of text ≡ Ok (written l is.entries) = ap scenario_of is.whole
-    ∙ reads_whole l is.entries is.end.state.log (open_count is.end.state) sp keeps.scenario keeps.bytes named (subst (λ (t : List ℕ). length t ≤ 4194304) is.whole keeps.size) in
-    (read, record { entries = is.entries; end = is.end; replays = made_again R opened is.end is.entries is.legal ended.entries ended.rest; legal = is.legal; whole = is.whole })
+replayed_again R ls opened js ends text is done =
+    let same = opened_count ls opened is.opens in
+    record {
+      journal = js;
+      ends = ends;
+      replays = made_again R opened js ends (is.count ∙ sym same) (subst (λ (n : ℕ). Every (λ (x : Journaled). x.entry.device < n) js) (sym same) is.devices) is.legal done;
+      legal = is.legal;
+      whole = is.whole;
+    }
 
--- ---- one text has one device and one list of events
+-- ---- replays of scenarios
 
-abbrev event_of : LineData → EventData
-event_of l = elim (l.what) [ line.Makes e ↦ e | line.Drains ↦ ev.Stat | line.Dumps ↦ ev.Stat ]
+askable : (ds : List DeviceLineData) (ls : List LineData) → All (IsLine ds) ls → Every (λ l. IsCarriedWhat l.what) ls → Every IsAskable ls
+askable ds [] all carried = tt
+askable ds (l ∷ ls) all carried =
+    let first = All-head (IsLine ds) l ls all in
+    ((first.what, carried.0), askable ds ls (All-tail (IsLine ds) l ls all) carried.1)
 
-events_are : (es : List EntryData) → map event_of (lines_of es) ≡ map (λ e. e.event) es
-events_are [] = refl
-events_are (e ∷ es) = ap (λ (xs : List EventData). e.event ∷ xs) (events_are es)
+pub replay_asked : (R : HandlerRelation) (bytes text : List ℕ) (s : ScenarioData) (opened : List Device) → scenario_of bytes ≡ Ok s → OpenAs s.devices opened → (is : IsReplayOf R s.devices opened s.lines text) → IsAsked (length s.devices) (entries_of is.journal) s.lines is.ends
+replay_asked R bytes text s opened read opens is =
+    let limits = scenario_is bytes s read in
+    let asked = replays_asked R 0 opened is.ends s.lines (entries_of is.journal) (omega (arith, limits.few_lines)) (accepted_none s.devices opened (spelled_read bytes s read) opens) (askable s.devices s.lines limits.lines (carried_read bytes s read)) is.replays in
+    subst (λ (n : ℕ). IsAsked n (entries_of is.journal) s.lines is.ends) (opened_count s.devices opened opens) asked
 
-abbrev first_or : DeviceLineData → List DeviceLineData → DeviceLineData
-first_or l [] = l
-first_or l (k ∷ ks) = k
+pub replay_journal : (R : HandlerRelation) (bytes text : List ℕ) (s : ScenarioData) (opened : List Device) → scenario_of bytes ≡ Ok s → OpenAs s.devices opened → (is : IsReplayOf R s.devices opened s.lines text) → IsJournalOf R s.devices opened is.journal is.ends text
+replay_journal R bytes text s opened read opens is =
+    let asked = replay_asked R bytes text s opened read opens is in
+    record {
+      opens = opens;
+      count = asked.count;
+      devices = every-mapped (λ (j : Journaled). j.entry) (λ (e : EntryData). e.device < length s.devices) is.journal (every-weaker (IsWithinLines (length s.devices)) (λ (e : EntryData). e.device < length s.devices) (entries_of is.journal) (λ e h. h.device) asked.entries);
+      legal = is.legal;
+      whole = is.whole;
+    }
 
-pub events_told : (R : HandlerRelation) → TellsEvents R
-events_told R l k m n ls ks text sp sp' is it keeps keeps' =
-    let read = (replayed_again R l m ls text sp is keeps).0 in
-    let read' = (replayed_again R k n ks text sp' it keeps').0 in
-    let same : written l is.entries ≡ written k it.entries = same_ok (written l is.entries) (written k it.entries) (sym read ∙ read') in
-    (ap (λ (s : ScenarioData). first_or l s.devices) same, sym (events_are is.entries) ∙ ap (λ (s : ScenarioData). map event_of s.lines) same ∙ events_are it.entries)
+as_many : (js : List Journaled) → length (entries_of js) ≡ length js
+as_many [] = refl
+as_many (j ∷ js) = ap suc (as_many js)
+
+pub scenario_again : (R : HandlerRelation) → IsScenarioAgain R
+scenario_again R bytes text s opened read opens is size few =
+    let asked = replay_asked R bytes text s opened read opens is in
+    let journal = replay_journal R bytes text s opened read opens is in
+    let kept = replay_keeps s (entries_of is.journal) (scenario_is bytes s read) asked.entries asked.sends_these (omega (arith, few, as_many is.journal)) in
+    let bytes_are = every-weaker (IsWithinLines (length s.devices)) (λ (e : EntryData). CarriesBytes e.event) (entries_of is.journal) (λ e h. h.bytes) asked.entries in (
+      read_back R s.devices opened is.journal is.ends text (spelled_read bytes s read) journal (record { size = size; scenario = kept; bytes = bytes_are }),
+      replayed_again R s.devices opened is.journal is.ends text journal asked.rest,
+    )

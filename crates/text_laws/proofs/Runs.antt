@@ -11,7 +11,7 @@ use Rattle.text_laws.proofs.Numbers.{number_again}
 use Rattle.text_laws.proofs.Hex.{pair_again}
 use Rattle.text_laws.proofs.Lists.{Lacks, EachLacks, pieces_again, number_lacks}
 
-abbrev of_run : ℕ × ℕ → List ℕ
+abbrev pub of_run : ℕ × ℕ → List ℕ
 of_run r = replicate r.1 r.0
 
 abbrev pub AreRuns : ℕ → List (ℕ × ℕ) → Type 0
@@ -24,14 +24,14 @@ run_again b n lt some few =
     let three : 3 ≤ length (run_text (b, n)) = omega arith in
     cond-false _ _ _ (le-ltb _ _ three) ∙ rw (pair_again b lt) (rw (number_again 1 1048576 n some few (omega arith)) refl)
 
-hex_big : (n : ℕ) → 48 ≤ hex_digit n
+pub hex_big : (n : ℕ) → 48 ≤ hex_digit n
 hex_big n = go (nat_lt n 10)
   where
     go : (t : Bool) → 48 ≤ cond t (48 + n) (87 + n)
     go true = omega arith
     go false = omega arith
 
-run_lacks : (b n : ℕ) → n < 2 ^ 64 → Lacks 44 (run_text (b, n))
+pub run_lacks : (b n : ℕ) → n < 2 ^ 64 → Lacks 44 (run_text (b, n))
 unfolding run_text hex_byte
 run_lacks b n lt zero d in_it = ne_eqb _ _ (λ e. omega (arith, hex_big (b / 16), e))
 run_lacks b n lt (suc zero) d in_it = ne_eqb _ _ (λ e. omega (arith, hex_big (b % 16), e))
@@ -55,7 +55,7 @@ are_runs (b ∷ bytes) h = onto (runs bytes) (are_runs bytes h.1)
     onto [] k = (h.0, omega arith, omega arith, tt)
     onto (r ∷ rs) k = pick r rs (nat_eq r.0 b) k
 
-runs_whole : (bytes : List ℕ) → flat_map (λ x. x) (map of_run (runs bytes)) ≡ bytes
+pub runs_whole : (bytes : List ℕ) → flat_map (λ x. x) (map of_run (runs bytes)) ≡ bytes
 unfolding runs
 runs_whole [] = refl
 runs_whole (b ∷ bytes) = onto (runs bytes) ∙ ap (λ (l : List ℕ). b ∷ l) (runs_whole bytes)

@@ -4,6 +4,7 @@ use Rattle.tcmu_model.specs.Sound.{Every}
 use Rattle.tcmu_model.specs.ScenarioData.{LineWhat, Makes, Drains, Dumps, ScenarioData}
 use Rattle.tcmu_model.specs.Scenario.{scenario_of}
 use Rattle.text_laws.specs.Lines.{CarriesBytes}
+use Rattle.text_laws.specs.Devices.{IsSpelledDevice}
 
 abbrev pub IsCarriedWhat : LineWhat → Type 0
 IsCarriedWhat (Makes e) = CarriesBytes e
@@ -13,3 +14,7 @@ IsCarriedWhat Dumps = Unit {0}
 -- The bytes of every command that is read are bytes, and its tag is a number of 32 bits.
 abbrev pub CarriedRead : Type 0
 CarriedRead = (bytes : List ℕ) (s : ScenarioData) → scenario_of bytes ≡ Ok s → Every (λ l. IsCarriedWhat l.what) s.lines
+
+-- Every device line that is read has a spelling: its config is one that has a text.
+abbrev pub SpelledRead : Type 0
+SpelledRead = (bytes : List ℕ) (s : ScenarioData) → scenario_of bytes ≡ Ok s → Every IsSpelledDevice s.devices

@@ -6,3 +6,4 @@ pub mod Configs
 pub mod Devices
 pub mod Replays
 pub mod Carried
+pub mod Readings

@@ -1,62 +1,77 @@
--- The law of replay: the text of a replay of one device, without dumps, is a scenario, whose own replay has the same text.
-use Rattle.std.specs.Prelude.{◌≡◌, ℕ, ◌≤◌, List, [], ◌∷◌, length, map, Ok}
+-- The law of replay: the text of a journal is a scenario, and a replay of that scenario has the same text.
+use Rattle.std.specs.Prelude.{◌≡◌, ℕ, ◌<◌, ◌≤◌, List, [], ◌∷◌, ◌++◌, length, map, None, Ok}
+use Rattle.std.specs.List.{flat_map}
 use Rattle.tcmu_types.specs.Events.{EntryData}
 use Rattle.tcmu_model.specs.MediumState.{MediumState}
-use Rattle.tcmu_model.specs.Device.{opening}
+use Rattle.tcmu_model.specs.Device.{Device, opening}
 use Rattle.tcmu_model.specs.Steps.{HandlerRelation}
+use Rattle.tcmu_model.specs.Drain.{drain_event}
 use Rattle.tcmu_model.specs.Sound.{Every}
-use Rattle.tcmu_model.specs.ScenarioData.{DeviceLineData, LineData, LineWhat, ScenarioData}
+use Rattle.tcmu_model.specs.ScenarioData.{DeviceLineData, LineData, ScenarioData}
 use Rattle.tcmu_model.specs.ScenarioRules.{IsScenario}
 use Rattle.tcmu_model.specs.Scenario.{scenario_of}
-use Rattle.tcmu_model.specs.Replay.{IsReplayText}
+use Rattle.tcmu_model.specs.Several.{Journaled, IsLegalEach, journaled_text, ends_text, IsReplayOf}
+use Rattle.tcmu_model.specs.Text.{device_text}
 use Rattle.text_laws.specs.Devices.{IsSpelledDevice}
 use Rattle.text_laws.specs.Lines.{CarriesBytes, made}
 
--- the lines that make the events of these entries
-abbrev pub lines_of : List EntryData → List LineData
-lines_of es = map (λ e. made 0 e.event) es
+-- ==== journals
 
--- the scenario of a device and of the events of these entries
-abbrev pub written : DeviceLineData → List EntryData → ScenarioData
-written l es = record { devices = l ∷ []; lines = lines_of es }
+abbrev pub entries_of : List Journaled → List EntryData
+entries_of js = map (λ j. j.entry) js
+
+-- the lines that make the events of these entries, each on its own device
+abbrev pub lines_of : List EntryData → List LineData
+lines_of es = map (λ e. made e.device e.event) es
+
+-- the scenario of these devices and of the events of these entries
+abbrev pub written : List DeviceLineData → List EntryData → ScenarioData
+written ls es = record { devices = ls; lines = lines_of es }
+
+-- each device is as its line opens it, over some medium
+abbrev pub OpenAs : List DeviceLineData → List Device → Type 0
+OpenAs [] [] = Unit {0}
+OpenAs [] (d ∷ ds) = ⊥
+OpenAs (l ∷ ls) [] = ⊥
+OpenAs (l ∷ ls) (d ∷ ds) = ((medium : MediumState) × (d ≡ opening l.settings l.name medium)) × OpenAs ls ds
+
+-- The text of a journal: the device lines, entries that are legal on each device from its opening to its end, and how many commands
+-- are open on each at its end.
+pub record IsJournalOf (R : HandlerRelation) (ls : List DeviceLineData) (opened : List Device) (js : List Journaled) (ends : List Device) (text : List ℕ) : Type 0 where
+  pub opens : OpenAs ls opened
+  pub count : length ends ≡ length ls
+  pub devices : Every (λ j. j.entry.device < length ls) js
+  pub legal : IsLegalEach R opened js ends
+  pub whole : text ≡ flat_map device_text ls ++ flat_map (journaled_text ls) js ++ ends_text ls ends
 
 -- The text of these entries keeps the limits of scenarios: it is short enough, its events are within the limits of a scenario, and
 -- what they carry are bytes.
-pub record KeepsLimits (l : DeviceLineData) (es : List EntryData) (text : List ℕ) : Type 0 where
+pub record KeepsLimits (ls : List DeviceLineData) (es : List EntryData) (text : List ℕ) : Type 0 where
   pub size : length text ≤ 4194304
-  pub scenario : IsScenario (written l es)
+  pub scenario : IsScenario (written ls es)
   pub bytes : Every (λ e. CarriesBytes e.event) es
 
--- what the lines of a scenario ask for
-abbrev pub asks : ScenarioData → List LineWhat
-asks s = map (λ l. l.what) s.lines
+-- ==== the laws, over any handler
 
--- Over any handler: the text of a replay of a device that has a line, where it keeps the limits, is a scenario, that of the replay's
--- events, and it is the text of a replay of that scenario.
+-- The text of a journal of devices that have lines, where it keeps the limits, is the scenario of the journal's events.
+abbrev pub IsReadBack : HandlerRelation → Type 0
+IsReadBack R =
+    (ls : List DeviceLineData) (opened : List Device) (js : List Journaled) (ends : List Device) (text : List ℕ)
+    → Every IsSpelledDevice ls → IsJournalOf R ls opened js ends text → KeepsLimits ls (entries_of js) text
+    → scenario_of text ≡ Ok (written ls (entries_of js))
+
+-- The text of a journal that leaves its devices nothing to do is the text of a replay of the journal's events.
 abbrev pub IsReplayedAgain : HandlerRelation → Type 0
 IsReplayedAgain R =
-    (l : DeviceLineData) (medium : MediumState) (lines : List LineWhat) (text : List ℕ)
-    → IsSpelledDevice l
-    → (is : IsReplayText R l (opening l.settings l.name medium) lines text)
-    → KeepsLimits l is.entries text
-    → (scenario_of text ≡ Ok (written l is.entries)) × IsReplayText R l (opening l.settings l.name medium) (asks (written l is.entries)) text
+    (ls : List DeviceLineData) (opened : List Device) (js : List Journaled) (ends : List Device) (text : List ℕ)
+    → IsJournalOf R ls opened js ends text → Every (λ d. drain_event d.state ≡ None) ends
+    → IsReplayOf R ls opened (lines_of (entries_of js)) text
 
--- Two replays of devices that have lines, where both keep the limits and have one text, are of one device, and their events are the
--- same in the same order.
-abbrev pub TellsEvents : HandlerRelation → Type 0
-TellsEvents R =
-    (l k : DeviceLineData) (m n : MediumState) (ls ks : List LineWhat) (text : List ℕ)
-    → IsSpelledDevice l → IsSpelledDevice k
-    → (is : IsReplayText R l (opening l.settings l.name m) ls text) → (it : IsReplayText R k (opening k.settings k.name n) ks text)
-    → KeepsLimits l is.entries text → KeepsLimits k it.entries text
-    → (l ≡ k) × (map (λ e. e.event) is.entries ≡ map (λ e. e.event) it.entries)
-
--- The same of every scenario of one device that is read: the text of its replay is a scenario where the text is short enough and its events are
--- within the limits of a scenario.
+-- Every text of a replay of a scenario that is read, where it has at most 4,194,304 bytes and at most 20,000 events, is a scenario,
+-- and it is a text of a replay of that scenario on the same devices.
 abbrev pub IsScenarioAgain : HandlerRelation → Type 0
 IsScenarioAgain R =
-    (bytes text : List ℕ) (s : ScenarioData) (l : DeviceLineData) (medium : MediumState)
-    → scenario_of bytes ≡ Ok s → s.devices ≡ l ∷ [] → IsSpelledDevice l
-    → (is : IsReplayText R l (opening l.settings l.name medium) (asks s) text)
-    → length text ≤ 4194304 → IsScenario (written l is.entries)
-    → (scenario_of text ≡ Ok (written l is.entries)) × IsReplayText R l (opening l.settings l.name medium) (asks (written l is.entries)) text
+    (bytes text : List ℕ) (s : ScenarioData) (opened : List Device)
+    → scenario_of bytes ≡ Ok s → OpenAs s.devices opened → (is : IsReplayOf R s.devices opened s.lines text)
+    → length text ≤ 4194304 → length is.journal ≤ 20000
+    → (scenario_of text ≡ Ok (written s.devices (entries_of is.journal))) × IsReplayOf R s.devices opened (lines_of (entries_of is.journal)) text

@@ -11,4 +11,6 @@ pub use lines::{
 pub use pieces::{
     cdbs_again, flags_again, hex_again, numbers_again, rising_again, runs_again, serials_again,
 };
-pub use replay::{carried_law, events_law, replay_law, scenario_replay_law};
+pub use replay::{
+    carried_law, journal_law, reading_law, replay_law, scenario_replay_law, spelled_law,
+};

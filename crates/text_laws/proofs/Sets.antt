@@ -1,0 +1,49 @@
+-- Lists whose items are named by number.
+use Rattle.std.proofs.Common.{◌≡◌, ℕ, zero, suc, ◌<◌, List, [], ◌∷◌, length, slice_get, slice_set, Some, refl, ap, ◌∙◌, subst, arith}
+use Rattle.tcmu_model.specs.Sound.{Every}
+use Rattle.tcmu_model.proofs.Readings.{same_some}
+
+pub get_within : {X : Type 0} (xs : List X) (k : ℕ) (x : X) → slice_get xs k ≡ Some x → k < length xs
+get_within [] k x e = absurd (cc)
+get_within (y ∷ xs) zero x e = omega arith
+get_within (y ∷ xs) (suc k) x e = omega (arith, get_within xs k x e)
+
+pub get_found : {X : Type 0} (xs : List X) (k : ℕ) → k < length xs → (x : X) × (slice_get xs k ≡ Some x)
+get_found [] k lt = absurd (omega (arith, lt))
+get_found (y ∷ xs) zero lt = (y, refl)
+get_found (y ∷ xs) (suc k) lt = get_found xs k (omega (arith, lt))
+
+pub get_set : {X : Type 0} (xs : List X) (k : ℕ) (x y : X) → slice_get xs k ≡ Some x → slice_get (slice_set xs k y) k ≡ Some y
+get_set [] k x y e = absurd (cc)
+get_set (z ∷ xs) zero x y e = refl
+get_set (z ∷ xs) (suc k) x y e = get_set xs k x y e
+
+pub get_other : {X : Type 0} (xs : List X) (k at : ℕ) (y : X) → (k ≡ at → ⊥) → slice_get (slice_set xs k y) at ≡ slice_get xs at
+get_other [] k at y ne = refl
+get_other (z ∷ xs) zero zero y ne = absurd (ne refl)
+get_other (z ∷ xs) zero (suc at) y ne = refl
+get_other (z ∷ xs) (suc k) zero y ne = refl
+get_other (z ∷ xs) (suc k) (suc at) y ne = get_other xs k at y (λ q. ne (ap suc q))
+
+pub length_set : {X : Type 0} (xs : List X) (k : ℕ) (y : X) → length (slice_set xs k y) ≡ length xs
+length_set [] k y = refl
+length_set (z ∷ xs) zero y = refl
+length_set (z ∷ xs) (suc k) y = ap suc (length_set xs k y)
+
+pub every_set : {X : Type 0} (P : X → Type 0) (xs : List X) (k : ℕ) (y : X) → Every P xs → P y → Every P (slice_set xs k y)
+every_set P [] k y h p = tt
+every_set P (z ∷ xs) zero y h p = (p, h.1)
+every_set P (z ∷ xs) (suc k) y h p = (h.0, every_set P xs k y h.1 p)
+
+pub every_get : {X : Type 0} (P : X → Type 0) (xs : List X) (k : ℕ) (x : X) → Every P xs → slice_get xs k ≡ Some x → P x
+every_get P [] k x h e = absurd (cc)
+every_get P (z ∷ xs) zero x h e = subst P (same_some z x e) h.0
+every_get P (z ∷ xs) (suc k) x h e = every_get P xs k x h.1 e
+
+-- lists of one length with the same items are the same
+pub same_items : {X : Type 0} (xs ys : List X) → length xs ≡ length ys → ((at : ℕ) (x y : X) → slice_get xs at ≡ Some x → slice_get ys at ≡ Some y → y ≡ x) → ys ≡ xs
+same_items [] [] l e = refl
+same_items [] (y ∷ ys) l e = absurd (omega (arith, l))
+same_items (x ∷ xs) [] l e = absurd (omega (arith, l))
+same_items {X} (x ∷ xs) (y ∷ ys) l e =
+    ap (λ (z : X). z ∷ ys) (e 0 x y refl refl) ∙ ap (λ (zs : List X). x ∷ zs) (same_items xs ys (omega (arith, l)) (λ at. e (suc at)))
