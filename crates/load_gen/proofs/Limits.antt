@@ -25,21 +25,21 @@ command_is tag x = go (load_writes x) refl
     go true e = rw e (write_is tag (load_place x) (load_count x) (load_fill x) (count_few x))
     go false e = rw e (read_is tag (load_place x) (load_count x) (count_few x))
 
-abbrev submit_line : ℕ → ℕ → LineData
+abbrev pub submit_line : ℕ → ℕ → LineData
 submit_line i x = load_line (line.Makes (ev.Submit (load_command i x)))
 
-abbrev drain_if : Bool → List LineData
+abbrev pub drain_if : Bool → List LineData
 drain_if b = cond b (load_line line.Drains ∷ []) []
 
 step_is : (i x : ℕ) → load_step i x ≡ submit_line i x ∷ drain_if (i % 16 == 0)
 unfolding load_step
 step_is i x = refl
 
-lines_none : (seed : ℕ) → load_lines seed zero ≡ []
+pub lines_none : (seed : ℕ) → load_lines seed zero ≡ []
 unfolding load_lines
 lines_none seed = refl
 
-lines_more : (seed i : ℕ) → load_lines seed (suc i) ≡ load_lines seed i ++ (submit_line (suc i) (random_of seed (suc i)) ∷ drain_if (suc i % 16 == 0))
+pub lines_more : (seed i : ℕ) → load_lines seed (suc i) ≡ load_lines seed i ++ (submit_line (suc i) (random_of seed (suc i)) ∷ drain_if (suc i % 16 == 0))
 unfolding load_lines
 lines_more seed i = ap (λ (ls : List LineData). load_lines seed i ++ ls) (step_is (suc i) (random_of seed (suc i)))
 
@@ -49,7 +49,7 @@ drain_length : (b : Bool) → length (drain_if b) ≤ 1
 drain_length true = omega arith
 drain_length false = omega arith
 
-lines_few : (seed i : ℕ) → length (load_lines seed i) ≤ i + i
+pub lines_few : (seed i : ℕ) → length (load_lines seed i) ≤ i + i
 lines_few seed zero = rw (lines_none seed) (omega arith)
 lines_few seed (suc i) =
     let x = random_of seed (suc i) in
@@ -117,7 +117,7 @@ lines_are ds seed (suc i) lt =
     let step = All-cons (IsLine ds) (submit_line (suc i) x) (drain_if b) (submit_is ds (suc i) x lt) (drain_is ds b lt) in
     rw (lines_more seed i) (All-append (IsLine ds) (load_lines seed i) (submit_line (suc i) x ∷ drain_if b) (lines_are ds seed i lt) step)
 
-device_is : IsDeviceLine load_device
+pub device_is : IsDeviceLine load_device
 unfolding load_device load_config load_settings
 device_is =
     record {

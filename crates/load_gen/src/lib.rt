@@ -7,4 +7,4 @@ mod scenario;
 #[cfg(test)]
 mod tests;
 
-pub use scenario::load_scenario;
+pub use scenario::{load_device, load_lines, load_scenario};

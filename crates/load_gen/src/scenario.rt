@@ -48,8 +48,9 @@ fn load_settings() -> Settings
     }
 }
 
+/// The device of every load.
 #[tactic(auto, unfolding(tcmu_model::specs::Load::load_device))]
-fn load_device(alloc: Global) -> DeviceLine
+pub fn load_device(alloc: Global) -> DeviceLine
     ensures { result ≡ load_device }
 {
     DeviceLine {
@@ -80,7 +81,7 @@ fn push_step(alloc: Global, lines: &mut Vec<Line>, i: u32, x: u64) -> Result<(),
 
 /// The lines of so many commands.
 #[tactic(auto, using(crate::proofs::Following::steps))]
-fn load_lines(alloc: Global, seed: u64, count: u32) -> Result<Lines, NoMemory>
+pub fn load_lines(alloc: Global, seed: u64, count: u32) -> Result<Lines, NoMemory>
     requires { count ≤ 10000 }
     ensures { IfOk result (λ lines. lines.items ≡ load_lines seed count) }
 {
