@@ -1,0 +1,4 @@
+pub mod Remainders
+pub mod Following
+pub mod Sendable
+pub mod Limits

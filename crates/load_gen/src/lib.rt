@@ -1,0 +1,10 @@
+//! The load: a scenario of reads and writes on one device, which follow from a seed.
+#![tactic(auto)]
+
+mod commands;
+mod numbers;
+mod scenario;
+#[cfg(test)]
+mod tests;
+
+pub use scenario::{load_device, load_lines, load_scenario};

@@ -1,0 +1,4 @@
+pub mod OpenCounts
+pub mod Tallying
+pub mod Summing
+pub mod Loads
