@@ -4,6 +4,7 @@ ghost use Rattle.cmd_ring.specs.Places.{IsItemLength};
 
 use crate::{Place, Ring, Room};
 use std::test::Fail;
+use tcmu_model::plain;
 
 /// Lays an item where there is room.
 fn lay(ring: &mut Ring, len: u32) -> Option<Place>
@@ -56,6 +57,16 @@ fn the_last_byte_is_never_used(rt: HostRuntime) -> Result<(), Fail> {
         (ring.head(), ring.cleaned(), ring.used(), ring.free()),
         (3968, 0, 3968, 127)
     );
+    let laid = [128; 31];
+    assert_eq!(rt;
+        (ring.head() as u64, ring.used() as u64, ring.free() as u64),
+        (
+            plain::head(4096, &laid),
+            plain::used(&laid, 0),
+            plain::free(4096, &laid, 0)
+        )
+    );
+    assert!(rt; !plain::fits(4096, &laid, 0, 128));
     ring.reset();
     assert_eq!(rt;
         (ring.head(), ring.cleaned(), ring.used(), ring.free()),
@@ -71,6 +82,11 @@ fn an_item_lies_behind_padding_at_the_start(rt: HostRuntime) -> Result<(), Fail>
         pass(&mut ring, 144);
     }
     assert_eq!(rt; (ring.head(), ring.cleaned(), ring.used()), (4032, 4032, 0));
+    let laid = [144; 28];
+    assert_eq!(rt;
+        (plain::head(4096, &laid), plain::pad(4096, &laid, 144)),
+        (4032, 64)
+    );
     assert_eq!(rt; ring.room(144), Room::FitsAfterPad(64));
     assert_eq!(rt;
         lay(&mut ring, 144),

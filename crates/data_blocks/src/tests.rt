@@ -8,6 +8,7 @@ use crate::laws::first_free;
 use crate::{Blocks, BlocksFault};
 use std::alloc::Global;
 use std::test::Fail;
+use tcmu_model::plain;
 use tcmu_types::BlockList;
 
 /// The search as the definition says it.
@@ -75,8 +76,10 @@ fn the_least_free_blocks_are_taken(rt: HostRuntime) -> Result<(), Fail> {
     let first = taken(alloc, &mut blocks, 3)?;
     assert_eq!(rt; first.as_slice(), [0, 1, 2].as_slice());
     blocks.give(&BlockList::from_slice(alloc, &[1])?);
+    assert_eq!(rt; plain::first_free(&[0, 2], 4), Some(1));
     let second = taken(alloc, &mut blocks, 2)?;
     assert_eq!(rt; second.as_slice(), [1, 3].as_slice());
+    assert_eq!(rt; plain::first_free(&[0, 1, 2, 3], 4), None);
     assert_eq!(rt;
         blocks.reserve(1),
         Err(BlocksFault::Lacks { need: 1, free: 0 })
