@@ -1,5 +1,5 @@
 -- What is told of a store of bytes and of files by name.
-use Rattle.std.specs.Prelude.{◌≡◌, ℕ, ◌+◌, ◌%◌, ◌^◌, ◌≤◌, Bool, true, false, not, ◌||◌, ◌&&◌, nat_le, nat_eq, List, [], ◌∷◌, length, take, drop, bytes_eq, Option, Some, IfSome, if◌then◌else◌}
+use Rattle.std.specs.Prelude.{◌≡◌, ℕ, ◌%◌, ◌^◌, ◌≤◌, Bool, false, not, ◌||◌, ◌&&◌, nat_le, nat_eq, List, length, take, drop, bytes_eq, Option, Some, IfSome, if◌then◌else◌}
 use Rattle.std.specs.Option.{option_map}
 use Rattle.tcmu_types.specs.Numbered.{Numbered, is_listed, next_call}
 use Rattle.tcmu_types.specs.Overwriting.{overwritten}

@@ -1,9 +1,9 @@
 //! Files by name, of which media are made.
-ghost use Rattle.std.specs.Prelude.{◌≡◌, ◌≤◌, ◌^◌, ◌%◌, ℕ, List, Option, Some, length, is_err, IfOk, IfSome, OnErr};
+ghost use Rattle.std.specs.Prelude.{◌≡◌, true, Option, ℕ, IfOk, IfSome, OnErr};
 ghost use Rattle.std.specs.Option.{option_map};
 ghost use Rattle.tcmu_types.specs.Numbered.{HasCause};
 ghost use Rattle.edge.specs.declared.files.FetchOk.TheVariants.{File, NoMemory};
-ghost use Rattle.edge.specs.Stores.{FilesState, StoreState, Content, store_of, Opened, fetch_fails, one_more_fetch, after_keep};
+ghost use Rattle.edge.specs.Stores.{FilesState, Content, store_of, Opened, fetch_fails, one_more_fetch, after_keep, is_medium_size};
 
 use crate::{Failed, Store};
 use std::alloc::Global;
@@ -39,4 +39,11 @@ pub trait Files {
     fn keep(&mut self, name: &[u8], file: Self::File)
         ensures kept { (c : Content) → Self.File.state file ≡ store_of c → state self.new ≡ option_map (after_keep name.now c) (state self.old) }
         ensures faults { faults self.new ≡ faults self.old };
+}
+
+/// Whether so many bytes are whole logical blocks of 512, from one to 2^35 of them.
+pub(crate) fn has_medium_size(length: u64) -> bool
+    ensures { result ≡ is_medium_size length }
+{
+    length % 512 == 0 && 512 <= length && length <= 1 << 44
 }

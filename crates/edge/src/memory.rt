@@ -55,7 +55,7 @@ fn copy_front(from: &[u8], into: &mut [u8]) -> usize
     count
 }
 
-fn contains(fails: &[u64], call: u64) -> bool
+pub(crate) fn contains(fails: &[u64], call: u64) -> bool
     ensures { result ≡ list_any (λ k. nat_eq k call) fails.now }
 {
     fails.iter().any(|k| *k == call)
