@@ -1,6 +1,7 @@
 //! A medium in memory.
 ghost use Rattle.std.specs.Prelude.{◌≡◌, ◌+◌, ◌*◌, ◌≤◌, length, replicate, IfOk};
 ghost use Rattle.tcmu_types.specs.Overwriting.{overwritten};
+ghost use Rattle.tcmu_model.specs.MediumState.{memory};
 ghost use Rattle.tcmu_model.specs.Medium.{memory_state};
 
 use edge::Failed;
@@ -42,6 +43,17 @@ impl MemMedium {
             blocks: u64::from(blocks),
             calls: 0,
         })
+    }
+
+    /// Gives the memory back. What is read of a medium here shows what bears it.
+    pub(crate) fn discard(self)
+        ensures { self.below.layer ≡ memory }
+    {
+        let MemMedium {
+            bytes: _,
+            blocks: _,
+            calls: _,
+        } = self;
     }
 }
 

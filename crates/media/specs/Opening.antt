@@ -1,0 +1,49 @@
+-- How the medium that a config names opens, and why none does.
+use Rattle.std.specs.Prelude.{◌≡◌, ℕ, ◌/◌, true, List, Option, IfSome}
+use Rattle.std.specs.Option.{option_map}
+use Rattle.tcmu_types.specs.Numbered.{Rose}
+use Rattle.tcmu_model.specs.Config.{ConfigData, MediumData, InMemory, InFile}
+use Rattle.tcmu_model.specs.MediumState.{MediumState}
+use Rattle.tcmu_model.specs.Medium.{opened_medium, memory_below, file_below}
+use Rattle.edge.specs.Stores.{StoreState, FilesState, Opened, fetch_fails, one_more_fetch}
+use Rattle.media.specs.declared.make.MakeFault.{MakeFault}
+use Rattle.media.specs.declared.make.MakeFault.TheVariants.{Open, NoMemory}
+
+-- so many logical blocks of zeros; the files are as they were
+pub record OpensMemory (blocks : ℕ) (c : ConfigData) (old new : Option FilesState) (m : MediumState) : Type 0 where
+  pub medium : m ≡ opened_medium blocks c.protected c.fails (memory_below blocks)
+  pub files : new ≡ old
+
+-- the file of this name, as its store tells it; the file is out from then on
+pub record OpensFile (name : List ℕ) (c : ConfigData) (old new : Option FilesState) (m : MediumState) : Type 0 where
+  pub store : StoreState
+  pub medium : m ≡ opened_medium (store.size / 512) c.protected c.fails (file_below store.bytes store.calls)
+  pub fetched : Opened name store old new
+
+abbrev pub OpensKind : MediumData → ConfigData → Option FilesState → Option FilesState → MediumState → Type 0
+OpensKind (InMemory blocks) = OpensMemory blocks
+OpensKind (InFile name) = OpensFile name
+
+-- the medium that a config names, as it opens from these files
+abbrev pub Opens : ConfigData → Option FilesState → Option FilesState → MediumState → Type 0
+Opens c = OpensKind c.kind c
+
+-- The file of this name could not be fetched: the fetch failed as the files have it, was counted, and counted as a fault.
+pub record LacksFile (name : List ℕ) (old new : Option FilesState) (faults later : ℕ) : Type 0 where
+  pub fails : IfSome old (λ f. fetch_fails name f ≡ true)
+  pub files : new ≡ option_map one_more_fetch old
+  pub rose : Rose faults later
+
+-- why no file was given; where memory was wanting the files are as they were
+abbrev pub RefusesFetch : MakeFault → List ℕ → Option FilesState → Option FilesState → ℕ → ℕ → Type 0
+RefusesFetch Open name old new faults later = LacksFile name old new faults later
+RefusesFetch NoMemory name old new faults later = new ≡ old
+
+abbrev pub RefusesKind : MediumData → MakeFault → Option FilesState → Option FilesState → ℕ → ℕ → Type 0
+RefusesKind (InMemory blocks) Open old new faults later = ⊥
+RefusesKind (InMemory blocks) NoMemory old new faults later = new ≡ old
+RefusesKind (InFile name) e old new faults later = RefusesFetch e name old new faults later
+
+-- why no medium was made for a config: its file lacks, or memory was wanting
+abbrev pub Refuses : MakeFault → ConfigData → Option FilesState → Option FilesState → ℕ → ℕ → Type 0
+Refuses e c = RefusesKind c.kind e

@@ -1,0 +1,71 @@
+//! How the medium that a config names is made.
+ghost use Rattle.std.specs.Prelude.{◌≡◌, ◌≤◌, IfOk, IfErr, IfSome, true};
+ghost use Rattle.std.specs.Option.{option_map};
+ghost use Rattle.tcmu_types.specs.Numbered.{Rose};
+ghost use Rattle.tcmu_model.specs.ScenarioRules.{IsConfig};
+ghost use Rattle.edge.specs.Stores.{Opened, fetch_fails, one_more_fetch};
+ghost use Rattle.media.specs.Opening.{Opens, Refuses, RefusesFetch};
+ghost use Rattle.media.specs.declared.make.MakeFault.TheVariants as fault;
+
+use crate::{Configured, Media, MemMedium};
+use device_config::{Config, MediumKind};
+use edge::{Failed, FetchOk, Files};
+use handler_trait::Medium;
+use medium_file::FileMedium;
+use std::alloc::Global;
+use tcmu_types::{NoMemory, Serials};
+use thiserror::Error;
+
+/// Why no medium was made.
+#[derive(Clone, Copy, Debug, PartialEq, Eq, Error)]
+pub enum MakeFault {
+    /// The config's file could not be fetched.
+    #[error("the file of a medium could not be opened")]
+    Open,
+    #[error("no memory")]
+    NoMemory,
+}
+
+impl From<NoMemory> for MakeFault {
+    ghost from_gives = { λ _ e. e ≡ fault.NoMemory };
+
+    fn from(_: NoMemory) -> MakeFault {
+        MakeFault::NoMemory
+    }
+}
+
+fn fetch_file<F: Files>(alloc: Global, name: &[u8], files: &mut F) -> Result<F::File, MakeFault>
+    ensures fetched { IfOk result (λ s. Opened name.now (F.File.state s) (F.state files.old) (F.state files.new)) }
+    ensures refused { IfErr result (λ e. RefusesFetch e name.now (F.state files.old) (F.state files.new) (F.faults files.old) (F.faults files.new)) }
+    ensures faults { F.faults files.old ≤ F.faults files.new }
+{
+    match files.fetch(alloc, name) {
+        Ok(FetchOk::File(file)) => Ok(file),
+        Ok(FetchOk::NoMemory) => Err(MakeFault::NoMemory),
+        Err(Failed) => Err(MakeFault::Open),
+    }
+}
+
+/// Makes the medium that a config names, which fetches its file and makes no fetch for memory. A file that is fetched is out.
+pub fn make_medium<F: Files>(
+    alloc: Global,
+    config: &Config,
+    files: &mut F,
+) -> Result<Media<F::File>, MakeFault>
+    requires { IsConfig config.now }
+    ensures opened { IfOk result (λ m. Opens config.now (F.state files.old) (F.state files.new) (⟦<Media<F::File> as Medium>⟧.state m)) }
+    ensures refused { IfErr result (λ e. Refuses e config.now (F.state files.old) (F.state files.new) (F.faults files.old) (F.faults files.new)) }
+    ensures faults { F.faults files.old ≤ F.faults files.new }
+{
+    let fails = Serials::from_slice(alloc, config.fails.as_slice())?;
+    match &config.kind {
+        MediumKind::Memory(blocks) => {
+            let memory = MemMedium::new(alloc, *blocks)?;
+            Ok(Media::Memory(Configured::new(memory, config.protected, fails)))
+        }
+        MediumKind::File(name) => {
+            let file = FileMedium::new(fetch_file(alloc, name.as_slice(), files)?);
+            Ok(Media::File(Configured::new(file, config.protected, fails)))
+        }
+    }
+}

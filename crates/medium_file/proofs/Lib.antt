@@ -1,0 +1,3 @@
+pub mod StoreCalls
+pub mod LostRange
+pub mod FileCalls

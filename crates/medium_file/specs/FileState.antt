@@ -1,0 +1,27 @@
+-- What a medium over a store shows.
+use Rattle.std.specs.Prelude.{◌≡◌, ℕ, ◌*◌, ◌^◌, ◌≤◌, false, Some, []}
+use Rattle.std.specs.Option.{option_map}
+use Rattle.tcmu_model.specs.MediumState.{Span, Below, MediumState, file}
+use Rattle.tcmu_model.specs.Medium.{blanked}
+use Rattle.edge.specs.Stores.{StoreState}
+use Rattle.medium_file.specs.declared.file.Lost.{Lost}
+
+abbrev pub lost_span : Lost → Span
+lost_span l = record { start = l.start; end = l.end }
+
+-- what the store shows below, where the bytes of the lost range are not known
+abbrev pub below_file : StoreState → Span → Below
+below_file s lost = record { bytes = option_map (blanked lost) s.bytes; lost = lost; layer = file; store = s.calls }
+
+-- of so many blocks over a store, behind so many calls, of which the medium itself lets none fail
+abbrev pub file_state : ℕ → StoreState → Span → ℕ → MediumState
+file_state blocks s lost calls =
+    record { blocks = blocks; protected = false; own = record { fails = Some []; calls = calls }; below = below_file s lost }
+
+-- the blocks are those of the store, and what is lost lies in it
+pub record IsFile (blocks : ℕ) (s : StoreState) (lost : Span) : Type 0 where
+  pub long : s.size ≡ 512 * blocks
+  pub some : 1 ≤ blocks
+  pub most : blocks ≤ 2 ^ 35
+  pub ordered : lost.start ≤ lost.end
+  pub inside : lost.end ≤ s.size

@@ -1,0 +1,153 @@
+//! A medium over a store, with the range of the bytes that failed calls may have spoiled.
+ghost use Rattle.std.specs.Prelude.{◌≡◌, ◌+◌, ◌*◌, ◌/◌, ◌%◌, ◌^◌, ◌<◌, ◌≤◌, length, is_err, OnOk};
+ghost use Rattle.std.specs.Option.{option_map};
+ghost use Rattle.tcmu_types.specs.Numbered.{HasCause};
+ghost use Rattle.tcmu_model.specs.Medium.{Reads, narrowed, widened, span_of, empty_span, blanked};
+ghost use Rattle.edge.specs.Stores.{Shows};
+ghost use Rattle.medium_file.specs.FileState.{file_state, lost_span, IsFile};
+
+use crate::filling::fill_store;
+use edge::{Failed, Store};
+use handler_trait::Medium;
+
+/// The places from `start` up to `end`, in bytes.
+#[derive(Clone, Copy, Debug)]
+struct Lost {
+    start: u64,
+    end: u64,
+}
+
+/// What stays lost behind a success over `n` bytes from `at` on.
+fn narrowed(lost: Lost, at: u64, n: u64) -> Lost
+    requires { at + n < 2 ^ 64 }
+    ensures { lost_span result ≡ narrowed (lost_span lost) (span_of at n) }
+{
+    if at <= lost.start && lost.end <= at + n {
+        Lost { start: 0, end: 0 }
+    } else {
+        lost
+    }
+}
+
+/// What is lost behind a failure over `n` bytes from `at` on.
+fn widened(lost: Lost, at: u64, n: u64) -> Lost
+    requires { at + n < 2 ^ 64 }
+    ensures { lost_span result ≡ widened (lost_span lost) (span_of at n) }
+{
+    if lost.start < lost.end {
+        Lost {
+            start: lost.start.min(at),
+            end: lost.end.max(at + n),
+        }
+    } else {
+        Lost {
+            start: at,
+            end: at + n,
+        }
+    }
+}
+
+/// A medium over a store. A read, a write and a sync make one call of it, a fill one for each block, up to the first that fails.
+#[derive(Drop)]
+pub struct FileMedium<S: Store + Drop> {
+    store: S,
+    blocks: u64,
+    lost: Lost,
+    calls: u64,
+    ghost file: { IsFile blocks (S.state store) (lost_span lost) },
+}
+
+impl<S: Store + Drop> FileMedium<S> {
+    /// The store holds whole logical blocks of 512 bytes, from one to 2^35 of them.
+    pub fn new(store: S) -> FileMedium<S>
+        requires whole { (S.state store).size % 512 ≡ 0 }
+        requires some { 512 ≤ (S.state store).size }
+        requires most { (S.state store).size ≤ 2 ^ 44 }
+        ensures state { file_state result.blocks (S.state result.store) (lost_span result.lost) result.calls ≡ file_state ((S.state store).size / 512) (S.state store) empty_span 0 }
+        ensures store { result.store ≡ store }
+    {
+        let blocks = store.length() / 512;
+        FileMedium {
+            store,
+            blocks,
+            lost: Lost { start: 0, end: 0 },
+            calls: 0,
+        }
+    }
+
+    /// The store, as the calls left it. Where it tells its bytes, they are those of the medium's state outside of the lost range.
+    pub fn into_store(self) -> S
+        ensures store { result ≡ self.store }
+        ensures bytes { (file_state self.blocks (S.state self.store) (lost_span self.lost) self.calls).below.bytes ≡ option_map (blanked (lost_span self.lost)) (S.state result).bytes }
+        ensures calls { (file_state self.blocks (S.state self.store) (lost_span self.lost) self.calls).below.store ≡ (S.state result).calls }
+    {
+        let FileMedium {
+            store,
+            blocks: _,
+            lost: _,
+            calls: _,
+        } = self;
+        store
+    }
+}
+
+impl<S: Store + Drop> Medium for FileMedium<S> {
+    ghost state = { λ f. file_state f.blocks (S.state f.store) (lost_span f.lost) f.calls };
+
+    ghost faults = { λ f. S.faults f.store };
+
+    fn blocks(&self) -> u64 {
+        self.blocks
+    }
+
+    fn protected(&self) -> bool {
+        false
+    }
+
+    fn read(&mut self, at: u64, into: &mut [u8]) -> Result<(), Failed>
+        requires { at + length into.old ≤ 512 * self.old.blocks }
+        ensures reads { Reads at into.new (file_state self.old.blocks (S.state self.old.store) (lost_span self.old.lost) self.old.calls) (is_err result)
+            (file_state self.new.blocks (S.state self.new.store) (lost_span self.new.lost) self.new.calls) }
+        ensures blocks { self.new.blocks ≡ self.old.blocks }
+        ensures cause { HasCause (S.faults self.old.store) (S.faults self.new.store) result }
+        // What the store tells, in the lost range too.
+        ensures exact { OnOk result (Shows (S.state self.old.store).bytes at into.new) }
+    {
+        self.calls = self.calls.saturating_add(1);
+        self.store.read_at(at, into)
+    }
+
+    fn write(&mut self, at: u64, bytes: &[u8]) -> Result<(), Failed> {
+        self.calls = self.calls.saturating_add(1);
+        let n = bytes.len() as u64;
+        match self.store.write_at(at, bytes) {
+            Ok(()) => {
+                self.lost = narrowed(self.lost, at, n);
+                Ok(())
+            }
+            Err(failed) => {
+                self.lost = widened(self.lost, at, n);
+                Err(failed)
+            }
+        }
+    }
+
+    fn fill(&mut self, at: u64, block: &[u8; 512], count: u64) -> Result<(), Failed> {
+        self.calls = self.calls.saturating_add(1);
+        match fill_store(&mut self.store, at, block, count) {
+            Ok(()) => {
+                self.lost = narrowed(self.lost, at, 512 * count);
+                Ok(())
+            }
+            Err(failed) => {
+                self.lost = widened(self.lost, at, 512 * count);
+                Err(failed)
+            }
+        }
+    }
+
+    fn sync(&mut self) -> Result<(), Failed> {
+        self.calls = self.calls.saturating_add(1);
+        self.store.sync()
+    }
+}

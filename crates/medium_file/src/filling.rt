@@ -1,0 +1,32 @@
+//! Blocks that are written to a store one behind the other.
+ghost use Rattle.std.specs.Prelude.{◌≡◌, ◌+◌, ◌*◌, ◌≤◌, is_err, OnOk, OnErr};
+ghost use Rattle.tcmu_types.specs.Numbered.{Tries, HasCause};
+ghost use Rattle.tcmu_model.specs.Medium.{repeated};
+ghost use Rattle.edge.specs.Stores.{Puts, Spoils};
+
+use edge::{Failed, Store};
+
+/// Writes `count` copies of a block from `at` on, one call of the store each, up to the first that fails.
+pub fn fill_store<S: Store>(
+    store: &mut S,
+    at: u64,
+    block: &[u8; 512],
+    count: u64,
+) -> Result<(), Failed>
+    requires { at + 512 * count ≤ (S.state store.old).size }
+    ensures put { OnOk result (Puts at (repeated count block.now) (S.state store.old).bytes (S.state store.new).bytes) }
+    ensures failed { OnErr result (Spoils at (512 * count) (S.state store.old).bytes (S.state store.new).bytes) }
+    ensures size { (S.state store.new).size ≡ (S.state store.old).size }
+    ensures calls { Tries count (S.state store.old).calls (is_err result) (S.state store.new).calls }
+    ensures cause { HasCause (S.faults store.old) (S.faults store.new) result }
+{
+    // It shows that the places fit a u64.
+    let _length = store.length();
+    for k in 0..count {
+        match store.write_at(at + 512 * k, block) {
+            Ok(()) => {}
+            Err(failed) => return Err(failed),
+        }
+    }
+    Ok(())
+}
