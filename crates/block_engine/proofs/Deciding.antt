@@ -275,19 +275,70 @@ syncs_whole file b e = λ f a x w. other_layer file refl (sym e ∙ w.layer)
 syncs_whole overlay b e = λ f a x w. other_layer overlay refl (sym e ∙ w.layer)
 syncs_whole (write_back slots dirty) b e = λ f a x w. other_layer (write_back slots dirty) refl (sym e ∙ w.layer)
 
+-- ==== a file
+
+-- a file stays one behind a call
+abbrev KeepsFile : Call → Below → Type 0
+KeepsFile C b = (f : Bool) (a : Below) → C b f a → b.layer ≡ file → a.layer ≡ file
+
+abbrev is_file : Layer → Bool
+is_file memory = false
+is_file file = true
+is_file overlay = false
+is_file (write_back slots dirty) = false
+
+-- another layer is no file
+no_file : {X : Type 0} (l : Layer) → is_file l ≡ false → l ≡ file → X
+no_file l other e = true_false (ap is_file (sym e) ∙ other)
+
+store_filed : (n : ℕ) (b : Below) → KeepsFile (StoreCalls n) b
+store_filed n b f a x w = ap (λ (k : Below). k.layer) x.2 ∙ w
+
+leaves_filed : (n at : ℕ) (piece : List ℕ) (lost : ℕ) (b : Below) → KeepsFile (Leaves (StoreCalls n) (with_piece at piece) (with_lost at lost)) b
+leaves_filed n at piece lost b f a x w = ap (λ (k : Below). k.layer) x.2 ∙ by f x.0 ∙ store_filed n b f x.0 x.1 w
+  where
+    by : (f : Bool) (k : Below) → (if f then with_lost at lost k else with_piece at piece k).layer ≡ k.layer
+    by true k = refl
+    by false k = refl
+
+reads_filed : (l : Layer) (b : Below) → b.layer ≡ l → KeepsFile (ReadsBelow l) b
+reads_filed memory b e = λ f a x w. no_file memory refl (sym e ∙ w)
+reads_filed file b e = store_filed 1 b
+reads_filed overlay b e = λ f a x w. no_file overlay refl (sym e ∙ w)
+reads_filed (write_back slots dirty) b e = λ f a x w. no_file (write_back slots dirty) refl (sym e ∙ w)
+
+writes_filed : (l : Layer) (at : ℕ) (piece : List ℕ) (b : Below) → b.layer ≡ l → KeepsFile (WritesBelow l at piece) b
+writes_filed memory at piece b e = λ f a x w. no_file memory refl (sym e ∙ w)
+writes_filed file at piece b e = leaves_filed 1 at piece (length piece) b
+writes_filed overlay at piece b e = λ f a x w. no_file overlay refl (sym e ∙ w)
+writes_filed (write_back slots dirty) at piece b e = λ f a x w. no_file (write_back slots dirty) refl (sym e ∙ w)
+
+fills_filed : (l : Layer) (at : ℕ) (block : List ℕ) (count : ℕ) (b : Below) → b.layer ≡ l → KeepsFile (FillsBelow l at block count) b
+fills_filed memory at block count b e = λ f a x w. no_file memory refl (sym e ∙ w)
+fills_filed file at block count b e = leaves_filed count at (repeated count block) (512 * count) b
+fills_filed overlay at block count b e = λ f a x w. no_file overlay refl (sym e ∙ w)
+fills_filed (write_back slots dirty) at block count b e = λ f a x w. no_file (write_back slots dirty) refl (sym e ∙ w)
+
+syncs_filed : (l : Layer) (b : Below) → b.layer ≡ l → KeepsFile (SyncsBelow l) b
+syncs_filed memory b e = λ f a x w. no_file memory refl (sym e ∙ w)
+syncs_filed file b e = store_filed 1 b
+syncs_filed overlay b e = λ f a x w. no_file overlay refl (sym e ∙ w)
+syncs_filed (write_back slots dirty) b e = λ f a x w. no_file (write_back slots dirty) refl (sym e ∙ w)
+
 -- ==== calls of a medium
 
--- as much is told of a medium; and one in memory, of which nothing is lost, stays one
+-- as much is told of a medium; one in memory, of which nothing is lost, stays one, and so does one in a file
 pub record SameTold (m a : MediumState) : Type 0 where
   pub own : is_some a.own.fails ≡ is_some m.own.fails
   pub below : SameTelling m.below a.below
   pub whole : IsWhole m.below → IsWhole a.below
+  pub filed : m.below.layer ≡ file → a.below.layer ≡ file
 
 pub same_told : (m : MediumState) → SameTold m m
-same_told m = record { own = refl; below = same_same m.below; whole = λ w. w }
+same_told m = record { own = refl; below = same_same m.below; whole = λ w. w; filed = λ w. w }
 
 pub same_told_then : (m n k : MediumState) → SameTold m n → SameTold n k → SameTold m k
-same_told_then m n k x y = record { own = y.own ∙ x.own; below = same_then m.below n.below k.below x.below y.below; whole = λ w. y.whole (x.whole w) }
+same_told_then m n k x y = record { own = y.own ∙ x.own; below = same_then m.below n.below k.below x.below y.below; whole = λ w. y.whole (x.whole w); filed = λ w. y.filed (x.filed w) }
 
 -- the failing calls are told
 pub record TellsFails (m : MediumState) : Type 0 where
@@ -303,8 +354,8 @@ pub record IsSure (m : MediumState) (C : Bool → MediumState → Type 0) : Type
   pub one : (f g : Bool) (a b : MediumState) → TellsFails m → C f a → C g b → (f ≡ g) × (a ≡ b)
   pub same : (f : Bool) (a : MediumState) → C f a → SameTold m a
 
-makes_sure : (C : Call) (m : MediumState) → IsDecided C → KeepsWhole C m.below → IsSure m (MakesCall C m)
-makes_sure C m d w = record { some = some (comes_some m.own).0 (comes_some m.own).1; one = one; same = same }
+makes_sure : (C : Call) (m : MediumState) → IsDecided C → KeepsWhole C m.below → KeepsFile C m.below → IsSure m (MakesCall C m)
+makes_sure C m d w v = record { some = some (comes_some m.own).0 (comes_some m.own).1; one = one; same = same }
   where
     some : (listed : Bool) → ComesOut m.own listed → (f : Bool) × (a : MediumState) × MakesCall C m f a
     some true h = (true, counted m, inl (h, refl, refl))
@@ -318,17 +369,17 @@ makes_sure C m d w = record { some = some (comes_some m.own).0 (comes_some m.own
         let e = d.one m.below f g x.1 y.1 t.store x.2 y.2 in (e.0, x.3 ∙ ap (λ (k : Below). record (counted m) { below = k }) e.1 ∙ sym y.3)
 
     same : (f : Bool) (a : MediumState) → MakesCall C m f a → SameTold m a
-    same f a (inl x) = subst (SameTold m) (sym x.2) (record { own = refl; below = same_same m.below; whole = λ k. k })
-    same f a (inr x) = subst (SameTold m) (sym x.3) (record { own = refl; below = d.same m.below f x.1 x.2; whole = w f x.1 x.2 })
+    same f a (inl x) = subst (SameTold m) (sym x.2) (record { own = refl; below = same_same m.below; whole = λ k. k; filed = λ k. k })
+    same f a (inr x) = subst (SameTold m) (sym x.3) (record { own = refl; below = d.same m.below f x.1 x.2; whole = w f x.1 x.2; filed = v f x.1 x.2 })
 
 pub reads_sure : (m : MediumState) → IsSure m (MakesCall (ReadsBelow m.below.layer) m)
-reads_sure m = makes_sure (ReadsBelow m.below.layer) m (reads_below m.below.layer) (reads_whole m.below.layer m.below refl)
+reads_sure m = makes_sure (ReadsBelow m.below.layer) m (reads_below m.below.layer) (reads_whole m.below.layer m.below refl) (reads_filed m.below.layer m.below refl)
 
 pub writes_sure : (at : ℕ) (piece : List ℕ) (m : MediumState) → IsSure m (Writes at piece m)
-writes_sure at piece m = makes_sure (WritesBelow m.below.layer at piece) m (writes_below m.below.layer at piece) (writes_whole m.below.layer at piece m.below refl)
+writes_sure at piece m = makes_sure (WritesBelow m.below.layer at piece) m (writes_below m.below.layer at piece) (writes_whole m.below.layer at piece m.below refl) (writes_filed m.below.layer at piece m.below refl)
 
 pub fills_sure : (at : ℕ) (block : List ℕ) (count : ℕ) (m : MediumState) → IsSure m (Fills at block count m)
-fills_sure at block count m = makes_sure (FillsBelow m.below.layer at block count) m (fills_below m.below.layer at block count) (fills_whole m.below.layer at block count m.below refl)
+fills_sure at block count m = makes_sure (FillsBelow m.below.layer at block count) m (fills_below m.below.layer at block count) (fills_whole m.below.layer at block count m.below refl) (fills_filed m.below.layer at block count m.below refl)
 
 pub syncs_sure : (m : MediumState) → IsSure m (Syncs m)
-syncs_sure m = makes_sure (SyncsBelow m.below.layer) m (syncs_below m.below.layer) (syncs_whole m.below.layer m.below refl)
+syncs_sure m = makes_sure (SyncsBelow m.below.layer) m (syncs_below m.below.layer) (syncs_whole m.below.layer m.below refl) (syncs_filed m.below.layer m.below refl)

@@ -20,7 +20,7 @@ use Rattle.tcmu_model.specs.declared.op.Op.{Op}
 use Rattle.tcmu_model.specs.declared.op.Op.TheVariants as op
 use Rattle.tcmu_model.specs.declared.op.CdbFault.{CdbFault}
 use Rattle.tcmu_model.specs.declared.op.CdbFault.TheVariants as fault
-use Rattle.block_engine.specs.Determined.{IsTold, SeesRange, SeesOp, Sees, SomeReply, WholeReply, OneReply, StaysTold, OneReplyInMemory, StaysInMemory}
+use Rattle.block_engine.specs.Determined.{IsTold, SeesRange, SeesOp, Sees, SomeReply, WholeReply, OneReply, StaysTold, OneReplyInMemory, StaysInMemory, StaysInFile}
 use Rattle.block_engine.proofs.Deciding.{true_false, SameTold, same_told, same_told_then, TellsFails, tells_after, IsSure, reads_sure, writes_sure, fills_sure, syncs_sure}
 
 -- ==== UNMAP
@@ -418,3 +418,6 @@ stays_in_memory name m r first second one other k x y =
     let same = one_reply name m r first second one other k.told (sees_request m r k.lost) x y in
     let whole = (same_after name m r first one x).whole (record { layer = k.layer; lost = k.lost }) in
     (same.0, same.1, record { told = stays_told name m r first one k.told x; layer = whole.layer; lost = whole.lost })
+
+pub stays_in_file : StaysInFile
+stays_in_file name m r reply after x filed = let s = same_after name m r reply after x in (s.filed filed, s.below.bytes)

@@ -2,7 +2,7 @@
 use Rattle.std.specs.Prelude.{◌≡◌, ℕ, ◌+◌, ◌*◌, ◌<◌, ◌≤◌, min, length, true, false, List, is_some, MatchResult}
 use Rattle.tcmu_types.specs.Data.{ReplyData}
 use Rattle.tcmu_types.specs.Rules.{IsReply}
-use Rattle.tcmu_model.specs.MediumState.{MediumState, memory}
+use Rattle.tcmu_model.specs.MediumState.{MediumState, memory, file}
 use Rattle.tcmu_model.specs.Medium.{lies_in, empty_span, memory_state}
 use Rattle.tcmu_model.specs.Steps.{Asked}
 use Rattle.tcmu_model.specs.Decoding.{decoded}
@@ -57,6 +57,12 @@ abbrev pub StaysInMemory : Type 0
 StaysInMemory =
     (name : List ℕ) (m : MediumState) (r : Asked) (first second : ReplyData) (one other : MediumState) → IsInMemory m
     → Serves name m r first one → Serves name m r second other → (first ≡ second) × (one ≡ other) × IsInMemory one
+
+-- a medium in a file stays one, and tells its bytes behind a request exactly where it told them before
+abbrev pub StaysInFile : Type 0
+StaysInFile =
+    (name : List ℕ) (m : MediumState) (r : Asked) (reply : ReplyData) (after : MediumState) → Serves name m r reply after → m.below.layer ≡ file
+    → (after.below.layer ≡ file) × (is_some after.below.bytes ≡ is_some m.below.bytes)
 
 -- every request has a reply, over every medium
 abbrev pub SomeReply : Type 0

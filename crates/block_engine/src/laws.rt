@@ -1,5 +1,5 @@
 //! What follows from the engine's relation.
-ghost use Rattle.block_engine.specs.Determined.{SomeReply, WholeReply, OneReply, StaysTold, OneReplyInMemory, StaysInMemory};
+ghost use Rattle.block_engine.specs.Determined.{SomeReply, WholeReply, OneReply, StaysTold, OneReplyInMemory, StaysInMemory, StaysInFile};
 
 /// Every request has a reply, over every medium.
 pub fn some_reply()
@@ -30,4 +30,9 @@ pub fn one_reply_in_memory()
 /// A medium in memory of which nothing is lost stays one behind each request, and the request has one reply.
 pub fn stays_in_memory()
     ensures { StaysInMemory }
+{}
+
+/// A medium in a file stays one behind each request, and tells its bytes as it did before.
+pub fn stays_in_file()
+    ensures { StaysInFile }
 {}
