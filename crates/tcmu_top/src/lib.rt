@@ -2,17 +2,15 @@
 #![tactic(auto)]
 
 mod count;
-mod device;
 mod faults;
-mod laws;
 mod lines;
 mod opening;
 mod reading;
+mod several;
 mod status;
 mod top;
 mod writing;
 
-pub use laws::text_law;
 pub use status::Status;
 pub use tcmu_model::Why;
 pub use top::{run_replay, tcmu_top};
