@@ -1,8 +1,8 @@
 //! The program: a scenario comes from standard input, its journal goes to standard output, a fault line to standard error, and the
-//! status is the exit status.
+//! status is the exit status. Files are opened by their names as given, from the current folder.
 #![tactic(auto)]
 
-use edge::{StdSink, StdSource};
+use edge::{HostFiles, StdSink, StdSource};
 use std::process::ExitCode;
 use std::{env, io};
 use tcmu_top::{Status, tcmu_top};
@@ -25,16 +25,21 @@ fn words_of(rt: &HostRuntime) -> Result<Words, NoMemory> {
     Ok(words)
 }
 
-fn run(rt: &HostRuntime, words: &Words) -> u8 {
+fn run(rt: &HostRuntime, words: &Words) -> Status {
+    let Ok(host) = rt.clone() else {
+        return Status::NoMemory;
+    };
     let mut src = StdSource::new(rt.stdin());
     let mut out = StdSink::new(rt.stdout());
     let mut err = StdSink::new(rt.stderr());
-    tcmu_top(rt.alloc(), words, &mut src, &mut out, &mut err).code()
+    let mut files = HostFiles::new(host);
+    tcmu_top(rt.alloc(), words, &mut src, &mut out, &mut err, &mut files)
 }
 
 fn main(rt: HostRuntime) -> ExitCode {
-    match words_of(&rt) {
-        Ok(words) => ExitCode::from(run(&rt, &words)),
-        Err(NoMemory) => ExitCode::from(Status::NoMemory.code()),
-    }
+    let status = match words_of(&rt) {
+        Ok(words) => run(&rt, &words),
+        Err(NoMemory) => Status::NoMemory,
+    };
+    ExitCode::from(status.code())
 }

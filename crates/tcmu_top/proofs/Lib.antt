@@ -3,5 +3,14 @@ pub mod RunTexts
 pub mod Outcomes
 pub mod OpenCounts
 pub mod Playing
+pub mod Places
+pub mod Legal
+pub mod Each
+pub mod Endings
+pub mod Going
+pub mod Sets
 pub mod Whole
+pub mod Fetching
+pub mod FileRuns
+pub mod Keeping
 pub mod Scenarios

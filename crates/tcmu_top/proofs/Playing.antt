@@ -23,14 +23,14 @@ use Rattle.tcmu_model.specs.Sound.{IsSound, Every}
 use Rattle.tcmu_model.specs.Work.{Outcome, HasOutcomes, GoesOn, work}
 use Rattle.tcmu_model.specs.ScenarioData.{DeviceLineData, LineWhat, LineData}
 use Rattle.tcmu_model.specs.ScenarioData as line
-use Rattle.tcmu_model.specs.Replay.{Plays, Replays}
+use Rattle.tcmu_model.specs.Replay.{Plays}
 use Rattle.tcmu_model.specs.Text.{entry_text}
 use Rattle.tcmu_model.proofs.Draining.{work_falls}
 use Rattle.tcmu_model.proofs.GoesOn.{goes_on_first, goes_on_more, drains_run}
 use Rattle.tcmu_model.proofs.Logs.{makes_grows}
-use Rattle.tcmu_top.specs.Playing.{run_text, MadeEvent, Told, Stopped, Wrote, WroteFront}
+use Rattle.tcmu_top.specs.Playing.{event_lines, run_text, MadeEvent, Told, Stopped, Wrote, WroteFront}
 use Rattle.tcmu_model.specs.ScenarioRules.{IsEvent}
-use Rattle.tcmu_top.specs.Tasks.{IsFit, CanBeMade, asks}
+use Rattle.tcmu_top.specs.Tasks.{IsFit, CanBeMade}
 use Rattle.tcmu_top.proofs.Telling.{gained_none, gained_more, gained_as, front_none, front_whole, front_behind}
 use Rattle.tcmu_top.proofs.RunTexts.{run_append, text_more, text_one, drop_front}
 use Rattle.tcmu_model.proofs.Runs.{sound_step, sound_run}
@@ -41,29 +41,24 @@ use Rattle.tcmu_model.proofs.DrainEnds.{drain_ends, rows_commands}
 pub run_one : (R : HandlerRelation) (d d' : Device) (e : EntryData) → Step R d e d' → Run R d (e ∷ []) d'
 run_one R d d' e s = (d', s, refl)
 
-pub plays_run : (R : HandlerRelation) (d d' : Device) (task : LineWhat) (es : List EntryData) → Plays R 0 d task es d' → Run R d es d'
-plays_run R d d' (line.Makes event) es h = subst (λ (xs : List EntryData). Run R d xs d') (sym (h.4)) (run_one R d d' (h.0) (h.3))
-plays_run R d d' line.Drains es h = drains_run R 0 d d' es h
-plays_run R d d' line.Dumps es h = absurd h
-
-pub replays_run : (R : HandlerRelation) (d d' : Device) (tasks : List LineWhat) (es : List EntryData) → Replays R 0 d tasks es d' → Run R d es d'
-replays_run R d d' [] es h = drains_run R 0 d d' es h
-replays_run R d d' (task ∷ tasks) es h =
-    subst (λ (xs : List EntryData). Run R d xs d') (sym (h.3)) (run_append R d (h.2) d' (h.0) (h.1) (plays_run R d (h.2) task (h.0) (h.4)) (replays_run R (h.2) d' tasks (h.1) (h.5)))
+pub plays_run : (R : HandlerRelation) (at : ℕ) (d d' : Device) (task : LineWhat) (es : List EntryData) → Plays R at d task es d' → Run R d es d'
+plays_run R at d d' (line.Makes event) es h = subst (λ (xs : List EntryData). Run R d xs d') (sym (h.4)) (run_one R d d' (h.0) (h.3))
+plays_run R at d d' line.Drains es h = drains_run R at d d' es h
+plays_run R at d d' line.Dumps es h = absurd h
 
 -- from each sound device a drain has an end
-drained : (R : HandlerRelation) (d : Device) → HasOutcomes R → IsSound d.state → (es : List EntryData) × (end : Device) × Drains R 0 d es end
-drained R d outcomes sound = let all = drain_ends R 0 d outcomes sound in (all.entries, all.end, all.drain)
+pub drained : (R : HandlerRelation) (at : ℕ) (d : Device) → HasOutcomes R → IsSound d.state → (es : List EntryData) × (end : Device) × Drains R at d es end
+drained R at d outcomes sound = let all = drain_ends R at d outcomes sound in (all.entries, all.end, all.drain)
 
 -- ==== every line has an outcome
 
 -- an event that comes out somehow has an entry
-entry_made : (R : HandlerRelation) (d d' : Device) (event : EventData) (a : AnswerData) → Makes R d event a d' → (after : Device) × MadeEvent R 0 event d after
-entry_made R d d' event a h =
+entry_made : (R : HandlerRelation) (at : ℕ) (d d' : Device) (event : EventData) (a : AnswerData) → Makes R d event a d' → (after : Device) × MadeEvent R at event d after
+entry_made R at d d' event a h =
     let g = makes_grows R d d' event a h in (
       d',
       record {
-        entry = record { device = 0; event = event; answer = a; logged = length g.0 };
+        entry = record { device = at; event = event; answer = a; logged = length g.0 };
         device = refl;
         is = refl;
         step = record { makes = h; logged = omega (arith, ap length g.1, length-append d.state.log g.0) };
@@ -79,121 +74,113 @@ first_every P p (v ∷ us) u h e =
     (cases_Bool (p v))
 
 -- the handler is asked for a command that is out, and for no other
-handled : (R : HandlerRelation) (d : Device) (s : ℕ) (o : Option Unfinished) → command_out d.state s ≡ o → HasOutcomes R → IsSound d.state → (after : Device) × MadeEvent R 0 (ev.Handle s) d after
-handled R d s None e outcomes sound = entry_made R d d (ev.Handle s) (ev.Answered (handle.NotOut s)) (refl, e, refl)
-handled R d s (Some u) e outcomes sound =
+handled : (R : HandlerRelation) (at : ℕ) (d : Device) (s : ℕ) (o : Option Unfinished) → command_out d.state s ≡ o → HasOutcomes R → IsSound d.state → (after : Device) × MadeEvent R at (ev.Handle s) d after
+handled R at d s None e outcomes sound = entry_made R at d d (ev.Handle s) (ev.Answered (handle.NotOut s)) (refl, e, refl)
+handled R at d s (Some u) e outcomes sound =
     let c : IsCommand u.command = first_every (λ v. IsCommand v.command) (is_at s Out) d.state.unfinished u (rows_commands d.state sound) e in
     let r : Outcome R d.name d.medium (asked u.command) = outcomes d.name d.medium u.command c in
     let d' : Device = record { name = d.name; medium = r.after; state = after_handle d.state s r.reply } in
-    entry_made R d d' (ev.Handle s) (ev.Answered (handle.Done r.reply)) (u, record { found = e; relation = r.relation; whole = r.rules; payload = r.payload; name = refl; state = refl })
+    entry_made R at d d' (ev.Handle s) (ev.Answered (handle.Done r.reply)) (u, record { found = e; relation = r.relation; whole = r.rules; payload = r.payload; name = refl; state = refl })
 
 -- each event within its limits can be made
-pub event_made : (R : HandlerRelation) (d : Device) (event : EventData) → HasOutcomes R → IsSound d.state → IsEvent event → (d' : Device) × MadeEvent R 0 event d d'
-event_made R d (ev.Submit c) o k h =
-    entry_made R d (moved d (after_submit d.state c (submit_answer d.state c))) (ev.Submit c) (ev.Submitted (submit_answer d.state c)) (record { command = h; answer = refl; after = refl })
-event_made R d (ev.Handle s) o k h = handled R d s (command_out d.state s) refl o k
-event_made R d ev.Dispatch o k h = entry_made R d (moved d (after_dispatch d.state)) ev.Dispatch (ev.Dispatched (dispatch_answer d.state)) (record { answer = refl; after = refl })
-event_made R d (ev.Respond s) o k h =
-    entry_made R d (moved d (after_respond d.state s)) (ev.Respond s) (ev.Responded (respond_answer d.state s)) (record { answer = refl; after = refl })
-event_made R d ev.Publish o k h = entry_made R d (moved d (after_publish d.state)) ev.Publish (ev.Published (publish_answer d.state)) (record { answer = refl; after = refl })
-event_made R d ev.Clean o k h = entry_made R d (moved d (after_clean d.state)) ev.Clean (ev.Logged (clean_answer d.state)) (record { answer = refl; after = refl })
-event_made R d (ev.Tick n) o k h = entry_made R d (moved d (after_tick d.state n)) (ev.Tick n) (ev.Logged (tick_answer d.state n)) (record { answer = refl; after = refl })
-event_made R d ev.Block o k h = entry_made R d (moved d (after_block d.state true)) ev.Block (ev.Changed (block_answer d.state true)) (record { answer = refl; after = refl })
-event_made R d ev.Unblock o k h = entry_made R d (moved d (after_block d.state false)) ev.Unblock (ev.Changed (block_answer d.state false)) (record { answer = refl; after = refl })
-event_made R d (ev.Reset level) o k h =
-    entry_made R d (moved d (after_reset d.state level)) (ev.Reset level) (ev.WasReset (reset_answer d.state level)) (record { answer = refl; after = refl })
-event_made R d ev.Restart o k h = entry_made R d (moved d (after_restart d.state)) ev.Restart (ev.Lost (restart_answer d.state)) (record { answer = refl; after = refl })
-event_made R d (ev.Tmr kind ss) o k h =
-    entry_made R d (moved d (after_tmr d.state kind ss (tmr_answer d.state ss))) (ev.Tmr kind ss) (ev.Noted (tmr_answer d.state ss)) (record { answer = refl; after = refl })
-event_made R d ev.Stat o k h = entry_made R d d ev.Stat (ev.Told (stat_answer d.state)) (record { answer = refl; after = refl })
-event_made R d ev.Enter o k h = entry_made R d (moved d (after_enter d.state (enter_answer d.state))) ev.Enter (ev.Entered (enter_answer d.state)) (record { answer = refl; after = refl })
+pub event_made : (R : HandlerRelation) (at : ℕ) (d : Device) (event : EventData) → HasOutcomes R → IsSound d.state → IsEvent event → (d' : Device) × MadeEvent R at event d d'
+event_made R at d (ev.Submit c) o k h =
+    entry_made R at d (moved d (after_submit d.state c (submit_answer d.state c))) (ev.Submit c) (ev.Submitted (submit_answer d.state c)) (record { command = h; answer = refl; after = refl })
+event_made R at d (ev.Handle s) o k h = handled R at d s (command_out d.state s) refl o k
+event_made R at d ev.Dispatch o k h = entry_made R at d (moved d (after_dispatch d.state)) ev.Dispatch (ev.Dispatched (dispatch_answer d.state)) (record { answer = refl; after = refl })
+event_made R at d (ev.Respond s) o k h =
+    entry_made R at d (moved d (after_respond d.state s)) (ev.Respond s) (ev.Responded (respond_answer d.state s)) (record { answer = refl; after = refl })
+event_made R at d ev.Publish o k h = entry_made R at d (moved d (after_publish d.state)) ev.Publish (ev.Published (publish_answer d.state)) (record { answer = refl; after = refl })
+event_made R at d ev.Clean o k h = entry_made R at d (moved d (after_clean d.state)) ev.Clean (ev.Logged (clean_answer d.state)) (record { answer = refl; after = refl })
+event_made R at d (ev.Tick n) o k h = entry_made R at d (moved d (after_tick d.state n)) (ev.Tick n) (ev.Logged (tick_answer d.state n)) (record { answer = refl; after = refl })
+event_made R at d ev.Block o k h = entry_made R at d (moved d (after_block d.state true)) ev.Block (ev.Changed (block_answer d.state true)) (record { answer = refl; after = refl })
+event_made R at d ev.Unblock o k h = entry_made R at d (moved d (after_block d.state false)) ev.Unblock (ev.Changed (block_answer d.state false)) (record { answer = refl; after = refl })
+event_made R at d (ev.Reset level) o k h =
+    entry_made R at d (moved d (after_reset d.state level)) (ev.Reset level) (ev.WasReset (reset_answer d.state level)) (record { answer = refl; after = refl })
+event_made R at d ev.Restart o k h = entry_made R at d (moved d (after_restart d.state)) ev.Restart (ev.Lost (restart_answer d.state)) (record { answer = refl; after = refl })
+event_made R at d (ev.Tmr kind ss) o k h =
+    entry_made R at d (moved d (after_tmr d.state kind ss (tmr_answer d.state ss))) (ev.Tmr kind ss) (ev.Noted (tmr_answer d.state ss)) (record { answer = refl; after = refl })
+event_made R at d ev.Stat o k h = entry_made R at d d ev.Stat (ev.Told (stat_answer d.state)) (record { answer = refl; after = refl })
+event_made R at d ev.Enter o k h = entry_made R at d (moved d (after_enter d.state (enter_answer d.state))) ev.Enter (ev.Entered (enter_answer d.state)) (record { answer = refl; after = refl })
 
-plays_made : (R : HandlerRelation) (d d' : Device) (event : EventData) (m : MadeEvent R 0 event d d') → Plays R 0 d (line.Makes event) (m.entry ∷ []) d'
-plays_made R d d' event m = (m.entry, m.device, m.is, m.step, refl)
+pub plays_made : (R : HandlerRelation) (at : ℕ) (d d' : Device) (event : EventData) (m : MadeEvent R at event d d') → Plays R at d (line.Makes event) (m.entry ∷ []) d'
+plays_made R at d d' event m = (m.entry, m.device, m.is, m.step, refl)
 
-plays_total : (R : HandlerRelation) (d : Device) (task : LineWhat) → HasOutcomes R → IsSound d.state → IsFit task → (es : List EntryData) × (d' : Device) × Plays R 0 d task es d'
-plays_total R d (line.Makes event) outcomes sound fit = let m = event_made R d event outcomes sound fit in (m.1.entry ∷ [], m.0, plays_made R d (m.0) event (m.1))
-plays_total R d line.Drains outcomes sound fit = drained R d outcomes sound
-plays_total R d line.Dumps outcomes sound fit = absurd fit
-
-pub replays_total : (R : HandlerRelation) (d : Device) (tasks : List LineWhat) → HasOutcomes R → IsSound d.state → Every IsFit tasks → (es : List EntryData) × (d' : Device) × Replays R 0 d tasks es d'
-replays_total R d [] outcomes sound fit = drained R d outcomes sound
-replays_total R d (task ∷ tasks) outcomes sound fit =
-    let first = plays_total R d task outcomes sound fit.0 in
-    let then_sound = sound_run R d (first.1) (first.0) sound (plays_run R d (first.1) task (first.0) (first.2)) in
-    let rest = replays_total R (first.1) tasks outcomes then_sound fit.1 in
-    (first.0 ++ rest.0, rest.1, (first.0, rest.0, first.1, refl, first.2, rest.2))
+pub plays_total : (R : HandlerRelation) (at : ℕ) (d : Device) (task : LineWhat) → HasOutcomes R → IsSound d.state → IsFit task → (es : List EntryData) × (d' : Device) × Plays R at d task es d'
+plays_total R at d (line.Makes event) outcomes sound fit = let m = event_made R at d event outcomes sound fit in (m.1.entry ∷ [], m.0, plays_made R at d (m.0) event (m.1))
+plays_total R at d line.Drains outcomes sound fit = drained R at d outcomes sound
+plays_total R at d line.Dumps outcomes sound fit = absurd fit
 
 -- ==== a drain
 
 -- what was drained so far
-pub record Draining (R : HandlerRelation) (l : DeviceLineData) (start d : Device) (old now : Option (List ℕ)) : Type 0 where
+pub record Draining (R : HandlerRelation) (at : ℕ) (l : DeviceLineData) (start d : Device) (old now : Option (List ℕ)) : Type 0 where
   pub sofar : List EntryData
   pub run : Run R start sofar d
-  pub goes_on : GoesOn R 0 start sofar d
+  pub goes_on : GoesOn R at start sofar d
   pub wrote : Gained old (run_text l start sofar d) now
   pub sound : IsSound d.state
 
-pub draining_first : (R : HandlerRelation) (l : DeviceLineData) (d : Device) (old : Option (List ℕ)) → IsSound d.state → Draining R l d d old old
-draining_first R l d old sound = record { sofar = []; run = refl; goes_on = goes_on_first R 0 d; wrote = gained_none old; sound = sound }
+pub draining_first : (R : HandlerRelation) (at : ℕ) (l : DeviceLineData) (d : Device) (old : Option (List ℕ)) → IsSound d.state → Draining R at l d d old old
+draining_first R at l d old sound = record { sofar = []; run = refl; goes_on = goes_on_first R at d; wrote = gained_none old; sound = sound }
 
-pub draining_more : (R : HandlerRelation) (l : DeviceLineData) (start d d' : Device) (event : EventData) (old mid now : Option (List ℕ))
-    → Draining R l start d old mid → drain_event d.state ≡ Some event → Told R l event d d' mid now → Draining R l start d' old now
-draining_more R l start d d' event old mid now so picked told =
+pub draining_more : (R : HandlerRelation) (at : ℕ) (l : DeviceLineData) (start d d' : Device) (event : EventData) (old mid now : Option (List ℕ))
+    → Draining R at l start d old mid → drain_event d.state ≡ Some event → Told R at l event d d' mid now → Draining R at l start d' old now
+draining_more R at l start d d' event old mid now so picked told =
     let m = told.made in
     let one = run_one R d d' m.entry m.step in
     record {
       sofar = so.sofar ++ m.entry ∷ [];
       run = run_append R start d d' so.sofar (m.entry ∷ []) so.run one;
-      goes_on = goes_on_more R 0 start d d' so.sofar m.entry m.device (picked ∙ ap (λ (x : EventData). Some x) (sym m.is)) m.step so.goes_on;
+      goes_on = goes_on_more R at start d d' so.sofar m.entry m.device (picked ∙ ap (λ (x : EventData). Some x) (sym m.is)) m.step so.goes_on;
       wrote = gained_as old now _ _ (sym (text_more R l start d d' so.sofar (m.entry ∷ []) so.run one)) (gained_more old mid now _ _ so.wrote told.wrote);
       sound = sound_step R d d' m.entry so.sound m.step;
     }
 
-pub draining_done : (R : HandlerRelation) (l : DeviceLineData) (start d : Device) (old now : Option (List ℕ)) → Draining R l start d old now → drain_event d.state ≡ None
-    → Wrote R l (λ es. Drains R 0 start es d) start d old now
-draining_done R l start d old now so none =
+pub draining_done : (R : HandlerRelation) (at : ℕ) (l : DeviceLineData) (start d : Device) (old now : Option (List ℕ)) → Draining R at l start d old now → drain_event d.state ≡ None
+    → Wrote R l (λ es. Drains R at start es d) start d old now
+draining_done R at l start d old now so none =
     record {
       entries = so.sofar;
-      right = subst (λ (es : List EntryData). Drains R 0 start es d) (append-nil so.sofar) (so.goes_on [] d (none, refl));
+      right = subst (λ (es : List EntryData). Drains R at start es d) (append-nil so.sofar) (so.goes_on [] d (none, refl));
       run = so.run;
       wrote = so.wrote;
     }
 
-pub draining_stopped : (R : HandlerRelation) (l : DeviceLineData) (start d d' : Device) (event : EventData) (old mid now : Option (List ℕ)) → HasOutcomes R
-    → Draining R l start d old mid → drain_event d.state ≡ Some event → Stopped R l event d d' mid now → WroteFront R l (Drains R 0 start) start d' old now
-draining_stopped R l start d d' event old mid now outcomes so picked (inl nothing) =
-    let rest = drained R d outcomes so.sound in
-    let front : WroteFront R l (Drains R 0 start) start d old mid =
+pub draining_stopped : (R : HandlerRelation) (at : ℕ) (l : DeviceLineData) (start d d' : Device) (event : EventData) (old mid now : Option (List ℕ)) → HasOutcomes R
+    → Draining R at l start d old mid → drain_event d.state ≡ Some event → Stopped R at l event d d' mid now → WroteFront R l (Drains R at start) start d' old now
+draining_stopped R at l start d d' event old mid now outcomes so picked (inl nothing) =
+    let rest = drained R at d outcomes so.sound in
+    let front : WroteFront R l (Drains R at start) start d old mid =
     record {
       made = so.sofar;
       rest = rest.0;
       end = rest.1;
       right = so.goes_on (rest.0) (rest.1) (rest.2);
       run = so.run;
-      more = drains_run R 0 d (rest.1) (rest.0) (rest.2);
+      more = drains_run R at d (rest.1) (rest.0) (rest.2);
       wrote = front_whole old mid _ [] _ (sym (append-nil (run_text l start so.sofar d))) so.wrote;
     } in
-    subst (λ (w : Option (List ℕ)). WroteFront R l (Drains R 0 start) start d' old w) (sym nothing.wrote)
-    (subst (λ (x : Device). WroteFront R l (Drains R 0 start) start x old mid) (sym nothing.device) front)
-draining_stopped R l start d d' event old mid now outcomes so picked (inr told) =
+    subst (λ (w : Option (List ℕ)). WroteFront R l (Drains R at start) start d' old w) (sym nothing.wrote)
+    (subst (λ (x : Device). WroteFront R l (Drains R at start) start x old mid) (sym nothing.device) front)
+draining_stopped R at l start d d' event old mid now outcomes so picked (inr told) =
     let m = told.made in
     let one = run_one R d d' m.entry m.step in
-    let goes : GoesOn R 0 start (so.sofar ++ m.entry ∷ []) d' = goes_on_more R 0 start d d' so.sofar m.entry m.device (picked ∙ ap (λ (x : EventData). Some x) (sym m.is)) m.step so.goes_on in
-    let rest = drained R d' outcomes (sound_step R d d' m.entry so.sound m.step) in
+    let goes : GoesOn R at start (so.sofar ++ m.entry ∷ []) d' = goes_on_more R at start d d' so.sofar m.entry m.device (picked ∙ ap (λ (x : EventData). Some x) (sym m.is)) m.step so.goes_on in
+    let rest = drained R at d' outcomes (sound_step R d d' m.entry so.sound m.step) in
     record {
       made = so.sofar ++ m.entry ∷ [];
       rest = rest.0;
       end = rest.1;
       right = goes (rest.0) (rest.1) (rest.2);
       run = run_append R start d d' so.sofar (m.entry ∷ []) so.run one;
-      more = drains_run R 0 d' (rest.1) (rest.0) (rest.2);
+      more = drains_run R at d' (rest.1) (rest.0) (rest.2);
       wrote = front_behind old mid now (run_text l start so.sofar d) (run_text l d (m.entry ∷ []) d') _ (text_more R l start d d' so.sofar (m.entry ∷ []) so.run one) so.wrote told.wrote;
     }
 
 -- each event of a drain leaves less to do
-pub falls_told : (R : HandlerRelation) (l : DeviceLineData) (d d' : Device) (event : EventData) (old now : Option (List ℕ)) → IsSound d.state → drain_event d.state ≡ Some event → Told R l event d d' old now → work d'.state < work d.state
-falls_told R l d d' event old now sound picked told =
+pub falls_told : (R : HandlerRelation) (at : ℕ) (l : DeviceLineData) (d d' : Device) (event : EventData) (old now : Option (List ℕ)) → IsSound d.state → drain_event d.state ≡ Some event → Told R at l event d d' old now → work d'.state < work d.state
+falls_told R at l d d' event old now sound picked told =
     work_falls R d d' told.made.entry sound (picked ∙ ap (λ (x : EventData). Some x) (sym told.made.is)) told.made.step
 
 -- ==== one event
@@ -210,157 +197,83 @@ log_longer R d d' event a before after h b c =
     let g = makes_grows R d d' event a h in
     omega (arith, ap length g.1, length-append d.state.log g.0, ap length b, ap length c)
 
-abbrev entry_of : EventData → AnswerData → List DoneData → EntryData
-entry_of event a logged = record { device = 0; event = event; answer = a; logged = length logged }
+abbrev entry_of : ℕ → EventData → AnswerData → List DoneData → EntryData
+entry_of at event a logged = record { device = at; event = event; answer = a; logged = length logged }
 
-abbrev made_of : (R : HandlerRelation) (d d' : Device) (event : EventData) (a : AnswerData) (logged : List DoneData) → Makes R d event a d' → logged ≡ drop (length d.state.log) d'.state.log → MadeEvent R 0 event d d'
-made_of R d d' event a logged h is =
+abbrev made_of : (R : HandlerRelation) (at : ℕ) (d d' : Device) (event : EventData) (a : AnswerData) (logged : List DoneData) → Makes R d event a d' → logged ≡ drop (length d.state.log) d'.state.log → MadeEvent R at event d d'
+made_of R at d d' event a logged h is =
     record {
-      entry = entry_of event a logged;
+      entry = entry_of at event a logged;
       device = refl;
       is = refl;
       step = record { makes = h; logged = log_kept R d d' event a logged h is };
     }
 
-one_text : (R : HandlerRelation) (l : DeviceLineData) (d d' : Device) (event : EventData) (a : AnswerData) (logged : List DoneData) → Makes R d event a d' → logged ≡ drop (length d.state.log) d'.state.log
-    → entry_text l.name l.settings.qfull (entry_of event a logged) logged ≡ run_text l d (entry_of event a logged ∷ []) d'
-one_text R l d d' event a logged h is =
-    ap (entry_text l.name l.settings.qfull (entry_of event a logged)) is
-    ∙ sym (text_one R l d d' (entry_of event a logged) (record { makes = h; logged = log_kept R d d' event a logged h is }))
+one_text : (R : HandlerRelation) (at : ℕ) (l : DeviceLineData) (d d' : Device) (event : EventData) (a : AnswerData) (logged : List DoneData) → Makes R d event a d' → logged ≡ drop (length d.state.log) d'.state.log
+    → event_lines l event a logged ≡ run_text l d (entry_of at event a logged ∷ []) d'
+unfolding entry_text
+one_text R at l d d' event a logged h is =
+    ap (entry_text l.name l.settings.qfull (entry_of at event a logged)) is
+    ∙ sym (text_one R l d d' (entry_of at event a logged) (record { makes = h; logged = log_kept R d d' event a logged h is }))
 
-pub told_of : (R : HandlerRelation) (l : DeviceLineData) (d d' : Device) (event : EventData) (a : AnswerData) (logged before after : List DoneData) (old now : Option (List ℕ)) → Makes R d event a d'
+pub told_of : (R : HandlerRelation) (at : ℕ) (l : DeviceLineData) (d d' : Device) (event : EventData) (a : AnswerData) (logged before after : List DoneData) (old now : Option (List ℕ)) → Makes R d event a d'
     → before ≡ d.state.log → after ≡ d'.state.log → logged ≡ drop (length before) after
-    → Gained old (entry_text l.name l.settings.qfull (entry_of event a logged) logged) now → Told R l event d d' old now
-told_of R l d d' event a logged before after old now h b c is w =
+    → Gained old (event_lines l event a logged) now → Told R at l event d d' old now
+told_of R at l d d' event a logged before after old now h b c is w =
     let dropped : logged ≡ drop (length d.state.log) d'.state.log = is ∙ ap (λ (x : List DoneData). drop (length x) after) b ∙ ap (drop (length d.state.log)) c in
-    record { made = made_of R d d' event a logged h dropped; wrote = gained_as old now _ _ (one_text R l d d' event a logged h dropped) w }
+    record { made = made_of R at d d' event a logged h dropped; wrote = gained_as old now _ _ (one_text R at l d d' event a logged h dropped) w }
 
-pub stopped_of : (R : HandlerRelation) (l : DeviceLineData) (d d' : Device) (event : EventData) (a : AnswerData) (logged before after : List DoneData) (old now : Option (List ℕ)) → Makes R d event a d'
+pub stopped_of : (R : HandlerRelation) (at : ℕ) (l : DeviceLineData) (d d' : Device) (event : EventData) (a : AnswerData) (logged before after : List DoneData) (old now : Option (List ℕ)) → Makes R d event a d'
     → before ≡ d.state.log → after ≡ d'.state.log → logged ≡ drop (length before) after
-    → GainedFront old (entry_text l.name l.settings.qfull (entry_of event a logged) logged) now → Stopped R l event d d' old now
-stopped_of R l d d' event a logged before after old now h b c is w =
+    → GainedFront old (event_lines l event a logged) now → Stopped R at l event d d' old now
+stopped_of R at l d d' event a logged before after old now h b c is w =
     let dropped : logged ≡ drop (length d.state.log) d'.state.log = is ∙ ap (λ (x : List DoneData). drop (length x) after) b ∙ ap (drop (length d.state.log)) c in
     inr (record {
-      made = made_of R d d' event a logged h dropped;
-      wrote = subst (λ (t : List ℕ). GainedFront old t now) (one_text R l d d' event a logged h dropped) w;
+      made = made_of R at d d' event a logged h dropped;
+      wrote = subst (λ (t : List ℕ). GainedFront old t now) (one_text R at l d d' event a logged h dropped) w;
     })
 
-pub nothing_came : (R : HandlerRelation) (l : DeviceLineData) (d d' : Device) (event : EventData) (old : Option (List ℕ)) → d' ≡ d → Stopped R l event d d' old old
-nothing_came R l d d' event old e = inl (record { device = e; wrote = refl })
+pub nothing_came : (R : HandlerRelation) (at : ℕ) (l : DeviceLineData) (d d' : Device) (event : EventData) (old : Option (List ℕ)) → d' ≡ d → Stopped R at l event d d' old old
+nothing_came R at l d d' event old e = inl (record { device = e; wrote = refl })
 
 -- ==== one task
 
-pub told_wrote : (R : HandlerRelation) (l : DeviceLineData) (d d' : Device) (event : EventData) (old now : Option (List ℕ)) → Told R l event d d' old now
-    → Wrote R l (λ es. Plays R 0 d (line.Makes event) es d') d d' old now
-told_wrote R l d d' event old now told =
+pub told_wrote : (R : HandlerRelation) (at : ℕ) (l : DeviceLineData) (d d' : Device) (event : EventData) (old now : Option (List ℕ)) → Told R at l event d d' old now
+    → Wrote R l (λ es. Plays R at d (line.Makes event) es d') d d' old now
+told_wrote R at l d d' event old now told =
     record {
       entries = told.made.entry ∷ [];
-      right = plays_made R d d' event told.made;
+      right = plays_made R at d d' event told.made;
       run = run_one R d d' told.made.entry told.made.step;
       wrote = told.wrote;
     }
 
-pub stopped_front : (R : HandlerRelation) (l : DeviceLineData) (d d' : Device) (event : EventData) (old now : Option (List ℕ)) → HasOutcomes R → IsSound d.state → IsEvent event → Stopped R l event d d' old now
-    → WroteFront R l (Plays R 0 d (line.Makes event)) d d' old now
-stopped_front R l d d' event old now outcomes sound fit (inl nothing) =
-    let m = event_made R d event outcomes sound fit in
-    let front : WroteFront R l (Plays R 0 d (line.Makes event)) d d old old =
+pub stopped_front : (R : HandlerRelation) (at : ℕ) (l : DeviceLineData) (d d' : Device) (event : EventData) (old now : Option (List ℕ)) → HasOutcomes R → IsSound d.state → IsEvent event → Stopped R at l event d d' old now
+    → WroteFront R l (Plays R at d (line.Makes event)) d d' old now
+stopped_front R at l d d' event old now outcomes sound fit (inl nothing) =
+    let m = event_made R at d event outcomes sound fit in
+    let front : WroteFront R l (Plays R at d (line.Makes event)) d d old old =
     record {
       made = [];
       rest = m.1.entry ∷ [];
       end = m.0;
-      right = plays_made R d (m.0) event (m.1);
+      right = plays_made R at d (m.0) event (m.1);
       run = refl;
       more = run_one R d (m.0) m.1.entry m.1.step;
       wrote = front_none old [];
     } in
-    subst (λ (w : Option (List ℕ)). WroteFront R l (Plays R 0 d (line.Makes event)) d d' old w) (sym nothing.wrote)
-    (subst (λ (x : Device). WroteFront R l (Plays R 0 d (line.Makes event)) d x old old) (sym nothing.device) front)
-stopped_front R l d d' event old now outcomes sound fit (inr told) =
+    subst (λ (w : Option (List ℕ)). WroteFront R l (Plays R at d (line.Makes event)) d d' old w) (sym nothing.wrote)
+    (subst (λ (x : Device). WroteFront R l (Plays R at d (line.Makes event)) d x old old) (sym nothing.device) front)
+stopped_front R at l d d' event old now outcomes sound fit (inr told) =
     record {
       made = told.made.entry ∷ [];
       rest = [];
       end = d';
-      right = plays_made R d d' event told.made;
+      right = plays_made R at d d' event told.made;
       run = run_one R d d' told.made.entry told.made.step;
       more = refl;
       wrote = told.wrote;
     }
-
--- ==== a replay
-
--- what was replayed so far
-pub record Playing (R : HandlerRelation) (l : DeviceLineData) (start d : Device) (tasks left : List LineWhat) (old now : Option (List ℕ)) : Type 0 where
-  pub sofar : List EntryData
-  pub run : Run R start sofar d
-  pub goes_on : (rest : List EntryData) (end : Device) → Replays R 0 d left rest end → Replays R 0 start tasks (sofar ++ rest) end
-  pub wrote : Gained old (run_text l start sofar d) now
-  pub sound : IsSound d.state
-
-pub playing_first : (R : HandlerRelation) (l : DeviceLineData) (d : Device) (tasks : List LineWhat) (old : Option (List ℕ)) → IsSound d.state → Playing R l d d tasks tasks old old
-playing_first R l d tasks old sound = record { sofar = []; run = refl; goes_on = λ rest end h. h; wrote = gained_none old; sound = sound }
-
-pub playing_more : (R : HandlerRelation) (l : DeviceLineData) (start d d' : Device) (tasks left : List LineWhat) (task : LineWhat) (old mid now : Option (List ℕ))
-    → Playing R l start d tasks (task ∷ left) old mid → Wrote R l (λ es. Plays R 0 d task es d') d d' mid now → Playing R l start d' tasks left old now
-playing_more R l start d d' tasks left task old mid now so w =
-    record {
-      sofar = so.sofar ++ w.entries;
-      run = run_append R start d d' so.sofar w.entries so.run w.run;
-      goes_on = λ rest end h.
-          subst (λ (es : List EntryData). Replays R 0 start tasks es end) (sym (append_assoc so.sofar w.entries rest)) (so.goes_on (w.entries ++ rest) end (w.entries, rest, d', refl, w.right, h));
-      wrote = gained_as old now _ _ (sym (text_more R l start d d' so.sofar w.entries so.run w.run)) (gained_more old mid now _ _ so.wrote w.wrote);
-      sound = sound_run R d d' w.entries so.sound w.run;
-    }
-
-pub playing_stopped : (R : HandlerRelation) (l : DeviceLineData) (start d d' : Device) (tasks left : List LineWhat) (task : LineWhat) (old mid now : Option (List ℕ)) → HasOutcomes R → Every IsFit left
-    → Playing R l start d tasks (task ∷ left) old mid → WroteFront R l (Plays R 0 d task) d d' mid now → WroteFront R l (Replays R 0 start tasks) start d' old now
-playing_stopped R l start d d' tasks left task old mid now outcomes fit so w =
-    let all_run = run_append R d d' w.end w.made w.rest w.run w.more in
-    let rest = replays_total R w.end left outcomes (sound_run R d w.end (w.made ++ w.rest) so.sound all_run) fit in
-    record {
-      made = so.sofar ++ w.made;
-      rest = w.rest ++ rest.0;
-      end = rest.1;
-      right = subst (λ (es : List EntryData). Replays R 0 start tasks es (rest.1)) (regroup so.sofar w.made w.rest (rest.0))
-          (so.goes_on ((w.made ++ w.rest) ++ rest.0) (rest.1) (w.made ++ w.rest, rest.0, w.end, refl, w.right, rest.2));
-      run = run_append R start d d' so.sofar w.made so.run w.run;
-      more = run_append R d' w.end (rest.1) w.rest (rest.0) w.more (replays_run R w.end (rest.1) left (rest.0) (rest.2));
-      wrote = front_behind old mid now (run_text l start so.sofar d) (run_text l d w.made d') _ (text_more R l start d d' so.sofar w.made so.run w.run) so.wrote w.wrote;
-    }
-  where
-    regroup : (a b c x : List EntryData) → a ++ ((b ++ c) ++ x) ≡ (a ++ b) ++ (c ++ x)
-    regroup a b c x = ap (λ (l : List EntryData). a ++ l) (append_assoc b c x) ∙ sym (append_assoc a b (c ++ x))
-
-pub playing_done : (R : HandlerRelation) (l : DeviceLineData) (start d d' : Device) (tasks : List LineWhat) (old mid now : Option (List ℕ))
-    → Playing R l start d tasks [] old mid → Wrote R l (λ es. Drains R 0 d es d') d d' mid now → Wrote R l (λ es. Replays R 0 start tasks es d') start d' old now
-playing_done R l start d d' tasks old mid now so w =
-    record {
-      entries = so.sofar ++ w.entries;
-      right = so.goes_on w.entries d' w.right;
-      run = run_append R start d d' so.sofar w.entries so.run w.run;
-      wrote = gained_as old now _ _ (sym (text_more R l start d d' so.sofar w.entries so.run w.run)) (gained_more old mid now _ _ so.wrote w.wrote);
-    }
-
-pub playing_end_stopped : (R : HandlerRelation) (l : DeviceLineData) (start d d' : Device) (tasks : List LineWhat) (old mid now : Option (List ℕ))
-    → Playing R l start d tasks [] old mid → WroteFront R l (Drains R 0 d) d d' mid now → WroteFront R l (Replays R 0 start tasks) start d' old now
-playing_end_stopped R l start d d' tasks old mid now so w =
-    record {
-      made = so.sofar ++ w.made;
-      rest = w.rest;
-      end = w.end;
-      right = subst (λ (es : List EntryData). Replays R 0 start tasks es w.end) (sym (append_assoc so.sofar w.made w.rest)) (so.goes_on (w.made ++ w.rest) w.end w.right);
-      run = run_append R start d d' so.sofar w.made so.run w.run;
-      more = w.more;
-      wrote = front_behind old mid now (run_text l start so.sofar d) (run_text l d w.made d') _ (text_more R l start d d' so.sofar w.made so.run w.run) so.wrote w.wrote;
-    }
-
--- ==== the lines that are left
-
-pub lines_at : (ls : List LineData) (i : ℕ) (l : LineData) → i < length ls → l ≡ get_or ls i l → asks (drop i ls) ≡ l.what ∷ asks (drop (i + 1) ls)
-lines_at ls i l lt is = ap asks (drop_more ls i l lt ∙ ap (λ (x : LineData). x ∷ drop (i + 1) ls) (sym is))
-
-pub none_left : (ls : List LineData) (i : ℕ) → length ls ≤ i → asks (drop i ls) ≡ []
-none_left ls i le = ap asks (drop_all i ls le)
 
 -- ==== from what the code finds
 
@@ -399,12 +312,20 @@ can_be_made ev.Enter h = tt
 pub can_of_fit : (event : EventData) (task : LineWhat) → task ≡ line.Makes event → IsFit task → CanBeMade event
 can_of_fit event task is fit = can_be_made event (subst IsFit is fit)
 
-pub told_task : (R : HandlerRelation) (l : DeviceLineData) (d d' : Device) (event : EventData) (task : LineWhat) (old now : Option (List ℕ)) → task ≡ line.Makes event → Told R l event d d' old now
-    → Wrote R l (λ es. Plays R 0 d task es d') d d' old now
-told_task R l d d' event task old now is told =
-    subst (λ (t : LineWhat). Wrote R l (λ es. Plays R 0 d t es d') d d' old now) (sym is) (told_wrote R l d d' event old now told)
+pub told_task : (R : HandlerRelation) (at : ℕ) (l : DeviceLineData) (d d' : Device) (event : EventData) (task : LineWhat) (old now : Option (List ℕ)) → task ≡ line.Makes event → Told R at l event d d' old now
+    → Wrote R l (λ es. Plays R at d task es d') d d' old now
+told_task R at l d d' event task old now is told =
+    subst (λ (t : LineWhat). Wrote R l (λ es. Plays R at d t es d') d d' old now) (sym is) (told_wrote R at l d d' event old now told)
 
-pub stopped_task : (R : HandlerRelation) (l : DeviceLineData) (d d' : Device) (event : EventData) (task : LineWhat) (old now : Option (List ℕ)) → task ≡ line.Makes event → HasOutcomes R → IsSound d.state → IsFit task → Stopped R l event d d' old now
-    → WroteFront R l (Plays R 0 d task) d d' old now
-stopped_task R l d d' event task old now is outcomes sound fit stopped =
-    subst (λ (t : LineWhat). WroteFront R l (Plays R 0 d t) d d' old now) (sym is) (stopped_front R l d d' event old now outcomes sound (subst IsFit is fit) stopped)
+pub stopped_task : (R : HandlerRelation) (at : ℕ) (l : DeviceLineData) (d d' : Device) (event : EventData) (task : LineWhat) (old now : Option (List ℕ)) → task ≡ line.Makes event → HasOutcomes R → IsSound d.state → IsFit task → Stopped R at l event d d' old now
+    → WroteFront R l (Plays R at d task) d d' old now
+stopped_task R at l d d' event task old now is outcomes sound fit stopped =
+    subst (λ (t : LineWhat). WroteFront R l (Plays R at d t) d d' old now) (sym is) (stopped_front R at l d d' event old now outcomes sound (subst IsFit is fit) stopped)
+
+pub drained_task : (R : HandlerRelation) (at : ℕ) (l : DeviceLineData) (d d' : Device) (task : LineWhat) (old now : Option (List ℕ)) → task ≡ line.Drains → Wrote R l (λ es. Drains R at d es d') d d' old now
+    → Wrote R l (λ es. Plays R at d task es d') d d' old now
+drained_task R at l d d' task old now is w = subst (λ (t : LineWhat). Wrote R l (λ es. Plays R at d t es d') d d' old now) (sym is) w
+
+pub drained_task_front : (R : HandlerRelation) (at : ℕ) (l : DeviceLineData) (d d' : Device) (task : LineWhat) (old now : Option (List ℕ)) → task ≡ line.Drains → WroteFront R l (Drains R at d) d d' old now
+    → WroteFront R l (Plays R at d task) d d' old now
+drained_task_front R at l d d' task old now is w = subst (λ (t : LineWhat). WroteFront R l (Plays R at d t) d d' old now) (sym is) w

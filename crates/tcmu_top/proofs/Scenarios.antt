@@ -1,121 +1,102 @@
--- The text of a scenario, from the replay of its device.
-use Rattle.std.proofs.Common.{◌≡◌, ◌∙◌, ℕ, ◌*◌, ◌≤◌, get_or, arith, Bool, true, false, ◌&&◌, not, nat_eq, List, [], ◌∷◌, length, replicate, Option, refl, sym, ap, subst, lit<}
-use Rattle.std.specs.List.{All}
+-- How the replay of a scenario ends, from what its parts say.
+use Rattle.std.proofs.Common.{◌≡◌, ◌⊎◌, ℕ, zero, suc, ◌<◌, ◌/◌, Bool, true, false, List, [], ◌∷◌, ◌++◌, length, slice_get, Option, Some, None, Ok, Err, IfSome, is_some, refl, sym, ap, ◌∙◌, arith, subst, inl, inr}
+use Rattle.std.specs.List.{All, AllPairs}
+use Rattle.std.specs.Option.{option_map}
 use Rattle.std.proofs.lemmas.Bool.{lt-ltb}
-use Rattle.std.proofs.lemmas.List.Elements.{All-tail}
-use Rattle.tcmu_model.specs.MediumState.{MediumState}
-use Rattle.tcmu_model.specs.Device.{Device, opening}
-use Rattle.tcmu_model.specs.Sound.{IsSound, Every}
-use Rattle.tcmu_model.specs.Config.{MediumData, InMemory, InFile}
-use Rattle.tcmu_model.specs.ScenarioData.{DeviceLineData, LineWhat, LineData, ScenarioData}
-use Rattle.tcmu_model.specs.ScenarioData as line
-use Rattle.tcmu_model.specs.Scenario.{is_plain_memory, is_dump}
-use Rattle.tcmu_model.specs.ScenarioRules.{IsDeviceLine, IsLine, IsWhat, IsScenario, IsServed}
-use Rattle.tcmu_model.specs.Replay.{IsReplayText}
+use Rattle.std.proofs.lemmas.Option.{slice_get_within, same_Some}
+use Rattle.tcmu_types.specs.Numbered.{Rose}
+use Rattle.edge.specs.Stores.{StoreState, Content, store_of, at_home, FilesState}
+use Rattle.edge.specs.Outside.{Tells}
+use Rattle.tcmu_model.specs.MediumState.{MediumState, file}
+use Rattle.tcmu_model.specs.Medium.{opened_medium, file_below}
 use Rattle.tcmu_model.specs.Scsi.{Serves}
-use Rattle.tcmu_model.specs.Text.{device_text}
-use Rattle.tcmu_model.specs.Medium.{memory_state}
-use Rattle.tcmu_model.proofs.SoundEvents.{sound_opening}
-use Rattle.tcmu_top.specs.Tasks.{IsFit, asks}
+use Rattle.tcmu_model.specs.Device.{Device, opening}
+use Rattle.tcmu_model.specs.Said.{same_file}
+use Rattle.tcmu_model.specs.Config.{MediumData, InMemory, InFile}
+use Rattle.tcmu_model.specs.ScenarioData.{DeviceLineData, LineData, ScenarioData}
 use Rattle.tcmu_model.specs.Scenario.{Bad, scenario_of}
+use Rattle.tcmu_model.specs.ScenarioRules.{IsScenario}
+use Rattle.tcmu_model.specs.Several.{Journaled, is_of, RunLogs, IsLegalEach, IsReplayOf}
 use Rattle.tcmu_model.specs.declared.faults.Why.TheVariants as why
-use Rattle.std.proofs.Common.{Err, Some, None, IfSome, ◌<◌, inl}
 use Rattle.tcmu_top.specs.declared.status.Status.{Status}
 use Rattle.tcmu_top.specs.declared.status.Status.TheVariants as status
-use Rattle.tcmu_top.specs.Top.{Replayed, ReplayedInPart, IsBlank, Opens, IsTextOn, IsTextOf, TextWritten, TextWrittenInPart, too_long, Ends}
-use Rattle.tcmu_top.proofs.Outcomes.{has_outcomes}
-use Rattle.tcmu_top.proofs.Telling.{gained_none, front_none}
-use Rattle.tcmu_top.proofs.Whole.{front_of_ready}
+use Rattle.tcmu_top.specs.Playing.{AreOpened}
+use Rattle.tcmu_top.specs.Opened.{OpensFile, OpensKind, Opens, OpenEach, file_names, a_fetch_fails, OthersStay, KeptFiles, Fetched, AreOpen, AFileLacks, OwnFiles, TellFiles, KeepsEach, after_fetches}
+use Rattle.tcmu_top.specs.Top.{Replayed, ReplayedInPart, IsTextOf, TextWritten, TextWrittenInPart, CutShort, Wanting, LacksFile, Untouched, Had, too_long, ScenarioEnds, BytesEnd, Ends}
+use Rattle.tcmu_top.proofs.Fetching.{others_stay, own_files}
+use Rattle.tcmu_top.proofs.FileRuns.{run_stays}
+use Rattle.tcmu_top.proofs.Telling.{gained_none}
+use Rattle.std.proofs.lemmas.List.{append-nil}
+use Rattle.std.specs.List.{filter}
 
--- ==== the one device
+-- ==== devices as they open
 
-pub only_device : (s : ScenarioData) (ds : List DeviceLineData) (l : DeviceLineData) → ds ≡ s.devices → l ≡ get_or ds 0 l → 1 ≤ length ds → length s.devices ≤ 1 → s.devices ≡ l ∷ []
-only_device s ds l e is some few = go ds e is some
-  where
-    go : (xs : List DeviceLineData) → xs ≡ s.devices → l ≡ get_or xs 0 l → 1 ≤ length xs → s.devices ≡ l ∷ []
-    go [] e is some = absurd (omega (arith, some))
-    go (x ∷ []) e is some = sym e ∙ ap (λ (y : DeviceLineData). y ∷ []) (sym is)
-    go (x ∷ y ∷ xs) e is some = absurd (omega (arith, few, ap length e))
+pub open_opened : (files : Option FilesState) (ls : List DeviceLineData) (ds : List Device) → OpenEach files ls ds → AreOpened ls ds
+open_opened files [] [] h = tt
+open_opened files [] (d ∷ ds) h = absurd h
+open_opened files (l ∷ ls) [] h = absurd h
+open_opened files (l ∷ ls) (d ∷ ds) h = (ap (λ (x : Device). x.name) h.0.2, ap (λ (x : Device). x.state) h.0.2, open_opened files ls ds h.1)
 
--- what holds of each of one
-pub of_one : {X : Type 0} (P : X → Type 0) (xs : List X) (x : X) → xs ≡ x ∷ [] → All P xs → P x
-of_one P xs x e h = (subst (All P) e h) 0 x (lit< tt)
+open_at : (files : Option FilesState) (ls : List DeviceLineData) (ds : List Device) (at : ℕ) (l : DeviceLineData) → OpenEach files ls ds → slice_get ls at ≡ Some l → (d : Device) × (slice_get ds at ≡ Some d) × Opens files l d
+open_at files [] ds at l h e = absurd (cc)
+open_at files (k ∷ ls) [] at l h e = absurd h
+open_at files (k ∷ ls) (d ∷ ds) zero l h e = (d, refl, subst (λ (x : DeviceLineData). Opens files x d) (same_Some k l e) h.0)
+open_at files (k ∷ ls) (d ∷ ds) (suc at) l h e = open_at files ls ds at l h.1 e
 
-some_blank : (k : MediumData) (p q : Bool) → (elim k [ InMemory n ↦ p && q | InFile name ↦ false ]) ≡ true → (m : MediumState) × IsBlank k m
-some_blank (InMemory n) p q e = (memory_state n (replicate (512 * n) 0) 0, refl)
-some_blank (InFile name) p q e = absurd (cc)
+-- a device over a file that is told is told as it opens
+opens_told : (f : FilesState) (l : DeviceLineData) (d : Device) (name : List ℕ) → Opens (Some f) l d → l.config.kind ≡ InFile name → (d.medium.below.layer ≡ file) × (is_some d.medium.below.bytes ≡ true)
+opens_told f l d name o kind =
+    let x : OpensFile name (Some f) l.config o.0 = subst (λ (k : MediumData). OpensKind k (Some f) l.config o.0) kind o.1 in
+    let medium_is : d.medium ≡ opened_medium (x.store.size / 512) l.config.protected l.config.fails (file_below x.store.bytes x.store.calls) = ap (λ (y : Device). y.medium) o.2 ∙ x.medium in
+    let bytes_are : x.store.bytes ≡ Some x.told.0.bytes = ap (λ (s : StoreState). s.bytes) x.told.2 in
+    (ap (λ (m : MediumState). m.below.layer) medium_is, ap (λ (m : MediumState). is_some m.below.bytes) medium_is ∙ ap (λ (o : Option (List ℕ)). is_some o) bytes_are)
 
--- a device over plain memory opens somehow
-some_opens : (l : DeviceLineData) → is_plain_memory l.config ≡ true → (d : Device) × Opens l d
-some_opens l e =
-    let m = some_blank l.config.kind (not l.config.protected) (nat_eq (length l.config.fails) 0) e in
-    (opening l.settings l.name m.0, (m.0, m.1, refl))
+pub tell_files : (f : FilesState) (ls : List DeviceLineData) (ds ends : List Device) (js : List Journaled) → OpenEach (Some f) ls ds → IsLegalEach Serves ds js ends → TellFiles ls ends
+tell_files f ls ds ends js opens legal at l d' name e g kind =
+    let x = open_at (Some f) ls ds at l opens e in
+    let first = opens_told f l x.0 name x.2 kind in
+    let run = run_stays x.0 d' (filter (is_of at) js) first.0 (legal at x.0 d' x.1 g) in
+    (run.layer, run.bytes ∙ first.1)
 
-pub opens_sound : (l : DeviceLineData) (d : Device) → IsDeviceLine l → Opens l d → IsSound d.state
-opens_sound l d k o = subst (λ (x : Device). IsSound x.state) (sym o.2) (sound_opening l.settings k.settings)
+-- ==== the scenario
 
-pub opens_fresh : (l : DeviceLineData) (d : Device) → Opens l d → d.state.log ≡ []
-opens_fresh l d o = ap (λ (x : Device). x.state.log) o.2
+-- the files behind all fetches
+all_fetched : (files files' : Option FilesState) (ls : List DeviceLineData) → Fetched (file_names ls) files files' → OthersStay ls files files'
+all_fetched files files' ls h = others_stay ls ls [] files files' (sym (append-nil ls)) h
 
-pub opens_none : (l : DeviceLineData) (d : Device) → Opens l d → d.state.accepted ≡ 0
-opens_none l d o = ap (λ (x : Device). x.state.accepted) o.2
+kept_files : (files mid files' : Option FilesState) (ls : List DeviceLineData) (ds ends : List Device) (js : List Journaled) → AllPairs (λ d e. same_file d.config.kind e.config.kind ≡ false) ls
+    → AreOpen files mid ls ds → IsLegalEach Serves ds js ends → KeepsEach ls ends mid files' → KeptFiles ls ends files files'
+kept_files None mid files' ls ds ends js own h legal k = tt
+kept_files (Some f) mid files' ls ds ends js own h legal k = k (own_files ls own) (tell_files f ls ds ends js h.opens legal) f h.fetched.after
 
--- ==== its lines
-
-fit_line : (w : LineWhat) (l : LineData) → l.what ≡ w → IsWhat w → is_dump l ≡ false → IsFit w
-fit_line (line.Makes e) l is k dumpless = k
-fit_line line.Drains l is k dumpless = tt
-fit_line line.Dumps l is k dumpless = let yes : is_dump l ≡ true = rw is refl in absurd (cc)
-
-pub all_fit : (ds : List DeviceLineData) (ls : List LineData) → All (IsLine ds) ls → All (λ l. is_dump l ≡ false) ls → Every IsFit (asks ls)
-all_fit ds [] k dumpless = tt
-all_fit ds (l ∷ ls) k dumpless = (fit_line l.what l refl (k 0 l (omega arith)).what (dumpless 0 l (omega arith)), all_fit ds ls (All-tail (IsLine ds) l ls k) (All-tail (λ x. is_dump x ≡ false) l ls dumpless))
-
-pub lines_fit : (s : ScenarioData) (ls : List LineData) → ls ≡ s.lines → IsScenario s → IsServed s → Every IsFit (asks ls)
-lines_fit s ls e k served = subst (λ (xs : List LineData). Every IsFit (asks xs)) (sym e) (all_fit s.devices s.lines k.lines served.no_dumps)
-
--- ==== its text
-
-text_on : (s : ScenarioData) (l : DeviceLineData) (ls : List LineData) (d : Device) (text : List ℕ) → s.devices ≡ l ∷ [] → ls ≡ s.lines → Opens l d → IsReplayText Serves l d (asks ls) text → IsTextOf s text
-text_on s l ls d text e f o h =
-    subst (λ (ds : List DeviceLineData). IsTextOn ds (asks s.lines) text) (sym e) (d, o, subst (λ (xs : List LineData). IsReplayText Serves l d (asks xs) text) f h)
-
--- the device was replayed
-pub of_replayed : (s : ScenarioData) (l : DeviceLineData) (ls : List LineData) (d d' : Device) (old new : Option (List ℕ)) → s.devices ≡ l ∷ [] → ls ≡ s.lines → Opens l d
-    → Replayed Serves l d (asks ls) d' old new → TextWritten s old new
-of_replayed s l ls d d' old new e f o r =
+pub text_written : (s : ScenarioData) (files mid files' : Option FilesState) (ds ends : List Device) (old new : Option (List ℕ)) → IsScenario s → AreOpen files mid s.devices ds
+    → Replayed Serves s.devices ds s.lines ends old new → KeepsEach s.devices ends mid files' → TextWritten files files' s old new
+text_written s files mid files' ds ends old new rules h r k =
     record {
       text = r.text;
-      is = text_on s l ls d r.text e f o r.is;
+      is = record { opened = ds; opens = h.opens; replay = r.is };
       gained = r.gained;
+      fetched = h.fetched.none;
+      kept = kept_files files mid files' s.devices ds r.is.ends r.is.journal rules.files h r.is.legal (subst (λ (x : List Device). KeepsEach s.devices x mid files') (sym r.ends) k);
     }
 
--- it was replayed in part
-pub of_part : (s : ScenarioData) (l : DeviceLineData) (ls : List LineData) (d d' : Device) (old new : Option (List ℕ)) → s.devices ≡ l ∷ [] → ls ≡ s.lines → Opens l d
-    → ReplayedInPart Serves l d (asks ls) d' old new → TextWrittenInPart s old new
-of_part s l ls d d' old new e f o r =
-    record {
-      text = r.text;
-      is = text_on s l ls d r.text e f o r.is;
-      gained = r.gained;
-    }
+text_in_part : (s : ScenarioData) (files mid : Option FilesState) (ds ends : List Device) (old new : Option (List ℕ)) → AreOpen files mid s.devices ds → ReplayedInPart Serves s.devices ds s.lines ends old new
+    → TextWrittenInPart files s old new
+text_in_part s files mid ds ends old new h r = record { text = r.text; is = record { opened = ds; opens = h.opens; replay = r.is }; gained = r.gained }
 
--- nothing was written of it
-pub of_nothing : (s : ScenarioData) (l : DeviceLineData) (old : Option (List ℕ)) → s.devices ≡ l ∷ [] → IsScenario s → IsServed s → TextWrittenInPart s old old
-of_nothing s l old e k served =
-    let x = some_opens l (of_one (λ y. is_plain_memory y.config ≡ true) s.devices l e served.memory) in
-    of_part s l s.lines x.0 x.0 old old e refl x.1
-    (front_of_ready Serves l x.0 (asks s.lines) old old has_outcomes (opens_sound l x.0 (of_one IsDeviceLine s.devices l e k.devices) x.1)
-    (all_fit s.devices s.lines k.lines served.no_dumps) (opens_fresh l x.0 x.1) (front_none old (device_text l)))
+pub cut_short : (s : ScenarioData) (files mid : Option FilesState) (ds ends : List Device) (old new : Option (List ℕ)) → AreOpen files mid s.devices ds → ReplayedInPart Serves s.devices ds s.lines ends old new
+    → CutShort files mid s old new
+cut_short s files mid ds ends old new h r = record { wrote = text_in_part s files mid ds ends old new h r; fetched = h.fetched.none; others = all_fetched files mid s.devices h.fetched }
 
--- there is no device, and no text
-pub of_no_device : (s : ScenarioData) (old : Option (List ℕ)) → s.devices ≡ [] → TextWritten s old old
-of_no_device s old e =
-    record {
-      text = [];
-      is = subst (λ (ds : List DeviceLineData). IsTextOn ds (asks s.lines) []) (sym e) refl;
-      gained = gained_none old;
-    }
+pub wanting : (s : ScenarioData) (files mid : Option FilesState) (ds ends : List Device) (old new : Option (List ℕ)) → AreOpen files mid s.devices ds → ReplayedInPart Serves s.devices ds s.lines ends old new
+    → Wanting files mid s old new
+wanting s files mid ds ends old new h r = record { wrote = inr (text_in_part s files mid ds ends old new h r); others = all_fetched files mid s.devices h.fetched }
+
+pub wanting_early : (s : ScenarioData) (files files' : Option FilesState) (old : Option (List ℕ)) → OthersStay s.devices files files' → Wanting files files' s old old
+wanting_early s files files' old others = record { wrote = inl refl; others = others }
+
+pub lacks_file : (s : ScenarioData) (files files' : Option FilesState) (faults faults' : ℕ) (old : Option (List ℕ)) → AFileLacks s.devices files files' faults faults' → Rose faults faults' × LacksFile files files' s old old
+lacks_file s files files' faults faults' old h = (h.rose, record { fails = h.fails; nothing = refl; others = h.others })
 
 -- ==== a fault
 
@@ -135,16 +116,72 @@ bad_of status.ReadFault = too_long
 bad_of status.WriteFault = too_long
 bad_of status.NoMemory = too_long
 bad_of status.BadWords = too_long
+bad_of status.OpenFault = too_long
 
 -- the source had more
-pub ends_too_long : (left : Option (List ℕ)) (read read' wrote : ℕ) (old : Option (List ℕ)) → IfSome left (λ bytes. 4194304 < length bytes)
-    → Ends left read read' old old wrote wrote (status.BadScenario 0 why.TooLong)
-ends_too_long left read read' wrote old h =
+pub ends_too_long : (left : Option (List ℕ)) (read read' opened wrote : ℕ) (files : Option FilesState) (old : Option (List ℕ)) → IfSome left (λ bytes. 4194304 < length bytes)
+    → Ends left read read' files files opened opened old old wrote wrote (status.BadScenario 0 why.TooLong)
+ends_too_long left read read' opened wrote files old h =
     record {
       ok = λ e. absurd (cc);
       read_fault = λ e. absurd (cc);
       write_fault = λ e. absurd (cc);
       no_memory = λ e. absurd (cc);
-      bad_scenario = λ line reason e. (inl (sym (ap bad_of e), subst (λ (b : Bad). IfSome left (λ bytes. scenario_of bytes ≡ Err b)) (ap bad_of e) (long_left left h)), refl);
+      bad_scenario = λ line reason e. (inl (sym (ap bad_of e), subst (λ (b : Bad). IfSome left (λ bytes. scenario_of bytes ≡ Err b)) (ap bad_of e) (long_left left h)), record { wrote = refl; same = refl });
+      open_fault = λ e. absurd (cc);
       words = λ e. absurd (cc);
     }
+
+-- ==== the statuses of a scenario
+
+pub scenario_ok : (s : ScenarioData) (files files' : Option FilesState) (opened opened' : ℕ) (old new : Option (List ℕ)) (wrote wrote' : ℕ) → TextWritten files files' s old new
+    → ScenarioEnds s files files' opened opened' old new wrote wrote' status.Ok
+scenario_ok s files files' opened opened' old new wrote wrote' h =
+    record { ok = λ e. h; write_fault = λ e. absurd (cc); no_memory = λ e. absurd (cc); open_fault = λ e. absurd (cc); reads = λ e. absurd (cc); scenario = λ line reason e. absurd (cc); words = λ e. absurd (cc) }
+
+pub scenario_cut : (s : ScenarioData) (files files' : Option FilesState) (opened opened' : ℕ) (old new : Option (List ℕ)) (wrote wrote' : ℕ) → Rose wrote wrote' → CutShort files files' s old new
+    → ScenarioEnds s files files' opened opened' old new wrote wrote' status.WriteFault
+scenario_cut s files files' opened opened' old new wrote wrote' rose h =
+    record { ok = λ e. absurd (cc); write_fault = λ e. (rose, h); no_memory = λ e. absurd (cc); open_fault = λ e. absurd (cc); reads = λ e. absurd (cc); scenario = λ line reason e. absurd (cc); words = λ e. absurd (cc) }
+
+pub scenario_wanting : (s : ScenarioData) (files files' : Option FilesState) (opened opened' : ℕ) (old new : Option (List ℕ)) (wrote wrote' : ℕ) → Wanting files files' s old new
+    → ScenarioEnds s files files' opened opened' old new wrote wrote' status.NoMemory
+scenario_wanting s files files' opened opened' old new wrote wrote' h =
+    record { ok = λ e. absurd (cc); write_fault = λ e. absurd (cc); no_memory = λ e. h; open_fault = λ e. absurd (cc); reads = λ e. absurd (cc); scenario = λ line reason e. absurd (cc); words = λ e. absurd (cc) }
+
+pub scenario_lacks : (s : ScenarioData) (files files' : Option FilesState) (opened opened' : ℕ) (old new : Option (List ℕ)) (wrote wrote' : ℕ) → Rose opened opened' × LacksFile files files' s old new
+    → ScenarioEnds s files files' opened opened' old new wrote wrote' status.OpenFault
+scenario_lacks s files files' opened opened' old new wrote wrote' h =
+    record { ok = λ e. absurd (cc); write_fault = λ e. absurd (cc); no_memory = λ e. absurd (cc); open_fault = λ e. h; reads = λ e. absurd (cc); scenario = λ line reason e. absurd (cc); words = λ e. absurd (cc) }
+
+-- where the bytes are at hand
+pub bytes_of : (bytes : List ℕ) (s : ScenarioData) (files files' : Option FilesState) (opened opened' : ℕ) (old new : Option (List ℕ)) (wrote wrote' : ℕ) (ended : Status) → scenario_of bytes ≡ Ok s
+    → ScenarioEnds s files files' opened opened' old new wrote wrote' ended → BytesEnd bytes files files' opened opened' old new wrote wrote' ended
+bytes_of bytes s files files' opened opened' old new wrote wrote' ended e h =
+    record {
+      ok = λ z. (s, e, h.ok z);
+      write_fault = λ z. let x = h.write_fault z in (x.0, (s, e, x.1));
+      no_memory = λ z. inr (s, e, h.no_memory z);
+      bad_scenario = λ line reason z. absurd (h.scenario line reason z);
+      open_fault = λ z. let x = h.open_fault z in (x.0, (s, e, x.1));
+      words = h.words;
+      reads = h.reads;
+    }
+
+-- and where a source had them
+pub ends_of : (left : Option (List ℕ)) (read read' : ℕ) (bytes : List ℕ) (files files' : Option FilesState) (opened opened' : ℕ) (old new : Option (List ℕ)) (wrote wrote' : ℕ) (ended : Status) → Tells left bytes
+    → BytesEnd bytes files files' opened opened' old new wrote wrote' ended → Ends left read read' files files' opened opened' old new wrote wrote' ended
+ends_of left read read' bytes files files' opened opened' old new wrote wrote' ended t h =
+    record {
+      ok = λ z. let x = h.ok z in (x.0, record { bytes = bytes; told = t; reads = x.1 }, x.2);
+      read_fault = λ z. absurd (h.reads z);
+      write_fault = λ z. let x = h.write_fault z in (x.0, (x.1.0, record { bytes = bytes; told = t; reads = x.1.1 }, x.1.2));
+      no_memory = λ z. by (h.no_memory z);
+      bad_scenario = λ line reason z. let x = h.bad_scenario line reason z in (inr (bytes, t, x.0), x.1);
+      open_fault = λ z. let x = h.open_fault z in (x.0, (x.1.0, record { bytes = bytes; told = t; reads = x.1.1 }, x.1.2));
+      words = h.words;
+    }
+  where
+    by : Untouched files files' old new ⊎ ((s : ScenarioData) × (scenario_of bytes ≡ Ok s) × Wanting files files' s old new) → Untouched files files' old new ⊎ Had left (λ s. Wanting files files' s old new)
+    by (inl h) = inl h
+    by (inr h) = inr (h.0, record { bytes = bytes; told = t; reads = h.1 }, h.2)

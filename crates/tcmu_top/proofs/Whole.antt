@@ -1,94 +1,165 @@
--- The text of a whole replay of a device, and fronts of one.
-use Rattle.std.proofs.Common.{◌≡◌, ℕ, List, [], ◌++◌, length, drop, Option, refl, sym, ap, ◌∙◌, append_assoc}
+-- The text of a whole replay of several devices, and fronts of one.
+use Rattle.std.proofs.Common.{◌≡◌, ℕ, zero, suc, ◌+◌, ◌<◌, ◌≤◌, true, false, List, [], ◌∷◌, ◌++◌, length, take, drop, slice_get, slice_set, Option, Some, refl, sym, ap, ◌∙◌, arith, subst, append_assoc, inl, inr, add-one}
+use Rattle.std.specs.List.{flat_map, All}
 use Rattle.std.proofs.lemmas.List.{append-nil}
+use Rattle.std.proofs.lemmas.List.Concat.{flat_map-append}
+use Rattle.std.proofs.lemmas.List.Elements.{All-tail}
 use Rattle.edge.specs.Outside.{Gained, GainedFront}
-use Rattle.tcmu_types.specs.Data.{DoneData}
 use Rattle.tcmu_types.specs.Events.{EntryData}
-use Rattle.tcmu_model.specs.Device.{Device}
+use Rattle.tcmu_model.specs.Device.{Device, DeviceState}
 use Rattle.tcmu_model.specs.Steps.{HandlerRelation}
 use Rattle.tcmu_model.specs.Sound.{IsSound, Every}
 use Rattle.tcmu_model.specs.Work.{HasOutcomes}
-use Rattle.tcmu_model.specs.Replay.{Replays, IsReplayText, open_count}
-use Rattle.tcmu_model.specs.ScenarioData.{DeviceLineData, LineWhat}
-use Rattle.tcmu_model.specs.Text.{device_text, entries_text, end_text}
-use Rattle.tcmu_top.specs.Playing.{run_text, Wrote, WroteFront}
-use Rattle.tcmu_top.specs.Tasks.{IsFit}
+use Rattle.tcmu_model.specs.Replay.{open_count}
+use Rattle.tcmu_model.specs.ScenarioData.{DeviceLineData, LineData, LineWhat}
+use Rattle.tcmu_model.specs.ScenarioData as line
+use Rattle.tcmu_model.specs.Scenario.{is_dump}
+use Rattle.tcmu_model.specs.ScenarioRules.{IsDeviceLine, IsLine, IsWhat}
+use Rattle.tcmu_model.specs.Several.{Journaled, ReplaysEach, IsLegalEach, journaled_text, ends_text, IsReplayOf}
+use Rattle.tcmu_model.specs.Text.{device_text, end_text}
+use Rattle.tcmu_model.proofs.SoundEvents.{sound_opening}
+use Rattle.tcmu_top.specs.Playing.{AreOpened, WroteEach, WroteEachFront}
+use Rattle.tcmu_top.specs.Tasks.{IsFit, IsFitFor}
 use Rattle.tcmu_top.specs.Top.{Replayed, ReplayedInPart}
-use Rattle.tcmu_top.proofs.Playing.{replays_run, replays_total}
-use Rattle.tcmu_top.proofs.RunTexts.{text_more}
-use Rattle.tcmu_top.proofs.Telling.{gained_more, front_first, front_more, front_behind}
+use Rattle.tcmu_top.proofs.Endings.{ending_lines}
+use Rattle.tcmu_top.proofs.Legal.{entries, legal_none}
+use Rattle.tcmu_top.proofs.Places.{get_within}
+use Rattle.tcmu_top.proofs.Telling.{gained_more, front_first, front_whole, front_more, front_behind}
 
-abbrev last_text : DeviceLineData → Device → List ℕ
-last_text l d = end_text l.name (open_count d.state)
+-- ==== the parts of the text
 
-abbrev whole_text : DeviceLineData → Device → List EntryData → Device → List ℕ
-whole_text l d es d' = device_text l ++ run_text l d es d' ++ last_text l d'
+abbrev lines_text : List DeviceLineData → List ℕ
+lines_text ls = flat_map device_text ls
 
-abbrev is_text : (R : HandlerRelation) (l : DeviceLineData) (d end : Device) (tasks : List LineWhat) (es : List EntryData) → d.state.log ≡ [] → Replays R 0 d tasks es end → IsReplayText R l d tasks (whole_text l d es end)
-is_text R l d end tasks es new h =
-    let log : drop (length d.state.log) end.state.log ≡ end.state.log = ap (λ (x : List DoneData). drop (length x) end.state.log) new in
+abbrev journal_of : List DeviceLineData → List Journaled → List ℕ
+journal_of ls js = flat_map (journaled_text ls) js
+
+abbrev is_text : (R : HandlerRelation) (ls : List DeviceLineData) (ds ends : List Device) (lines : List LineData) (js : List Journaled) → ReplaysEach R ds lines (entries js) ends → IsLegalEach R ds js ends
+    → IsReplayOf R ls ds lines (lines_text ls ++ journal_of ls js ++ ends_text ls ends)
+is_text R ls ds ends lines js h k = record { journal = js; ends = ends; replays = h; legal = k; whole = refl }
+
+-- the device lines were written in part
+pub front_of_ready : (R : HandlerRelation) (ls : List DeviceLineData) (ds : List Device) (lines : List LineData) (old new : Option (List ℕ)) → HasOutcomes R → Every (λ d. IsSound d.state) ds
+    → Every (IsFitFor (length ds)) lines → GainedFront old (lines_text ls) new → ReplayedInPart R ls ds lines ds old new
+front_of_ready R ls ds lines old new outcomes sound fit f =
+    let e = ending_lines R ds lines outcomes sound fit in
     record {
-      entries = es;
-      end = end;
-      replays = h;
-      legal = replays_run R d end tasks es h;
-      whole = ap (λ (x : List DoneData). device_text l ++ entries_text l.name l.settings.qfull es x ++ last_text l end) log;
-    }
-
--- the device line was written in part
-pub front_of_ready : (R : HandlerRelation) (l : DeviceLineData) (d : Device) (tasks : List LineWhat) (old new : Option (List ℕ)) → HasOutcomes R → IsSound d.state → Every IsFit tasks → d.state.log ≡ []
-    → GainedFront old (device_text l) new → ReplayedInPart R l d tasks d old new
-front_of_ready R l d tasks old new outcomes sound fit fresh f =
-    let all = replays_total R d tasks outcomes sound fit in
-    record {
-      text = whole_text l d (all.0) (all.1);
-      is = is_text R l d (all.1) tasks (all.0) fresh (all.2);
+      text = lines_text ls ++ journal_of ls e.journal ++ ends_text ls e.ends;
+      is = is_text R ls ds e.ends lines e.journal e.right e.legal;
       made = [];
-      rest = all.0;
+      rest = e.journal;
       order = refl;
-      run = refl;
-      gained = front_first old new (device_text l) (run_text l d (all.0) (all.1) ++ last_text l (all.1)) _ (append_assoc (device_text l) (run_text l d (all.0) (all.1)) (last_text l (all.1))) f;
+      legal = legal_none R ds;
+      told = inr (front_first old new (lines_text ls) [] _ refl f);
+      gained = front_first old new (lines_text ls) (journal_of ls e.journal ++ ends_text ls e.ends) _ (append_assoc (lines_text ls) (journal_of ls e.journal) (ends_text ls e.ends)) f;
     }
 
--- its entries were
-pub front_of_run : (R : HandlerRelation) (l : DeviceLineData) (d d' : Device) (tasks : List LineWhat) (old mid new : Option (List ℕ)) → d.state.log ≡ []
-    → Gained old (device_text l) mid → WroteFront R l (Replays R 0 d tasks) d d' mid new → ReplayedInPart R l d tasks d' old new
-front_of_run R l d d' tasks old mid new fresh g w =
-    let parts : run_text l d (w.made ++ w.rest) w.end ≡ run_text l d w.made d' ++ run_text l d' w.rest w.end = text_more R l d d' w.end w.made w.rest w.run w.more in
+-- the journal was
+pub front_of_run : (R : HandlerRelation) (ls : List DeviceLineData) (ds ds' : List Device) (lines : List LineData) (old mid new : Option (List ℕ)) → Gained old (lines_text ls) mid
+    → WroteEachFront R ls (ReplaysEach R ds lines) ds ds' mid new → ReplayedInPart R ls ds lines ds' old new
+front_of_run R ls ds ds' lines old mid new g w =
+    let made = journal_of ls w.made in
+    let rest = journal_of ls w.rest in
+    let last = ends_text ls w.ends in
     record {
-      text = whole_text l d (w.made ++ w.rest) w.end;
-      is = is_text R l d w.end tasks (w.made ++ w.rest) fresh w.right;
+      text = lines_text ls ++ journal_of ls (w.made ++ w.rest) ++ last;
+      is = is_text R ls ds w.ends lines (w.made ++ w.rest) w.right w.whole;
       made = w.made;
       rest = w.rest;
       order = refl;
-      run = w.run;
-      gained = front_more old mid new (device_text l) (run_text l d w.made d') (run_text l d' w.rest w.end ++ last_text l w.end) _
-          (ap (λ (x : List ℕ). device_text l ++ x ++ last_text l w.end) parts ∙ regroup (device_text l) (run_text l d w.made d') (run_text l d' w.rest w.end) (last_text l w.end)) g w.wrote;
+      legal = w.legal;
+      told = inr (front_behind old mid new (lines_text ls) made _ refl g w.wrote);
+      gained = front_more old mid new (lines_text ls) made (rest ++ last) _
+          (ap (λ (x : List ℕ). lines_text ls ++ x ++ last) (flat_map-append (journaled_text ls) w.made w.rest) ∙ regroup (lines_text ls) made rest last) g w.wrote;
     }
   where
     regroup : (a b c e : List ℕ) → a ++ (b ++ c) ++ e ≡ a ++ (b ++ (c ++ e))
     regroup a b c e = append_assoc a (b ++ c) e ∙ ap (λ (x : List ℕ). a ++ x) (append_assoc b c e)
 
--- its end line was
-pub front_of_last : (R : HandlerRelation) (l : DeviceLineData) (d d' : Device) (tasks : List LineWhat) (old m1 m2 new : Option (List ℕ)) → d.state.log ≡ []
-    → Gained old (device_text l) m1 → Wrote R l (λ es. Replays R 0 d tasks es d') d d' m1 m2 → GainedFront m2 (last_text l d') new → ReplayedInPart R l d tasks d' old new
-front_of_last R l d d' tasks old m1 m2 new fresh g w f =
+-- the end lines were
+pub front_of_last : (R : HandlerRelation) (ls : List DeviceLineData) (ds ds' : List Device) (lines : List LineData) (old m1 m2 new : Option (List ℕ)) → Gained old (lines_text ls) m1
+    → WroteEach R ls (ReplaysEach R ds lines) ds ds' m1 m2 → GainedFront m2 (ends_text ls ds') new → ReplayedInPart R ls ds lines ds' old new
+front_of_last R ls ds ds' lines old m1 m2 new g w f =
     record {
-      text = whole_text l d w.entries d';
-      is = is_text R l d d' tasks w.entries fresh w.right;
-      made = w.entries;
+      text = lines_text ls ++ journal_of ls w.journal ++ ends_text ls ds';
+      is = is_text R ls ds ds' lines w.journal w.right w.legal;
+      made = w.journal;
       rest = [];
-      order = sym (append-nil w.entries);
-      run = w.run;
-      gained = front_behind old m2 new (device_text l ++ run_text l d w.entries d') (last_text l d') _ refl (gained_more old m1 m2 _ _ g w.wrote) f;
+      order = sym (append-nil w.journal);
+      legal = w.legal;
+      told = inl refl;
+      gained = front_behind old m2 new (lines_text ls ++ journal_of ls w.journal) (ends_text ls ds') _ refl (gained_more old m1 m2 _ _ g w.wrote) f;
     }
 
-pub whole : (R : HandlerRelation) (l : DeviceLineData) (d d' : Device) (tasks : List LineWhat) (old m1 m2 new : Option (List ℕ)) → d.state.log ≡ []
-    → Gained old (device_text l) m1 → Wrote R l (λ es. Replays R 0 d tasks es d') d d' m1 m2 → Gained m2 (last_text l d') new → Replayed R l d tasks d' old new
-whole R l d d' tasks old m1 m2 new fresh g w f =
+pub whole : (R : HandlerRelation) (ls : List DeviceLineData) (ds ds' : List Device) (lines : List LineData) (old m1 m2 new : Option (List ℕ)) → Gained old (lines_text ls) m1
+    → WroteEach R ls (ReplaysEach R ds lines) ds ds' m1 m2 → Gained m2 (ends_text ls ds') new → Replayed R ls ds lines ds' old new
+whole R ls ds ds' lines old m1 m2 new g w f =
     record {
-      text = whole_text l d w.entries d';
-      is = is_text R l d d' tasks w.entries fresh w.right;
-      end = refl;
+      text = lines_text ls ++ journal_of ls w.journal ++ ends_text ls ds';
+      is = is_text R ls ds ds' lines w.journal w.right w.legal;
+      ends = refl;
       gained = gained_more old m2 new _ _ (gained_more old m1 m2 _ _ g w.wrote) f;
     }
+
+-- ==== the end lines
+
+abbrev pub last_text : DeviceLineData → Device → List ℕ
+last_text l d = end_text l.name (open_count d.state)
+
+pub ends_more : (ls : List DeviceLineData) (ds : List Device) (at : ℕ) (l : DeviceLineData) (d : Device) → slice_get ls at ≡ Some l → slice_get ds at ≡ Some d
+    → ends_text (take (at + 1) ls) (take (at + 1) ds) ≡ ends_text (take at ls) (take at ds) ++ last_text l d
+ends_more ls ds at l d g h = subst (λ (n : ℕ). ends_text (take n ls) (take n ds) ≡ ends_text (take at ls) (take at ds) ++ last_text l d) (sym (add-one at)) (go ls ds at g h)
+  where
+    go : (ls : List DeviceLineData) (ds : List Device) (at : ℕ) → slice_get ls at ≡ Some l → slice_get ds at ≡ Some d → ends_text (take (suc at) ls) (take (suc at) ds) ≡ ends_text (take at ls) (take at ds) ++ last_text l d
+    go [] ds at g h = absurd (cc)
+    go (k ∷ ls) [] zero g h = absurd (cc)
+    go (k ∷ ls) [] (suc at) g h = absurd (cc)
+    go (k ∷ ls) (e ∷ ds) zero g h = let a : k ≡ l = cc in let b : e ≡ d = cc in append-nil (last_text k e) ∙ ap (λ (x : DeviceLineData). last_text x e) a ∙ ap (last_text l) b
+    go (k ∷ ls) (e ∷ ds) (suc at) g h = ap (λ (x : List ℕ). last_text k e ++ x) (go ls ds at g h) ∙ sym (append_assoc (last_text k e) (ends_text (take at ls) (take at ds)) (last_text l d))
+
+pub ends_at : (ls : List DeviceLineData) (ds : List Device) (at : ℕ) (l : DeviceLineData) (d : Device) → slice_get ls at ≡ Some l → slice_get ds at ≡ Some d
+    → ends_text ls ds ≡ ends_text (take at ls) (take at ds) ++ (last_text l d ++ ends_text (drop (suc at) ls) (drop (suc at) ds))
+ends_at [] ds at l d g h = absurd (cc)
+ends_at (k ∷ ls) [] zero l d g h = absurd (cc)
+ends_at (k ∷ ls) [] (suc at) l d g h = absurd (cc)
+ends_at (k ∷ ls) (e ∷ ds) zero l d g h =
+    let a : k ≡ l = cc in let b : e ≡ d = cc in ap (λ (x : DeviceLineData). last_text x e ++ ends_text ls ds) a ∙ ap (λ (x : Device). last_text l x ++ ends_text ls ds) b
+ends_at (k ∷ ls) (e ∷ ds) (suc at) l d g h =
+    ap (λ (x : List ℕ). last_text k e ++ x) (ends_at ls ds at l d g h)
+    ∙ sym (append_assoc (last_text k e) (ends_text (take at ls) (take at ds)) (last_text l d ++ ends_text (drop (suc at) ls) (drop (suc at) ds)))
+
+-- ==== devices as they open
+
+pub opened_count : (ls : List DeviceLineData) (ds : List Device) → AreOpened ls ds → length ls ≡ length ds
+opened_count [] [] h = refl
+opened_count [] (d ∷ ds) h = absurd h
+opened_count (l ∷ ls) [] h = absurd h
+opened_count (l ∷ ls) (d ∷ ds) h = ap suc (opened_count ls ds h.2)
+
+pub opened_sound : (ls : List DeviceLineData) (ds : List Device) → All IsDeviceLine ls → AreOpened ls ds → Every (λ d. IsSound d.state) ds
+opened_sound [] [] k h = tt
+opened_sound [] (d ∷ ds) k h = absurd h
+opened_sound (l ∷ ls) [] k h = absurd h
+opened_sound (l ∷ ls) (d ∷ ds) k h =
+    (subst IsSound (sym h.1) (sound_opening l.settings (k 0 l (omega arith)).settings), opened_sound ls ds (All-tail IsDeviceLine l ls k) h.2)
+
+pub opened_none : (n : ℕ) (ls : List DeviceLineData) (ds : List Device) → AreOpened ls ds → Every (λ d. d.state.accepted ≤ n) ds
+opened_none n [] [] h = tt
+opened_none n [] (d ∷ ds) h = absurd h
+opened_none n (l ∷ ls) [] h = absurd h
+opened_none n (l ∷ ls) (d ∷ ds) h = (let none : d.state.accepted ≡ 0 = ap (λ (x : DeviceState). x.accepted) h.1 in omega (arith, none), opened_none n ls ds h.2)
+
+-- ==== lines
+
+fit_line : (w : LineWhat) (l : LineData) → l.what ≡ w → IsWhat w → is_dump l ≡ false → IsFit w
+fit_line (line.Makes e) l is k dumpless = k
+fit_line line.Drains l is k dumpless = tt
+fit_line line.Dumps l is k dumpless = let yes : is_dump l ≡ true = rw is refl in absurd (cc)
+
+pub lines_fit : (ds : List DeviceLineData) (n : ℕ) (ls : List LineData) → length ds ≡ n → All (IsLine ds) ls → All (λ l. is_dump l ≡ false) ls → Every (IsFitFor n) ls
+lines_fit ds n [] e k dumpless = tt
+lines_fit ds n (l ∷ ls) e k dumpless =
+    let here = k 0 l (omega arith) in (
+      record { device = subst (λ (m : ℕ). l.device < m) e here.device; what = fit_line l.what l refl here.what (dumpless 0 l (omega arith)) },
+      lines_fit ds n ls e (All-tail (IsLine ds) l ls k) (All-tail (λ x. is_dump x ≡ false) l ls dumpless),
+    )

@@ -1,3 +1,4 @@
 pub mod Tasks
 pub mod Playing
+pub mod Opened
 pub mod Top

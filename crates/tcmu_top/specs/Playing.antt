@@ -1,11 +1,19 @@
--- What was made of a device and written of it, as far as a replay has come.
-use Rattle.std.specs.Prelude.{◌≡◌, ◌⊎◌, ℕ, List, [], ◌∷◌, ◌++◌, Option, length, drop}
-use Rattle.tcmu_types.specs.Events.{EventData, EntryData}
+-- What was made of devices and written of it, as far as a replay has come.
+use Rattle.std.specs.Prelude.{◌≡◌, ◌⊎◌, ℕ, List, [], ◌∷◌, ◌++◌, map, Option, Some, length, drop, slice_get, slice_set}
+use Rattle.std.specs.List.{flat_map}
+use Rattle.tcmu_types.specs.Data.{DoneData}
+use Rattle.tcmu_types.specs.Events.{EventData, AnswerData, EntryData}
 use Rattle.edge.specs.Outside.{Gained, GainedFront}
-use Rattle.tcmu_model.specs.Device.{Device}
+use Rattle.tcmu_model.specs.Device.{Device, opening_state}
 use Rattle.tcmu_model.specs.Steps.{HandlerRelation, Step, Run}
 use Rattle.tcmu_model.specs.ScenarioData.{DeviceLineData}
-use Rattle.tcmu_model.specs.Text.{entries_text}
+use Rattle.tcmu_model.specs.Text.{entries_text, event_line, completion_text}
+use Rattle.tcmu_model.specs.Several.{Journaled, IsLegalEach, journaled_text}
+use Rattle.tcmu_path.specs.Calls.{Accepts}
+
+-- the line of an event with its answer, and those of the completions that it logged
+abbrev pub event_lines : DeviceLineData → EventData → AnswerData → List DoneData → List ℕ
+event_lines l event answer logged = event_line l.name l.settings.qfull event answer ++ flat_map (completion_text l.name) logged
 
 -- the text of the entries that lead from one device to another, with the completions that they logged
 abbrev pub run_text : DeviceLineData → Device → List EntryData → Device → List ℕ
@@ -18,14 +26,14 @@ pub record MadeEvent (R : HandlerRelation) (at : ℕ) (event : EventData) (d d' 
   pub is : entry.event ≡ event
   pub step : Step R d entry d'
 
--- an event was made, and its text written
-pub record Told (R : HandlerRelation) (l : DeviceLineData) (event : EventData) (d d' : Device) (old new : Option (List ℕ)) : Type 0 where
-  pub made : MadeEvent R 0 event d d'
+-- an event was made on the device of this number, and its text written
+pub record Told (R : HandlerRelation) (at : ℕ) (l : DeviceLineData) (event : EventData) (d d' : Device) (old new : Option (List ℕ)) : Type 0 where
+  pub made : MadeEvent R at event d d'
   pub wrote : Gained old (run_text l d (made.entry ∷ []) d') new
 
 -- it was made, and a front of its text written
-pub record ToldFront (R : HandlerRelation) (l : DeviceLineData) (event : EventData) (d d' : Device) (old new : Option (List ℕ)) : Type 0 where
-  pub made : MadeEvent R 0 event d d'
+pub record ToldFront (R : HandlerRelation) (at : ℕ) (l : DeviceLineData) (event : EventData) (d d' : Device) (old new : Option (List ℕ)) : Type 0 where
+  pub made : MadeEvent R at event d d'
   pub wrote : GainedFront old (run_text l d (made.entry ∷ []) d') new
 
 -- nothing came of it
@@ -34,8 +42,8 @@ pub record NothingCame (d d' : Device) (old new : Option (List ℕ)) : Type 0 wh
   pub wrote : new ≡ old
 
 -- nothing came of an event, or it was made and told in part
-abbrev pub Stopped : HandlerRelation → DeviceLineData → EventData → Device → Device → Option (List ℕ) → Option (List ℕ) → Type 0
-Stopped R l event d d' old new = NothingCame d d' old new ⊎ ToldFront R l event d d' old new
+abbrev pub Stopped : HandlerRelation → ℕ → DeviceLineData → EventData → Device → Device → Option (List ℕ) → Option (List ℕ) → Type 0
+Stopped R at l event d d' old new = NothingCame d d' old new ⊎ ToldFront R at l event d d' old new
 
 -- entries that are so were made and written
 pub record Wrote (R : HandlerRelation) (l : DeviceLineData) (so : List EntryData → Type 0) (d d' : Device) (old new : Option (List ℕ)) : Type 0 where
@@ -53,3 +61,56 @@ pub record WroteFront (R : HandlerRelation) (l : DeviceLineData) (so : List Entr
   pub run : Run R d made d'
   pub more : Run R d' rest end
   pub wrote : GainedFront old (run_text l d made d') new
+
+-- ==== one of several devices
+
+-- the devices of a list, each with a name
+abbrev pub states_of : {P : Type 0} → (P → Device) → List (List ℕ × P) → List Device
+states_of device es = map (λ e. device e.1) es
+
+-- Entries that are so were made of the device of this number and written under its name. It accepted at most so many commands more, and
+-- all other devices are as they were.
+pub record WroteOn (R : HandlerRelation) (ls : List DeviceLineData) (at accepted : ℕ) (so : Device → List EntryData → Device → Type 0) (ds ds' : List Device) (old new : Option (List ℕ)) : Type 0 where
+  pub line : DeviceLineData
+  pub before : Device
+  pub after : Device
+  pub named : slice_get ls at ≡ Some line
+  pub found : slice_get ds at ≡ Some before
+  pub others : ds' ≡ slice_set ds at after
+  pub wrote : Wrote R line (λ es. so before es after) before after old new
+  pub accepts : Accepts accepted before after
+
+-- the same, where they were made and written in part
+pub record WroteOnFront (R : HandlerRelation) (ls : List DeviceLineData) (at : ℕ) (so : Device → List EntryData → Device → Type 0) (ds ds' : List Device) (old new : Option (List ℕ)) : Type 0 where
+  pub line : DeviceLineData
+  pub before : Device
+  pub after : Device
+  pub named : slice_get ls at ≡ Some line
+  pub found : slice_get ds at ≡ Some before
+  pub others : ds' ≡ slice_set ds at after
+  pub wrote : WroteFront R line (so before) before after old new
+
+-- ==== all devices
+
+-- each device is as its device line has it opened
+abbrev pub AreOpened : List DeviceLineData → List Device → Type 0
+AreOpened [] [] = Unit {0}
+AreOpened (l ∷ ls) (d ∷ ds) = (d.name ≡ l.name) × (d.state ≡ opening_state l.settings) × AreOpened ls ds
+AreOpened _ _ = ⊥
+
+-- a journal that is so was made of these devices and written, each entry under the name of its device
+pub record WroteEach (R : HandlerRelation) (ls : List DeviceLineData) (so : List EntryData → List Device → Type 0) (ds ds' : List Device) (old new : Option (List ℕ)) : Type 0 where
+  pub journal : List Journaled
+  pub right : so (map (λ j. j.entry) journal) ds'
+  pub legal : IsLegalEach R ds journal ds'
+  pub wrote : Gained old (flat_map (journaled_text ls) journal) new
+
+-- A journal was made, of which a front is written. More can follow it, so that all is as it is to be.
+pub record WroteEachFront (R : HandlerRelation) (ls : List DeviceLineData) (so : List EntryData → List Device → Type 0) (ds ds' : List Device) (old new : Option (List ℕ)) : Type 0 where
+  pub made : List Journaled
+  pub rest : List Journaled
+  pub ends : List Device
+  pub right : so (map (λ j. j.entry) (made ++ rest)) ends
+  pub legal : IsLegalEach R ds made ds'
+  pub whole : IsLegalEach R ds (made ++ rest) ends
+  pub wrote : GainedFront old (flat_map (journaled_text ls) made) new

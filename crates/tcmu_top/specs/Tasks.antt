@@ -1,5 +1,5 @@
 -- What can be asked of a device: the lines that are served.
-use Rattle.std.specs.Prelude.{ℕ, ◌≤◌, List, map}
+use Rattle.std.specs.Prelude.{ℕ, ◌≤◌, ◌<◌}
 use Rattle.tcmu_types.specs.Events.{EventData}
 use Rattle.tcmu_types.specs.Events as ev
 use Rattle.tcmu_model.specs.Lists.{IsRising}
@@ -24,6 +24,7 @@ IsFit (line.Makes event) = IsEvent event
 IsFit line.Drains = Unit {0}
 IsFit line.Dumps = ⊥
 
--- what these lines ask for
-abbrev pub asks : List LineData → List LineWhat
-asks ls = map (λ l. l.what) ls
+-- a line that is served, of one of so many devices
+pub record IsFitFor (devices : ℕ) (l : LineData) : Type 0 where
+  pub device : l.device < devices
+  pub what : IsFit l.what

@@ -1,75 +1,85 @@
 -- What the top call says of what it read and wrote.
-use Rattle.std.specs.Prelude.{◌≡◌, ◌≢◌, ◌⊎◌, ℕ, ◌*◌, Bool, false, List, [], ◌∷◌, ◌++◌, replicate, Option, IfSome, Ok, Err, bytes_eq, codes}
+use Rattle.std.specs.Prelude.{◌≡◌, ◌≢◌, ◌⊎◌, ℕ, Bool, true, false, List, [], ◌∷◌, ◌++◌, Option, IfSome, Ok, Err, bytes_eq, codes}
+use Rattle.std.specs.List.{flat_map}
 use Rattle.std.specs.Fmt.{decimal}
 use Rattle.tcmu_types.specs.Numbered.{Rose}
-use Rattle.tcmu_types.specs.Events.{EntryData}
 use Rattle.edge.specs.Outside.{Tells, Gained, GainedFront}
-use Rattle.tcmu_model.specs.MediumState.{MediumState}
-use Rattle.tcmu_model.specs.Medium.{memory_state}
+use Rattle.edge.specs.Stores.{FilesState}
 use Rattle.tcmu_model.specs.Scsi.{Serves}
-use Rattle.tcmu_model.specs.Device.{Device, opening}
-use Rattle.tcmu_model.specs.Steps.{HandlerRelation, Run}
-use Rattle.tcmu_model.specs.Config.{MediumData, InMemory, InFile}
-use Rattle.tcmu_model.specs.ScenarioData.{DeviceLineData, LineWhat, ScenarioData}
+use Rattle.tcmu_model.specs.Device.{Device}
+use Rattle.tcmu_model.specs.Steps.{HandlerRelation}
+use Rattle.tcmu_model.specs.ScenarioData.{DeviceLineData, LineData, ScenarioData}
 use Rattle.tcmu_model.specs.Scenario.{Bad, scenario_of}
+use Rattle.tcmu_model.specs.Text.{device_text}
 use Rattle.tcmu_model.specs.Words.{why_word}
-use Rattle.tcmu_model.specs.Replay.{IsReplayText}
+use Rattle.tcmu_model.specs.Several.{Journaled, IsLegalEach, journaled_text, IsReplayOf}
 use Rattle.tcmu_model.specs.declared.faults.Why.{Why}
 use Rattle.tcmu_model.specs.declared.faults.Why.TheVariants as why
-use Rattle.tcmu_top.specs.Tasks.{asks}
+use Rattle.tcmu_top.specs.Opened.{OpenEach, file_names, a_fetch_fails, KeptFiles, OthersStay}
 use Rattle.tcmu_top.specs.declared.status.Status.{Status}
 use Rattle.tcmu_top.specs.declared.status.Status.TheVariants as status
 
--- ==== one device, over any handler
+-- ==== several devices, over any handler
 
--- the whole text of a replay was written, and the device is as the replay ended
-pub record Replayed (R : HandlerRelation) (l : DeviceLineData) (opened : Device) (lines : List LineWhat) (d' : Device) (old new : Option (List ℕ)) : Type 0 where
+-- the whole text of a replay was written, and the devices are as the replay ended
+pub record Replayed (R : HandlerRelation) (ls : List DeviceLineData) (opened : List Device) (lines : List LineData) (ds' : List Device) (old new : Option (List ℕ)) : Type 0 where
   pub text : List ℕ
-  pub is : IsReplayText R l opened lines text
-  pub end : is.end ≡ d'
+  pub is : IsReplayOf R ls opened lines text
+  pub ends : is.ends ≡ ds'
   pub gained : Gained old text new
 
--- a front of such a text was written, and the device is the end of the run of those of its entries that were made
-pub record ReplayedInPart (R : HandlerRelation) (l : DeviceLineData) (opened : Device) (lines : List LineWhat) (d' : Device) (old new : Option (List ℕ)) : Type 0 where
+-- A front of such a text was written. Each device is the end of the run of its own entries that were made, and what was written is a
+-- front of the device lines and the lines of these entries; the end lines come once all is made.
+pub record ReplayedInPart (R : HandlerRelation) (ls : List DeviceLineData) (opened : List Device) (lines : List LineData) (ds' : List Device) (old new : Option (List ℕ)) : Type 0 where
   pub text : List ℕ
-  pub is : IsReplayText R l opened lines text
-  pub made : List EntryData
-  pub rest : List EntryData
-  pub order : is.entries ≡ made ++ rest
-  pub run : Run R opened made d'
+  pub is : IsReplayOf R ls opened lines text
+  pub made : List Journaled
+  pub rest : List Journaled
+  pub order : is.journal ≡ made ++ rest
+  pub legal : IsLegalEach R opened made ds'
+  pub told : (rest ≡ []) ⊎ GainedFront old (flat_map device_text ls ++ flat_map (journaled_text ls) made) new
   pub gained : GainedFront old text new
 
 -- ==== a scenario
 
--- a medium as it opens: memory, all zeros; files are not served yet
-abbrev pub IsBlank : MediumData → MediumState → Type 0
-IsBlank (InMemory blocks) m = m ≡ memory_state blocks (replicate (512 * blocks) 0) 0
-IsBlank (InFile name) m = ⊥
-
--- the device of a device line, as it opens
-abbrev pub Opens : DeviceLineData → Device → Type 0
-Opens l d = (medium : MediumState) × IsBlank l.config.kind medium × (d ≡ opening l.settings l.name medium)
-
--- the text is one of a replay of these lines on these devices, so far at most one
-abbrev pub IsTextOn : List DeviceLineData → List LineWhat → List ℕ → Type 0
-IsTextOn [] lines text = text ≡ []
-IsTextOn (l ∷ []) lines text = (opened : Device) × Opens l opened × IsReplayText Serves l opened lines text
-IsTextOn (l ∷ k ∷ more) lines text = ⊥
-
-abbrev pub IsTextOf : ScenarioData → List ℕ → Type 0
-IsTextOf s text = IsTextOn s.devices (asks s.lines) text
-
--- the whole text of a scenario's replay was written
-pub record TextWritten (s : ScenarioData) (old new : Option (List ℕ)) : Type 0 where
-  pub text : List ℕ
-  pub is : IsTextOf s text
-  pub gained : Gained old text new
+-- the text is that of a replay of a scenario, on its devices as they open over these files
+pub record IsTextOf (files : Option FilesState) (s : ScenarioData) (text : List ℕ) : Type 0 where
+  pub opened : List Device
+  pub opens : OpenEach files s.devices opened
+  pub replay : IsReplayOf Serves s.devices opened s.lines text
 
 -- a front of such a text was written
-pub record TextWrittenInPart (s : ScenarioData) (old new : Option (List ℕ)) : Type 0 where
+pub record TextWrittenInPart (files : Option FilesState) (s : ScenarioData) (old new : Option (List ℕ)) : Type 0 where
   pub text : List ℕ
-  pub is : IsTextOf s text
+  pub is : IsTextOf files s text
   pub gained : GainedFront old text new
+
+-- The whole text of a scenario's replay was written: every file could be fetched, and each has what its device left in it.
+pub record TextWritten (files files' : Option FilesState) (s : ScenarioData) (old new : Option (List ℕ)) : Type 0 where
+  pub text : List ℕ
+  pub is : IsTextOf files s text
+  pub gained : Gained old text new
+  pub fetched : IfSome files (λ f. a_fetch_fails (file_names s.devices) f ≡ false)
+  pub kept : KeptFiles s.devices is.replay.ends files files'
+
+-- the sink stopped it on the way: every file could be fetched
+pub record CutShort (files files' : Option FilesState) (s : ScenarioData) (old new : Option (List ℕ)) : Type 0 where
+  pub wrote : TextWrittenInPart files s old new
+  pub fetched : IfSome files (λ f. a_fetch_fails (file_names s.devices) f ≡ false)
+  pub others : OthersStay s.devices files files'
+
+-- want of memory stopped it, before or behind its first line
+pub record Wanting (files files' : Option FilesState) (s : ScenarioData) (old new : Option (List ℕ)) : Type 0 where
+  pub wrote : (new ≡ old) ⊎ TextWrittenInPart files s old new
+  pub others : OthersStay s.devices files files'
+
+-- a file could not be fetched, and nothing was written
+pub record LacksFile (files files' : Option FilesState) (s : ScenarioData) (old new : Option (List ℕ)) : Type 0 where
+  pub fails : IfSome files (λ f. a_fetch_fails (file_names s.devices) f ≡ true)
+  pub nothing : new ≡ old
+  pub others : OthersStay s.devices files files'
+
+-- ==== what the source had
 
 -- all that the source had is this scenario
 pub record HadScenario (left : Option (List ℕ)) (s : ScenarioData) : Type 0 where
@@ -77,17 +87,9 @@ pub record HadScenario (left : Option (List ℕ)) (s : ScenarioData) : Type 0 wh
   pub told : Tells left bytes
   pub reads : scenario_of bytes ≡ Ok s
 
--- all that the source had is a scenario, and the whole text of its replay was written
-pub record Wrote (left : Option (List ℕ)) (old new : Option (List ℕ)) : Type 0 where
-  pub scenario : ScenarioData
-  pub had : HadScenario left scenario
-  pub wrote : TextWritten scenario old new
-
--- the same, with a front of such a text
-pub record WroteInPart (left : Option (List ℕ)) (old new : Option (List ℕ)) : Type 0 where
-  pub scenario : ScenarioData
-  pub had : HadScenario left scenario
-  pub wrote : TextWrittenInPart scenario old new
+-- all that the source had is a scenario of which this holds
+abbrev pub Had : Option (List ℕ) → (ScenarioData → Type 0) → Type 0
+Had left So = (s : ScenarioData) × HadScenario left s × So s
 
 -- the fault of bytes that are more than a scenario has
 abbrev pub too_long : Bad
@@ -107,28 +109,47 @@ code_of status.WriteFault = 2
 code_of status.NoMemory = 3
 code_of (status.BadScenario line why) = 4
 code_of status.BadWords = 5
+code_of status.OpenFault = 6
 
--- How a replay ends, and what it wrote: by what the source had left, the faults of the source before and after, what the sink had
--- and has, its faults before and after, and the status.
-pub record Ends (left : Option (List ℕ)) (read read' : ℕ) (old new : Option (List ℕ)) (wrote wrote' : ℕ) (ended : Status) : Type 0 where
+-- nothing was written, and the files are as they were
+pub record Untouched (files files' : Option FilesState) (old new : Option (List ℕ)) : Type 0 where
+  pub wrote : new ≡ old
+  pub same : files' ≡ files
+
+-- How a replay ends, and what it wrote: by what the source had left, the faults of the source before and after, the files and their
+-- faults before and after, what the sink had and has, its faults before and after, and the status.
+pub record Ends (left : Option (List ℕ)) (read read' : ℕ) (files files' : Option FilesState) (opened opened' : ℕ) (old new : Option (List ℕ)) (wrote wrote' : ℕ) (ended : Status) : Type 0 where
   -- the whole text of a replay of the scenario that the source had was written
-  pub ok : ended ≡ status.Ok → Wrote left old new
+  pub ok : ended ≡ status.Ok → Had left (λ s. TextWritten files files' s old new)
   -- the source failed, and nothing was written
-  pub read_fault : ended ≡ status.ReadFault → Rose read read' × (new ≡ old)
+  pub read_fault : ended ≡ status.ReadFault → Rose read read' × Untouched files files' old new
   -- the sink failed
-  pub write_fault : ended ≡ status.WriteFault → Rose wrote wrote' × WroteInPart left old new
-  -- memory was wanting: before the scenario was read, and then nothing was written, or while it was replayed
-  pub no_memory : ended ≡ status.NoMemory → (new ≡ old) ⊎ WroteInPart left old new
+  pub write_fault : ended ≡ status.WriteFault → Rose wrote wrote' × Had left (λ s. CutShort files files' s old new)
+  -- memory was wanting: before the scenario was read, or later
+  pub no_memory : ended ≡ status.NoMemory → Untouched files files' old new ⊎ Had left (λ s. Wanting files files' s old new)
   -- what the source had is no scenario, and nothing was written
-  pub bad_scenario : (line : ℕ) (reason : Why) → ended ≡ status.BadScenario line reason → IsNoScenario left (record { line = line; why = reason }) × (new ≡ old)
+  pub bad_scenario : (line : ℕ) (reason : Why) → ended ≡ status.BadScenario line reason → IsNoScenario left (record { line = line; why = reason }) × Untouched files files' old new
+  -- a file could not be fetched, and nothing was written
+  pub open_fault : ended ≡ status.OpenFault → Rose opened opened' × Had left (λ s. LacksFile files files' s old new)
+  pub words : ended ≢ status.BadWords
+
+-- the same, where the scenario is at hand
+pub record ScenarioEnds (s : ScenarioData) (files files' : Option FilesState) (opened opened' : ℕ) (old new : Option (List ℕ)) (wrote wrote' : ℕ) (ended : Status) : Type 0 where
+  pub ok : ended ≡ status.Ok → TextWritten files files' s old new
+  pub write_fault : ended ≡ status.WriteFault → Rose wrote wrote' × CutShort files files' s old new
+  pub no_memory : ended ≡ status.NoMemory → Wanting files files' s old new
+  pub open_fault : ended ≡ status.OpenFault → Rose opened opened' × LacksFile files files' s old new
+  pub reads : ended ≢ status.ReadFault
+  pub scenario : (line : ℕ) (reason : Why) → ended ≢ status.BadScenario line reason
   pub words : ended ≢ status.BadWords
 
 -- the same, where the bytes are at hand
-pub record BytesEnd (bytes : List ℕ) (old new : Option (List ℕ)) (wrote wrote' : ℕ) (ended : Status) : Type 0 where
-  pub ok : ended ≡ status.Ok → (s : ScenarioData) × (scenario_of bytes ≡ Ok s) × TextWritten s old new
-  pub write_fault : ended ≡ status.WriteFault → Rose wrote wrote' × ((s : ScenarioData) × (scenario_of bytes ≡ Ok s) × TextWrittenInPart s old new)
-  pub no_memory : ended ≡ status.NoMemory → (new ≡ old) ⊎ ((s : ScenarioData) × (scenario_of bytes ≡ Ok s) × TextWrittenInPart s old new)
-  pub bad_scenario : (line : ℕ) (reason : Why) → ended ≡ status.BadScenario line reason → (scenario_of bytes ≡ Err (record { line = line; why = reason })) × (new ≡ old)
+pub record BytesEnd (bytes : List ℕ) (files files' : Option FilesState) (opened opened' : ℕ) (old new : Option (List ℕ)) (wrote wrote' : ℕ) (ended : Status) : Type 0 where
+  pub ok : ended ≡ status.Ok → (s : ScenarioData) × (scenario_of bytes ≡ Ok s) × TextWritten files files' s old new
+  pub write_fault : ended ≡ status.WriteFault → Rose wrote wrote' × ((s : ScenarioData) × (scenario_of bytes ≡ Ok s) × CutShort files files' s old new)
+  pub no_memory : ended ≡ status.NoMemory → Untouched files files' old new ⊎ ((s : ScenarioData) × (scenario_of bytes ≡ Ok s) × Wanting files files' s old new)
+  pub bad_scenario : (line : ℕ) (reason : Why) → ended ≡ status.BadScenario line reason → (scenario_of bytes ≡ Err (record { line = line; why = reason })) × Untouched files files' old new
+  pub open_fault : ended ≡ status.OpenFault → Rose opened opened' × ((s : ScenarioData) × (scenario_of bytes ≡ Ok s) × LacksFile files files' s old new)
   pub words : ended ≢ status.BadWords
   pub reads : ended ≢ status.ReadFault
 
@@ -149,6 +170,7 @@ fault_text status.Ok = []
 fault_text status.ReadFault = []
 fault_text status.WriteFault = []
 fault_text status.NoMemory = []
+fault_text status.OpenFault = []
 
 -- it was written, whole where the error stream did not fail
 abbrev pub Reported : Status → Option (List ℕ) → Option (List ℕ) → Type 0 → Type 0

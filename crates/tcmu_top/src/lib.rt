@@ -2,12 +2,12 @@
 #![tactic(auto)]
 
 mod count;
-mod device;
 mod faults;
 mod laws;
 mod lines;
 mod opening;
 mod reading;
+mod several;
 mod status;
 mod top;
 mod writing;

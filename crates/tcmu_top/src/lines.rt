@@ -1,16 +1,15 @@
-//! Replaying what a scenario asks of a device, each event written as it is made.
-ghost use Rattle.std.specs.Prelude.{◌≡◌, ◌⊎◌, ℕ, ◌+◌, ◌^◌, ◌≤◌, ◌<◌, [], ◌∷◌, ◌++◌, length, drop, map, IfOk, IfSome, OnOk, OnErr, IsErrOf};
+//! What one line of a scenario asks of its device, each event written as it is made.
+ghost use Rattle.std.specs.Prelude.{◌≡◌, ℕ, ◌^◌, ◌≤◌, ◌<◌, length, drop, IfOk, IfSome, OnOk, OnErr, IsErrOf};
 ghost use Rattle.std.specs.Option.{option_map};
 ghost use Rattle.tcmu_types.specs.Numbered.{Rose};
 ghost use Rattle.tcmu_types.specs.Views.{event_data, answer_data};
-ghost use Rattle.edge.specs.Outside.{Gained, GainedFront};
 ghost use Rattle.tcmu_model.specs.Steps.{Makes};
 ghost use Rattle.tcmu_model.specs.Drain.{chosen, Drains};
-ghost use Rattle.tcmu_model.specs.Sound.{IsSound, Every};
+ghost use Rattle.tcmu_model.specs.Sound.{IsSound};
 ghost use Rattle.tcmu_model.specs.Work.{HasOutcomes};
-ghost use Rattle.tcmu_model.specs.Replay.{Plays, Replays};
+ghost use Rattle.tcmu_model.specs.Replay.{Plays};
 ghost use Rattle.tcmu_path.specs.Calls.{Accepts};
-ghost use Rattle.tcmu_top.specs.Tasks.{CanBeMade, accepted_by, IsFit, asks};
+ghost use Rattle.tcmu_top.specs.Tasks.{CanBeMade, accepted_by, IsFit};
 ghost use Rattle.tcmu_top.specs.Playing.{Told, Stopped, Wrote, WroteFront};
 
 use crate::writing::{Stop, write_entry};
@@ -91,8 +90,8 @@ fn play<P: Path, K: Sink>(
 ) -> Result<(), Stop>
     requires few { (P.device path.old).state.accepted < 2 ^ 63 }
     requires can { CanBeMade (event_data event.now) }
-    ensures ok { OnOk result (Told P.relation device.now (event_data event.now) (P.device path.old) (P.device path.new) (K.written out.old) (K.written out.new)) }
-    ensures err { OnErr result (Stopped P.relation device.now (event_data event.now) (P.device path.old) (P.device path.new) (K.written out.old) (K.written out.new)) }
+    ensures ok { OnOk result ((at : ℕ) → Told P.relation at device.now (event_data event.now) (P.device path.old) (P.device path.new) (K.written out.old) (K.written out.new)) }
+    ensures err { OnErr result ((at : ℕ) → Stopped P.relation at device.now (event_data event.now) (P.device path.old) (P.device path.new) (K.written out.old) (K.written out.new)) }
     ensures fault { IsErrOf result Stop.WriteFault → Rose (K.faults out.old) (K.faults out.new) }
     ensures later { K.faults out.old ≤ K.faults out.new }
     ensures accepts { Accepts (accepted_by (event_data event.now)) (P.device path.old) (P.device path.new) }
@@ -104,7 +103,7 @@ fn play<P: Path, K: Sink>(
 }
 
 /// Makes and writes what a drain asks for.
-fn drain<P: Path, K: Sink>(
+pub fn drain<P: Path, K: Sink>(
     alloc: Global,
     device: &DeviceLine,
     path: &mut P,
@@ -113,8 +112,8 @@ fn drain<P: Path, K: Sink>(
     requires few { (P.device path.old).state.accepted < 2 ^ 63 }
     requires sound { IsSound (P.device path.old).state }
     requires outcomes { HasOutcomes P.relation }
-    ensures ok { OnOk result (Wrote P.relation device.now (λ es. Drains P.relation 0 (P.device path.old) es (P.device path.new)) (P.device path.old) (P.device path.new) (K.written out.old) (K.written out.new)) }
-    ensures err { OnErr result (WroteFront P.relation device.now (Drains P.relation 0 (P.device path.old)) (P.device path.old) (P.device path.new) (K.written out.old) (K.written out.new)) }
+    ensures ok { OnOk result ((at : ℕ) → Wrote P.relation device.now (λ es. Drains P.relation at (P.device path.old) es (P.device path.new)) (P.device path.old) (P.device path.new) (K.written out.old) (K.written out.new)) }
+    ensures err { OnErr result ((at : ℕ) → WroteFront P.relation device.now (Drains P.relation at (P.device path.old)) (P.device path.old) (P.device path.new) (K.written out.old) (K.written out.new)) }
     ensures fault { IsErrOf result Stop.WriteFault → Rose (K.faults out.old) (K.faults out.new) }
     ensures later { K.faults out.old ≤ K.faults out.new }
     ensures accepts { Accepts 0 (P.device path.old) (P.device path.new) }
@@ -126,7 +125,7 @@ fn drain<P: Path, K: Sink>(
 }
 
 /// Makes and writes what a line asks for.
-fn play_line<P: Path, K: Sink>(
+pub fn play_line<P: Path, K: Sink>(
     alloc: Global,
     device: &DeviceLine,
     path: &mut P,
@@ -137,8 +136,8 @@ fn play_line<P: Path, K: Sink>(
     requires sound { IsSound (P.device path.old).state }
     requires outcomes { HasOutcomes P.relation }
     requires fit { IsFit line.now.what }
-    ensures ok { OnOk result (Wrote P.relation device.now (λ es. Plays P.relation 0 (P.device path.old) line.now.what es (P.device path.new)) (P.device path.old) (P.device path.new) (K.written out.old) (K.written out.new)) }
-    ensures err { OnErr result (WroteFront P.relation device.now (Plays P.relation 0 (P.device path.old) line.now.what) (P.device path.old) (P.device path.new) (K.written out.old) (K.written out.new)) }
+    ensures ok { OnOk result ((at : ℕ) → Wrote P.relation device.now (λ es. Plays P.relation at (P.device path.old) line.now.what es (P.device path.new)) (P.device path.old) (P.device path.new) (K.written out.old) (K.written out.new)) }
+    ensures err { OnErr result ((at : ℕ) → WroteFront P.relation device.now (Plays P.relation at (P.device path.old) line.now.what) (P.device path.old) (P.device path.new) (K.written out.old) (K.written out.new)) }
     ensures fault { IsErrOf result Stop.WriteFault → Rose (K.faults out.old) (K.faults out.new) }
     ensures later { K.faults out.old ≤ K.faults out.new }
     ensures accepts { Accepts 1 (P.device path.old) (P.device path.new) }
@@ -148,29 +147,4 @@ fn play_line<P: Path, K: Sink>(
         LineKind::Drain => drain(alloc, device, path, out),
         LineKind::Dump => unreachable!(),
     }
-}
-
-/// Makes and writes what the lines ask for, and drains the device behind the last.
-pub fn replay<P: Path, K: Sink>(
-    alloc: Global,
-    device: &DeviceLine,
-    path: &mut P,
-    lines: &[Line],
-    out: &mut K,
-) -> Result<(), Stop>
-    requires few { (P.device path.old).state.accepted + length lines.now < 2 ^ 63 }
-    requires sound { IsSound (P.device path.old).state }
-    requires outcomes { HasOutcomes P.relation }
-    requires fit { Every IsFit (asks lines.now) }
-    ensures ok { OnOk result (Wrote P.relation device.now (λ es. Replays P.relation 0 (P.device path.old) (asks lines.now) es (P.device path.new)) (P.device path.old) (P.device path.new) (K.written out.old) (K.written out.new)) }
-    ensures err { OnErr result (WroteFront P.relation device.now (Replays P.relation 0 (P.device path.old) (asks lines.now)) (P.device path.old) (P.device path.new) (K.written out.old) (K.written out.new)) }
-    ensures fault { IsErrOf result Stop.WriteFault → Rose (K.faults out.old) (K.faults out.new) }
-    ensures later { K.faults out.old ≤ K.faults out.new }
-    ensures still_sound { OnOk result (IsSound (P.device path.new).state) }
-    ensures still_few { OnOk result ((P.device path.new).state.accepted < 2 ^ 63) }
-{
-    for line in lines {
-        play_line(alloc, device, path, line, out)?;
-    }
-    drain(alloc, device, path, out)
 }

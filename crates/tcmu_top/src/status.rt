@@ -19,6 +19,8 @@ pub enum Status {
     BadScenario { line: u32, why: Why },
     /// The words are none that the program knows.
     BadWords,
+    /// The file of a device could not be opened; nothing is written.
+    OpenFault,
 }
 
 impl Status {
@@ -33,6 +35,7 @@ impl Status {
             Status::NoMemory => 3,
             Status::BadScenario { .. } => 4,
             Status::BadWords => 5,
+            Status::OpenFault => 6,
         }
     }
 }

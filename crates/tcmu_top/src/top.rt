@@ -1,66 +1,107 @@
 //! The top call: words, reading, replaying, and the status.
-ghost use Rattle.std.specs.Prelude.{◌≡◌, ◌≤◌, true, false, OnOk, OnErr, IsErrOf};
+ghost use Rattle.std.specs.Prelude.{◌≡◌, ℕ, ◌≤◌, true, false, Option};
 ghost use Rattle.tcmu_types.specs.Data.{texts_of};
 ghost use Rattle.tcmu_types.specs.Numbered.{Rose};
+ghost use Rattle.edge.specs.Stores.{FilesState};
 ghost use Rattle.tcmu_model.specs.ScenarioRules.{IsScenario, IsServed};
-ghost use Rattle.tcmu_top.specs.Top.{TextWritten, TextWrittenInPart, BytesEnd, Ends, are_replay, Reported};
+ghost use Rattle.tcmu_top.specs.Opened.{AreOpen};
+ghost use Rattle.tcmu_top.specs.Playing.{AreOpened, states_of};
+ghost use Rattle.tcmu_top.specs.Top.{ScenarioEnds, BytesEnd, Ends, Untouched, are_replay, Reported};
 
-use crate::device::replay_device;
 use crate::faults::report;
-use crate::opening::open_device;
+use crate::opening::{ServedDevice, keep_files, open_devices};
 use crate::reading::{Unread, read_all};
+use crate::several::replay_devices;
 use crate::status::Status;
 use crate::writing::Stop;
-use edge::{Sink, Source};
+use device_set::DeviceSet;
+use edge::{Files, Sink, Source};
+use media::MakeFault;
 use scenario_text::{Scenario, ScenarioFault, read_scenario};
 use std::alloc::Global;
 use tcmu_model::Why;
 use tcmu_types::Words;
 
-/// Replays a scenario on its device, as it opens, and writes its text. Without a device there is none.
-fn replay_scenario<K: Sink>(alloc: Global, scenario: &Scenario, out: &mut K) -> Result<(), Stop>
+/// Replays a scenario's lines on its devices, writes the text, and gives the devices' files back.
+fn replay_opened<K: Sink, F: Files>(
+    alloc: Global,
+    scenario: &Scenario,
+    mut set: DeviceSet<ServedDevice<F::File>>,
+    out: &mut K,
+    files: &mut F,
+) -> Status
     requires limits { IsScenario scenario.now }
     requires served { IsServed scenario.now }
-    ensures ok { OnOk result (TextWritten scenario.now (K.written out.old) (K.written out.new)) }
-    ensures err { OnErr result (TextWrittenInPart scenario.now (K.written out.old) (K.written out.new)) }
-    ensures fault { IsErrOf result Stop.WriteFault → Rose (K.faults out.old) (K.faults out.new) }
-    ensures later { K.faults out.old ≤ K.faults out.new }
+    requires opened { AreOpened scenario.now.devices (states_of (λ d. d) set) }
+    ensures ends { (entry : Option FilesState) (before after : ℕ) → AreOpen entry (F.state files.old) scenario.now.devices (states_of (λ d. d) set)
+        → ScenarioEnds scenario.now entry (F.state files.new) before after (K.written out.old) (K.written out.new) (K.faults out.old) (K.faults out.new) result }
+    ensures same { F.faults files.new ≡ F.faults files.old }
+    ensures wrote { K.faults out.old ≤ K.faults out.new }
 {
-    match scenario.devices.as_slice() {
-        [] => Ok(()),
-        [device] => {
-            let mut path = open_device(alloc, device)?;
-            replay_device(alloc, device, &mut path, scenario.lines.as_slice(), out)
+    match replay_devices(alloc, scenario, &mut set, out) {
+        Ok(()) => {
+            keep_files(scenario.devices.as_slice(), set, files);
+            Status::Ok
         }
-        _ => unreachable!(),
-    }
-}
-
-/// Replays the scenario that the bytes are.
-fn replay_bytes<K: Sink>(alloc: Global, bytes: &[u8], out: &mut K) -> Status
-    ensures ends { BytesEnd bytes.now (K.written out.old) (K.written out.new) (K.faults out.old) (K.faults out.new) result }
-    ensures later { K.faults out.old ≤ K.faults out.new }
-{
-    let scenario = match read_scenario(alloc, bytes) {
-        Ok(scenario) => scenario,
-        Err(ScenarioFault::Bad { line, why }) => return Status::BadScenario { line, why },
-        Err(ScenarioFault::NoMemory) => return Status::NoMemory,
-    };
-    match replay_scenario(alloc, &scenario, out) {
-        Ok(()) => Status::Ok,
         Err(Stop::WriteFault) => Status::WriteFault,
         Err(Stop::NoMemory) => Status::NoMemory,
     }
 }
 
-/// Reads a scenario from the source, replays it, and writes its journal to the sink: each line, with its line feed, by one call.
-pub fn run_replay<S: Source, K: Sink>(alloc: Global, src: &mut S, out: &mut K) -> Status
-    ensures ends { Ends (S.left src.old) (S.faults src.old) (S.faults src.new) (K.written out.old) (K.written out.new) (K.faults out.old) (K.faults out.new) result }
+/// Opens the devices of a scenario, replays its lines on them, writes the text, and gives their files back.
+fn replay_scenario<K: Sink, F: Files>(
+    alloc: Global,
+    scenario: &Scenario,
+    out: &mut K,
+    files: &mut F,
+) -> Status
+    requires limits { IsScenario scenario.now }
+    requires served { IsServed scenario.now }
+    ensures ends { ScenarioEnds scenario.now (F.state files.old) (F.state files.new) (F.faults files.old) (F.faults files.new) (K.written out.old) (K.written out.new) (K.faults out.old) (K.faults out.new) result }
+    ensures opened { F.faults files.old ≤ F.faults files.new }
+    ensures wrote { K.faults out.old ≤ K.faults out.new }
+{
+    let devices = scenario.devices.as_slice();
+    match open_devices(alloc, devices, files) {
+        Ok(set) => replay_opened(alloc, scenario, set, out, files),
+        Err(MakeFault::Open) => Status::OpenFault,
+        Err(MakeFault::NoMemory) => Status::NoMemory,
+    }
+}
+
+/// Replays the scenario that the bytes are.
+fn replay_bytes<K: Sink, F: Files>(
+    alloc: Global,
+    bytes: &[u8],
+    out: &mut K,
+    files: &mut F,
+) -> Status
+    ensures ends { BytesEnd bytes.now (F.state files.old) (F.state files.new) (F.faults files.old) (F.faults files.new) (K.written out.old) (K.written out.new) (K.faults out.old) (K.faults out.new) result }
+    ensures opened { F.faults files.old ≤ F.faults files.new }
+    ensures wrote { K.faults out.old ≤ K.faults out.new }
+{
+    match read_scenario(alloc, bytes) {
+        Ok(scenario) => replay_scenario(alloc, &scenario, out, files),
+        Err(ScenarioFault::Bad { line, why }) => Status::BadScenario { line, why },
+        Err(ScenarioFault::NoMemory) => Status::NoMemory,
+    }
+}
+
+/// Reads a scenario from the source, opens its devices over the files, replays it, and writes its journal to the sink: each line, with
+/// its line feed, by one call. At the end each file has what its device left in it.
+pub fn run_replay<S: Source, K: Sink, F: Files>(
+    alloc: Global,
+    src: &mut S,
+    out: &mut K,
+    files: &mut F,
+) -> Status
+    ensures ends { Ends (S.left src.old) (S.faults src.old) (S.faults src.new) (F.state files.old) (F.state files.new) (F.faults files.old) (F.faults files.new) (K.written out.old) (K.written out.new) (K.faults out.old) (K.faults out.new) result }
     ensures read { S.faults src.old ≤ S.faults src.new }
+    ensures opened { F.faults files.old ≤ F.faults files.new }
     ensures wrote { K.faults out.old ≤ K.faults out.new }
 {
     match read_all(alloc, src) {
-        Ok(bytes) => replay_bytes(alloc, &bytes, out),
+        Ok(bytes) => replay_bytes(alloc, &bytes, out, files),
         Err(Unread::Failed) => Status::ReadFault,
         Err(Unread::TooLong) => Status::BadScenario {
             line: 0,
@@ -82,26 +123,28 @@ fn are_replay(words: &Words) -> bool
 
 /// All that the program does: the words decide what. `replay` reads a scenario from the source and writes its journal to the sink. The
 /// line of a fault goes to the error stream; a failure there leaves the status as it is.
-pub fn tcmu_top<S: Source, K: Sink, E: Sink>(
+pub fn tcmu_top<S: Source, K: Sink, E: Sink, F: Files>(
     alloc: Global,
     words: &Words,
     src: &mut S,
     out: &mut K,
     err: &mut E,
+    files: &mut F,
 ) -> Status
     ensures replay { are_replay (texts_of words.now.items) ≡ true
-        → Ends (S.left src.old) (S.faults src.old) (S.faults src.new) (K.written out.old) (K.written out.new) (K.faults out.old) (K.faults out.new) result }
+        → Ends (S.left src.old) (S.faults src.old) (S.faults src.new) (F.state files.old) (F.state files.new) (F.faults files.old) (F.faults files.new) (K.written out.old) (K.written out.new) (K.faults out.old) (K.faults out.new) result }
     ensures bad_words { are_replay (texts_of words.now.items) ≡ false
-        → (result ≡ Status.BadWords) × (S.left src.new ≡ S.left src.old) × (K.written out.new ≡ K.written out.old) }
+        → (result ≡ Status.BadWords) × (S.left src.new ≡ S.left src.old) × Untouched (F.state files.old) (F.state files.new) (K.written out.old) (K.written out.new) }
     ensures reported { Reported result (E.written err.old) (E.written err.new) (Rose (E.faults err.old) (E.faults err.new)) }
     ensures read { S.faults src.old ≤ S.faults src.new }
+    ensures opened { F.faults files.old ≤ F.faults files.new }
     ensures wrote { K.faults out.old ≤ K.faults out.new }
 {
     if !are_replay(words) {
         report(err, Status::BadWords);
         return Status::BadWords;
     }
-    let status = run_replay(alloc, src, out);
+    let status = run_replay(alloc, src, out, files);
     report(err, status);
     status
 }

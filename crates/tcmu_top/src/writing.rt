@@ -5,6 +5,7 @@ ghost use Rattle.tcmu_types.specs.Numbered.{Rose};
 ghost use Rattle.tcmu_types.specs.Views.{event_data, answer_data};
 ghost use Rattle.edge.specs.Outside.{Gained, GainedFront};
 ghost use Rattle.tcmu_model.specs.Text as spelled;
+ghost use Rattle.tcmu_top.specs.Playing.{event_lines};
 ghost use Rattle.tcmu_top.specs.declared.writing.Stop.TheVariants.{NoMemory as Wanting};
 
 use edge::Sink;
@@ -42,7 +43,7 @@ pub fn write_line<K: Sink>(out: &mut K, line: &[u8]) -> Result<(), Stop>
 }
 
 /// Writes the line of a device.
-pub fn write_ready<K: Sink>(alloc: Global, device: &DeviceLine, out: &mut K) -> Result<(), Stop>
+fn write_ready<K: Sink>(alloc: Global, device: &DeviceLine, out: &mut K) -> Result<(), Stop>
     ensures ok { OnOk result (Gained (K.written out.old) (spelled.device_text device.now) (K.written out.new)) }
     ensures err { OnErr result (GainedFront (K.written out.old) (spelled.device_text device.now) (K.written out.new)) }
     ensures fault { IsErrOf result Stop.WriteFault → Rose (K.faults out.old) (K.faults out.new) }
@@ -51,6 +52,23 @@ pub fn write_ready<K: Sink>(alloc: Global, device: &DeviceLine, out: &mut K) -> 
     let mut text = Bytes::new(alloc);
     device_text(alloc, device, &mut text)?;
     write_line(out, text.as_slice())
+}
+
+/// Writes the lines of the devices, in order.
+pub fn write_readies<K: Sink>(
+    alloc: Global,
+    devices: &[DeviceLine],
+    out: &mut K,
+) -> Result<(), Stop>
+    ensures ok { OnOk result (Gained (K.written out.old) (flat_map spelled.device_text devices.now) (K.written out.new)) }
+    ensures err { OnErr result (GainedFront (K.written out.old) (flat_map spelled.device_text devices.now) (K.written out.new)) }
+    ensures fault { IsErrOf result Stop.WriteFault → Rose (K.faults out.old) (K.faults out.new) }
+    ensures later { K.faults out.old ≤ K.faults out.new }
+{
+    for device in devices {
+        write_ready(alloc, device, out)?;
+    }
+    Ok(())
 }
 
 fn write_event<K: Sink>(
@@ -119,8 +137,8 @@ pub fn write_entry<K: Sink>(
     logged: &[Done],
     out: &mut K,
 ) -> Result<(), Stop>
-    ensures ok { OnOk result (Gained (K.written out.old) (spelled.entry_text device.now.name device.now.settings.qfull (record { device = 0; event = event_data event.now; answer = answer_data answer.now; logged = length logged.now }) logged.now) (K.written out.new)) }
-    ensures err { OnErr result (GainedFront (K.written out.old) (spelled.entry_text device.now.name device.now.settings.qfull (record { device = 0; event = event_data event.now; answer = answer_data answer.now; logged = length logged.now }) logged.now) (K.written out.new)) }
+    ensures ok { OnOk result (Gained (K.written out.old) (event_lines device.now (event_data event.now) (answer_data answer.now) logged.now) (K.written out.new)) }
+    ensures err { OnErr result (GainedFront (K.written out.old) (event_lines device.now (event_data event.now) (answer_data answer.now) logged.now) (K.written out.new)) }
     ensures fault { IsErrOf result Stop.WriteFault → Rose (K.faults out.old) (K.faults out.new) }
     ensures later { K.faults out.old ≤ K.faults out.new }
 {

@@ -1,5 +1,6 @@
 use Rattle.std.proofs.Common.{Some, None, arith}
 use Rattle.tcmu_types.specs.Views.{event_data}
+use Rattle.tcmu_model.proofs.Runs.{sound_step}
 use Rattle.tcmu_top.proofs.Telling.{on_err}
 use Rattle.tcmu_top.proofs.Playing.{picked_by, draining_first, draining_more, draining_done, draining_stopped, falls_told}
 use Rattle.tcmu_top.proofs.lines.drain.Goals as goal
@@ -7,7 +8,8 @@ use Rattle.tcmu_top.proofs.lines.drain.Goals as goal
 pub loop-event-init : goal.loop-event-init
 loop-event-init g c =
     record {
-      sofar = draining_first g.P.Path.relation c.args.device.now (g.P.Path.device c.args.path.now) _ c.requires.sound;
+      sofar = λ at. draining_first g.P.Path.relation at c.args.device.now (g.P.Path.device c.args.path.now) _ c.requires.sound;
+      sound = c.requires.sound;
       later = omega arith;
       accepts = record { least = omega arith; most = omega arith };
     }
@@ -15,19 +17,20 @@ loop-event-init g c =
 pub returns-in_err-play-clause-err : goal.returns-in_err-play-clause-err
 returns-in_err-play-clause-err g c =
     let picked = picked_by (g.P.Path.device c.loop-event.path).state _ (Some c.in-Some.event) c.todo.ensures c.in-Some.ensures.value in
-    on_err c.from_residual.result (draining_stopped g.P.Path.relation c.args.device.now _ (g.P.Path.device c.loop-event.path) _ (event_data c.in-Some.event) _ _ _ c.requires.outcomes c.loop-event.invariant.sofar picked c.in_err-play.ensures.err)
+    on_err c.from_residual.result (λ at. draining_stopped g.P.Path.relation at c.args.device.now _ (g.P.Path.device c.loop-event.path) _ (event_data c.in-Some.event) _ _ _ c.requires.outcomes (c.loop-event.invariant.sofar at) picked (c.in_err-play.ensures.err at))
 
 pub loop-event-smaller : goal.loop-event-smaller
 loop-event-smaller g c =
     let picked = picked_by (g.P.Path.device c.loop-event.path).state _ (Some c.in-Some.event) c.todo.ensures c.in-Some.ensures.value in
-    falls_told g.P.Path.relation c.args.device.now (g.P.Path.device c.loop-event.path) _ (event_data c.in-Some.event) _ _ c.loop-event.invariant.sofar.sound picked c.in_ok-play.ensures.ok
+    falls_told g.P.Path.relation 0 c.args.device.now (g.P.Path.device c.loop-event.path) _ (event_data c.in-Some.event) _ _ c.loop-event.invariant.sound picked (c.in_ok-play.ensures.ok 0)
 
 pub loop-event-preserved : goal.loop-event-preserved
 loop-event-preserved g c =
     let picked = picked_by (g.P.Path.device c.loop-event.path).state _ (Some c.in-Some.event) c.todo.ensures c.in-Some.ensures.value in
     let none = c.in-Some.ensures.accepts in
     record {
-      sofar = draining_more g.P.Path.relation c.args.device.now _ (g.P.Path.device c.loop-event.path) _ (event_data c.in-Some.event) _ _ _ c.loop-event.invariant.sofar picked c.in_ok-play.ensures.ok;
+      sofar = λ at. draining_more g.P.Path.relation at c.args.device.now _ (g.P.Path.device c.loop-event.path) _ (event_data c.in-Some.event) _ _ _ (c.loop-event.invariant.sofar at) picked (c.in_ok-play.ensures.ok at);
+      sound = sound_step g.P.Path.relation _ _ (c.in_ok-play.ensures.ok 0).made.entry c.loop-event.invariant.sound (c.in_ok-play.ensures.ok 0).made.step;
       later = omega (arith, c.loop-event.invariant.later, c.in_ok-play.ensures.later);
       accepts = record {
         least = omega (arith, c.loop-event.invariant.accepts.least, c.in_ok-play.ensures.accepts.least);
@@ -37,4 +40,4 @@ loop-event-preserved g c =
 
 pub returns-clause-ok : goal.returns-clause-ok
 returns-clause-ok g c =
-    draining_done g.P.Path.relation c.args.device.now _ (g.P.Path.device c.loop-event.path) _ _ c.loop-event.invariant.sofar (picked_by (g.P.Path.device c.loop-event.path).state _ None c.todo.ensures c.in_default.ensures.value)
+    λ at. draining_done g.P.Path.relation at c.args.device.now _ (g.P.Path.device c.loop-event.path) _ _ (c.loop-event.invariant.sofar at) (picked_by (g.P.Path.device c.loop-event.path).state _ None c.todo.ensures c.in_default.ensures.value)

@@ -1,4 +1,5 @@
-use Rattle.std.proofs.Common.{◌≤◌}
+use Rattle.std.proofs.Common.{ℕ, ◌≤◌}
+use Rattle.tcmu_model.specs.Sound.{IsSound}
 use Rattle.tcmu_model.specs.Work.{work}
 use Rattle.tcmu_path.specs.Calls.{Accepts}
 use Rattle.tcmu_top.proofs.Playing.{Draining}
@@ -6,7 +7,8 @@ use Rattle.tcmu_top.proofs.lines.drain.Given as goal
 
 abbrev pub invariant-loop-event : goal.invariant-loop-event
 invariant-loop-event g l = record {
-  sofar : Draining g.P.Path.relation l.device (g.P.Path.device l.fn.path) (g.P.Path.device l.path) (g.K.Sink.written l.fn.out) (g.K.Sink.written l.out);
+  sofar : (at : ℕ) → Draining g.P.Path.relation at l.device (g.P.Path.device l.fn.path) (g.P.Path.device l.path) (g.K.Sink.written l.fn.out) (g.K.Sink.written l.out);
+  sound : IsSound (g.P.Path.device l.path).state;
   later : g.K.Sink.faults l.fn.out ≤ g.K.Sink.faults l.out;
   accepts : Accepts 0 (g.P.Path.device l.fn.path) (g.P.Path.device l.path);
 }

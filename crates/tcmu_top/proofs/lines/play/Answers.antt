@@ -10,16 +10,16 @@ behind-logged-requires g c =
 
 pub returns-in_err-answer-clause-err : goal.returns-in_err-answer-clause-err
 returns-in_err-answer-clause-err g c =
-    on_err c.from_residual.result (nothing_came g.P.Path.relation c.args.device.now _ _ (event_data c.args.event.now) _ c.in_err-answer.ensures.unchanged)
+    on_err c.from_residual.result (λ at. nothing_came g.P.Path.relation at c.args.device.now _ _ (event_data c.args.event.now) _ c.in_err-answer.ensures.unchanged)
 
 pub returns-clause-ok : goal.returns-clause-ok
 returns-clause-ok g c =
     on_ok_weaker c.write_entry.result
-    (λ h. told_of g.P.Path.relation c.args.device.now _ _ (event_data c.args.event.now) (answer_data c.in_ok-answer.answer) c.behind-logged.result.now _ _ _ _ c.in_ok-answer.ensures.makes c.log-before.ensures c.log.ensures c.behind-logged.ensures h)
+    (λ h at. told_of g.P.Path.relation at c.args.device.now _ _ (event_data c.args.event.now) (answer_data c.in_ok-answer.answer) c.behind-logged.result.now _ _ _ _ c.in_ok-answer.ensures.makes c.log-before.ensures c.log.ensures c.behind-logged.ensures h)
     c.write_entry.ensures.ok
 
 pub returns-clause-err : goal.returns-clause-err
 returns-clause-err g c =
     on_err_weaker c.write_entry.result
-    (λ h. stopped_of g.P.Path.relation c.args.device.now _ _ (event_data c.args.event.now) (answer_data c.in_ok-answer.answer) c.behind-logged.result.now _ _ _ _ c.in_ok-answer.ensures.makes c.log-before.ensures c.log.ensures c.behind-logged.ensures h)
+    (λ h at. stopped_of g.P.Path.relation at c.args.device.now _ _ (event_data c.args.event.now) (answer_data c.in_ok-answer.answer) c.behind-logged.result.now _ _ _ _ c.in_ok-answer.ensures.makes c.log-before.ensures c.log.ensures c.behind-logged.ensures h)
     c.write_entry.ensures.err

@@ -1,41 +1,43 @@
-use Rattle.std.proofs.Common.{ap, ◌∙◌}
-use Rattle.std.proofs.lemmas.Result.{on_ok_weaker, on_err_weaker}
-use Rattle.tcmu_model.specs.ScenarioData.{ScenarioData}
-use Rattle.tcmu_top.proofs.Telling.{on_err}
-use Rattle.tcmu_top.proofs.Outcomes.{has_outcomes}
-use Rattle.tcmu_top.proofs.Scenarios.{only_device, lines_fit, of_nothing, of_replayed, of_part}
+use Rattle.std.proofs.Common.{◌≡◌, ◌∙◌, ap, subst, List}
+use Rattle.tcmu_model.specs.ScenarioData.{ScenarioData, DeviceLineData}
+use Rattle.media.specs.declared.make.MakeFault.{MakeFault}
+use Rattle.media.specs.declared.make.MakeFault.TheVariants as fault
+use Rattle.tcmu_top.specs.Opened.{AreOpen, Unopened}
+use Rattle.tcmu_top.specs.Playing.{states_of}
+use Rattle.tcmu_top.proofs.Scenarios.{open_opened, scenario_wanting, scenario_lacks, wanting_early, lacks_file}
 use Rattle.tcmu_top.proofs.top.replay_scenario.Goals as goal
 
-pub returns-in_err-path-in-len1-clause-err : goal.returns-in_err-path-in-len1-clause-err
-returns-in_err-path-in-len1-clause-err g c =
+pub replay_opened-requires-clause-opened : goal.replay_opened-requires-clause-opened
+replay_opened-requires-clause-opened g c =
     let s = c.args.scenario.now in
-    let same = c.as_slice.ensures ∙ ap (λ (x : ScenarioData). x.devices) c.scenario.view_is in
-    let one = only_device s c.as_slice.result.now c.device-item.result same c.device-item.is c.in-len1.len_at_least c.requires.served.one in
-    on_err c.from_residual.result (of_nothing s c.device-item.result _ one c.requires.limits c.requires.served)
+    let same = c.as_slice-devices.ensures ∙ ap (λ (x : ScenarioData). x.devices) c.scenario.view_is in
+    let ready = subst (λ (l : List DeviceLineData). AreOpen (g.F.Files.state c.args.files.now) (g.F.Files.state c.open_devices.new.files) l (states_of (λ d. d) c.in-Ok.set)) same c.in-Ok.ensures.opened in
+    λ κs within. open_opened (g.F.Files.state c.args.files.now) s.devices (states_of (λ d. d) c.in-Ok.set) ready.opens
 
-pub replay_device-requires-clause-outcomes : goal.replay_device-requires-clause-outcomes
-replay_device-requires-clause-outcomes g c = has_outcomes
+pub returns-in-Ok-clause-ends : goal.returns-in-Ok-clause-ends
+returns-in-Ok-clause-ends g c =
+    let same = c.as_slice-devices.ensures ∙ ap (λ (x : ScenarioData). x.devices) c.scenario.view_is in
+    let ready = subst (λ (l : List DeviceLineData). AreOpen (g.F.Files.state c.args.files.now) (g.F.Files.state c.open_devices.new.files) l (states_of (λ d. d) c.in-Ok.set)) same c.in-Ok.ensures.opened in
+    c.replay_opened.ensures.ends (g.F.Files.state c.args.files.now) (g.F.Files.faults c.args.files.now) (g.F.Files.faults c.replay_opened.new.files) ready
 
-pub replay_device-requires-clause-fit : goal.replay_device-requires-clause-fit
-replay_device-requires-clause-fit g c =
-    lines_fit c.args.scenario.now c.as_slice-in-len1.result.now (c.as_slice-in-len1.ensures ∙ ap (λ (x : ScenarioData). x.lines) c.scenario.view_is) c.requires.limits c.requires.served
-
-pub returns-in_ok-path-in-len1-clause-ok : goal.returns-in_ok-path-in-len1-clause-ok
-returns-in_ok-path-in-len1-clause-ok g c =
+pub returns-in-Err-Open-clause-ends : goal.returns-in-Err-Open-clause-ends
+returns-in-Err-Open-clause-ends g c =
     let s = c.args.scenario.now in
-    let same = c.as_slice.ensures ∙ ap (λ (x : ScenarioData). x.devices) c.scenario.view_is in
-    let lines = c.as_slice-in-len1.ensures ∙ ap (λ (x : ScenarioData). x.lines) c.scenario.view_is in
-    let one = only_device s c.as_slice.result.now c.device-item.result same c.device-item.is c.in-len1.len_at_least c.requires.served.one in
-    on_ok_weaker c.replay_device.result
-    (λ h. of_replayed s c.device-item.result c.as_slice-in-len1.result.now c.in_ok-path-in-len1.path _ _ _ one lines c.in_ok-path-in-len1.ensures h)
-    c.replay_device.ensures.ok
+    let files = g.F.Files.state c.args.files.now in
+    let last = g.F.Files.state c.open_devices.new.files in
+    let before = g.F.Files.faults c.args.files.now in
+    let after = g.F.Files.faults c.open_devices.new.files in
+    let same = c.as_slice-devices.ensures ∙ ap (λ (x : ScenarioData). x.devices) c.scenario.view_is in
+    let refused = subst (λ (e : MakeFault). Unopened e c.as_slice-devices.result.now files last before after) c.in-Err-Open.field-0-is c.in-Err-Open.ensures.refused in
+    scenario_lacks s files last before after _ _ _ _ (lacks_file s files last before after _ (subst (λ (l : List DeviceLineData). Unopened fault.Open l files last before after) same refused))
 
-pub returns-in_ok-path-in-len1-clause-err : goal.returns-in_ok-path-in-len1-clause-err
-returns-in_ok-path-in-len1-clause-err g c =
+pub returns-in-Err-NoMemory-clause-ends : goal.returns-in-Err-NoMemory-clause-ends
+returns-in-Err-NoMemory-clause-ends g c =
     let s = c.args.scenario.now in
-    let same = c.as_slice.ensures ∙ ap (λ (x : ScenarioData). x.devices) c.scenario.view_is in
-    let lines = c.as_slice-in-len1.ensures ∙ ap (λ (x : ScenarioData). x.lines) c.scenario.view_is in
-    let one = only_device s c.as_slice.result.now c.device-item.result same c.device-item.is c.in-len1.len_at_least c.requires.served.one in
-    on_err_weaker c.replay_device.result
-    (λ h. of_part s c.device-item.result c.as_slice-in-len1.result.now c.in_ok-path-in-len1.path _ _ _ one lines c.in_ok-path-in-len1.ensures h)
-    c.replay_device.ensures.err
+    let files = g.F.Files.state c.args.files.now in
+    let last = g.F.Files.state c.open_devices.new.files in
+    let before = g.F.Files.faults c.args.files.now in
+    let after = g.F.Files.faults c.open_devices.new.files in
+    let same = c.as_slice-devices.ensures ∙ ap (λ (x : ScenarioData). x.devices) c.scenario.view_is in
+    let refused = subst (λ (e : MakeFault). Unopened e c.as_slice-devices.result.now files last before after) c.in-Err-NoMemory.field-0-is c.in-Err-NoMemory.ensures.refused in
+    scenario_wanting s files last before after _ _ _ _ (wanting_early s files last _ (subst (λ (l : List DeviceLineData). Unopened fault.NoMemory l files last before after) same refused))

@@ -1,0 +1,156 @@
+-- A replay over several devices, as far as it has come.
+use Rattle.std.proofs.Common.{◌≡◌, ℕ, ◌+◌, ◌<◌, ◌≤◌, List, [], ◌∷◌, ◌++◌, length, map, take, drop, slice_get, slice_set, Option, Some, refl, sym, ap, ◌∙◌, arith, subst, append_assoc}
+use Rattle.std.specs.List.{flat_map}
+use Rattle.std.proofs.lemmas.List.{append-nil, map-append, length-set, set-set}
+use Rattle.std.proofs.lemmas.List.Concat.{flat_map-append}
+use Rattle.tcmu_types.specs.Events.{EntryData}
+use Rattle.edge.specs.Outside.{Gained, GainedFront}
+use Rattle.tcmu_model.specs.Device.{Device}
+use Rattle.tcmu_model.specs.Steps.{HandlerRelation, Run}
+use Rattle.tcmu_model.specs.Sound.{IsSound, Every}
+use Rattle.tcmu_model.specs.ScenarioData.{DeviceLineData}
+use Rattle.tcmu_model.specs.Several.{Journaled, RunLogs, IsLegalEach, journaled_text}
+use Rattle.tcmu_model.proofs.Everies.{every-front, every-back}
+use Rattle.tcmu_model.proofs.Runs.{sound_run}
+use Rattle.tcmu_top.specs.Playing.{run_text, Wrote, WroteFront, WroteOn, WroteOnFront, WroteEach, WroteEachFront}
+use Rattle.tcmu_top.proofs.Legal.{entries, AreOf, Piece, piece_of, piece_text, legal_none, legal_one, legal_append}
+use Rattle.tcmu_top.proofs.Places.{get_set_same, every_get, every_set}
+use Rattle.tcmu_top.proofs.RunTexts.{run_append}
+use Rattle.tcmu_top.proofs.Telling.{gained_none, gained_more, gained_as, front_behind}
+
+-- what entries there may be, and where they may lead
+abbrev pub Leads : Type 1
+Leads = List EntryData → List Device → Type 0
+
+-- What was made and written so far: what comes next leads on to the whole.
+pub record SoFar (R : HandlerRelation) (ls : List DeviceLineData) (Next Whole : Leads) (start ds : List Device) (old now : Option (List ℕ)) : Type 0 where
+  pub sofar : List Journaled
+  pub legal : IsLegalEach R start sofar ds
+  pub goes_on : (rest : List EntryData) (ends : List Device) → Next rest ends → Whole (entries sofar ++ rest) ends
+  pub wrote : Gained old (flat_map (journaled_text ls) sofar) now
+  pub sound : Every (λ d. IsSound d.state) ds
+  pub count : length ds ≡ length start
+
+pub sofar_first : (R : HandlerRelation) (ls : List DeviceLineData) (Whole : Leads) (ds : List Device) (old : Option (List ℕ)) → Every (λ d. IsSound d.state) ds → SoFar R ls Whole Whole ds ds old old
+sofar_first R ls Whole ds old sound =
+    record { sofar = []; legal = legal_none R ds; goes_on = λ rest ends h. h; wrote = gained_none old; sound = sound; count = refl }
+
+entries_append : (xs ys : List Journaled) (rest : List EntryData) → entries xs ++ (entries ys ++ rest) ≡ entries (xs ++ ys) ++ rest
+entries_append xs ys rest = sym (append_assoc (entries xs) (entries ys) rest) ∙ ap (λ (l : List EntryData). l ++ rest) (sym (map-append (λ (j : Journaled). j.entry) xs ys))
+
+-- a device went on
+pub sofar_more : (R : HandlerRelation) (ls : List DeviceLineData) (Next Then Whole : Leads) (so : Device → List EntryData → Device → Type 0) (at n : ℕ) (start ds ds' : List Device) (old mid now : Option (List ℕ))
+    → SoFar R ls Next Whole start ds old mid → (w : WroteOn R ls at n so ds ds' mid now)
+    → ((d d' : Device) (es : List EntryData) → so d es d' → AreOf at es)
+    → ((rest : List EntryData) (ends : List Device) → so w.before w.wrote.entries w.after → Then rest ends → Next (w.wrote.entries ++ rest) ends)
+    → SoFar R ls Then Whole start ds' old now
+sofar_more R ls Next Then Whole so at n start ds ds' old mid now s w own step =
+    let p = piece_of R at w.before w.after w.wrote.entries w.wrote.run (own w.before w.after w.wrote.entries w.wrote.right) in
+    let all : SoFar R ls Then Whole start (slice_set ds at w.after) old now =
+    record {
+      sofar = s.sofar ++ p.journal;
+      legal = legal_append R start ds (slice_set ds at w.after) s.sofar p.journal s.count s.legal (legal_one R ds at w.before w.after p.journal w.found p.run p.own);
+      goes_on = λ rest ends h.
+          subst (λ (es : List EntryData). Whole es ends) (entries_append s.sofar p.journal rest)
+          (s.goes_on (entries p.journal ++ rest) ends (subst (λ (es : List EntryData). Next (es ++ rest) ends) (sym p.are) (step rest ends w.wrote.right h)));
+      wrote = gained_as old now _ _ (sym (flat_map-append (journaled_text ls) s.sofar p.journal))
+          (gained_more old mid now _ _ s.wrote (gained_as mid now _ _ (piece_text R ls w.line at w.before w.after w.wrote.entries p w.named) w.wrote.wrote));
+      sound = every_set (λ (d : Device). IsSound d.state) ds at w.after s.sound
+          (sound_run R w.before w.after w.wrote.entries (every_get (λ (d : Device). IsSound d.state) ds at w.before s.sound w.found) w.wrote.run);
+      count = length-set ds at w.after ∙ s.count;
+    } in
+    subst (λ (x : List Device). SoFar R ls Then Whole start x old now) (sym w.others) all
+
+-- a journal by which a replay can be ended
+pub record Ending (R : HandlerRelation) (Next : Leads) (ds : List Device) : Type 0 where
+  pub journal : List Journaled
+  pub ends : List Device
+  pub right : Next (entries journal) ends
+  pub legal : IsLegalEach R ds journal ends
+
+-- a device stopped on the way
+pub sofar_stopped : (R : HandlerRelation) (ls : List DeviceLineData) (Next : Leads) (Then : Device → Leads) (Whole : Leads) (so : Device → List EntryData → Device → Type 0) (at : ℕ) (start ds ds' : List Device) (old mid now : Option (List ℕ))
+    → SoFar R ls Next Whole start ds old mid → (w : WroteOnFront R ls at so ds ds' mid now)
+    → ((d d' : Device) (es : List EntryData) → so d es d' → AreOf at es)
+    → ((es rest : List EntryData) (d d' : Device) (ends : List Device) → slice_get ds at ≡ Some d → so d es d' → Then d' rest ends → Next (es ++ rest) ends)
+    → ((d' : Device) → IsSound d'.state → Ending R (Then d') (slice_set ds at d'))
+    → WroteEachFront R ls Whole start ds' old now
+sofar_stopped R ls Next Then Whole so at start ds ds' old mid now s w own step ending =
+    let x = w.wrote in
+    let all = x.made ++ x.rest in
+    let all_run : Run R w.before all x.end = run_append R w.before w.after x.end x.made x.rest x.run x.more in
+    let is_own : AreOf at all = own w.before x.end all x.right in
+    let sound : IsSound w.before.state = every_get (λ (d : Device). IsSound d.state) ds at w.before s.sound w.found in
+    let made = piece_of R at w.before w.after x.made x.run (every-front (λ (e : EntryData). e.device ≡ at) x.made x.rest is_own) in
+    let rest = piece_of R at w.after x.end x.rest x.more (every-back (λ (e : EntryData). e.device ≡ at) x.made x.rest is_own) in
+    let last = ending x.end (sound_run R w.before x.end all sound all_run) in
+    let now_at : IsLegalEach R ds made.journal (slice_set ds at w.after) = legal_one R ds at w.before w.after made.journal w.found made.run made.own in
+    let here : IsLegalEach R start (s.sofar ++ made.journal) (slice_set ds at w.after) = legal_append R start ds (slice_set ds at w.after) s.sofar made.journal s.count s.legal now_at in
+    let then_at : IsLegalEach R (slice_set ds at w.after) rest.journal (slice_set ds at x.end) =
+    subst (λ (l : List Device). IsLegalEach R (slice_set ds at w.after) rest.journal l) (set-set ds at w.after x.end)
+    (legal_one R (slice_set ds at w.after) at w.after x.end rest.journal (get_set_same ds at w.before w.after w.found) rest.run rest.own) in
+    let end_count : length (slice_set ds at x.end) ≡ length (slice_set ds at w.after) = length-set ds at x.end ∙ sym (length-set ds at w.after) in
+    let more : IsLegalEach R (slice_set ds at w.after) (rest.journal ++ last.journal) last.ends =
+    legal_append R (slice_set ds at w.after) (slice_set ds at x.end) last.ends rest.journal last.journal end_count then_at last.legal in
+    let names : entries s.sofar ++ (all ++ entries last.journal) ≡ entries ((s.sofar ++ made.journal) ++ (rest.journal ++ last.journal)) =
+    ap (λ (l : List EntryData). entries s.sofar ++ (l ++ entries last.journal)) (ap (λ (l : List EntryData). l ++ x.rest) (sym made.are) ∙ ap (λ (l : List EntryData). entries made.journal ++ l) (sym rest.are))
+    ∙ regroup s.sofar made.journal rest.journal last.journal in
+    let front : WroteEachFront R ls Whole start (slice_set ds at w.after) old now =
+    record {
+      made = s.sofar ++ made.journal;
+      rest = rest.journal ++ last.journal;
+      ends = last.ends;
+      right = subst (λ (es : List EntryData). Whole es last.ends) names
+          (s.goes_on (all ++ entries last.journal) last.ends (step all (entries last.journal) w.before x.end last.ends w.found x.right last.right));
+      legal = here;
+      whole = legal_append R start (slice_set ds at w.after) last.ends (s.sofar ++ made.journal) (rest.journal ++ last.journal) (length-set ds at w.after ∙ s.count) here more;
+      wrote = front_behind old mid now (flat_map (journaled_text ls) s.sofar) (flat_map (journaled_text ls) made.journal) _ (flat_map-append (journaled_text ls) s.sofar made.journal) s.wrote
+          (subst (λ (t : List ℕ). GainedFront mid t now) (piece_text R ls w.line at w.before w.after x.made made w.named) x.wrote);
+    } in
+    subst (λ (l : List Device). WroteEachFront R ls Whole start l old now) (sym w.others) front
+  where
+    append_entries : (xs ys : List Journaled) → entries (xs ++ ys) ≡ entries xs ++ entries ys
+    append_entries xs ys = map-append (λ (j : Journaled). j.entry) xs ys
+
+    regroup : (a b c e : List Journaled) → entries a ++ ((entries b ++ entries c) ++ entries e) ≡ entries ((a ++ b) ++ (c ++ e))
+    regroup a b c e = sym (append_entries (a ++ b) (c ++ e) ∙ ap (λ (l : List EntryData). l ++ entries (c ++ e)) (append_entries a b) ∙ ap (λ (l : List EntryData). (entries a ++ entries b) ++ l) (append_entries c e)
+        ∙ append_assoc (entries a) (entries b) (entries c ++ entries e) ∙ ap (λ (l : List EntryData). entries a ++ l) (sym (append_assoc (entries b) (entries c) (entries e))))
+
+-- nothing more comes
+pub sofar_done : (R : HandlerRelation) (ls : List DeviceLineData) (Next Whole : Leads) (start ds : List Device) (old now : Option (List ℕ))
+    → SoFar R ls Next Whole start ds old now → Next [] ds → WroteEach R ls Whole start ds old now
+sofar_done R ls Next Whole start ds old now s h =
+    record {
+      journal = s.sofar;
+      right = subst (λ (es : List EntryData). Whole es ds) (append-nil (entries s.sofar)) (s.goes_on [] ds h);
+      legal = s.legal;
+      wrote = s.wrote;
+    }
+
+-- what comes next was made
+pub sofar_then : (R : HandlerRelation) (ls : List DeviceLineData) (Next Whole : Leads) (start ds ds' : List Device) (old mid now : Option (List ℕ))
+    → SoFar R ls Next Whole start ds old mid → WroteEach R ls Next ds ds' mid now → WroteEach R ls Whole start ds' old now
+sofar_then R ls Next Whole start ds ds' old mid now s w =
+    record {
+      journal = s.sofar ++ w.journal;
+      right = subst (λ (es : List EntryData). Whole es ds') (sym (map-append (λ (j : Journaled). j.entry) s.sofar w.journal)) (s.goes_on (entries w.journal) ds' w.right);
+      legal = legal_append R start ds ds' s.sofar w.journal s.count s.legal w.legal;
+      wrote = gained_as old now _ _ (sym (flat_map-append (journaled_text ls) s.sofar w.journal)) (gained_more old mid now _ _ s.wrote w.wrote);
+    }
+
+-- it was made in part
+pub sofar_then_front : (R : HandlerRelation) (ls : List DeviceLineData) (Next Whole : Leads) (start ds ds' : List Device) (old mid now : Option (List ℕ))
+    → SoFar R ls Next Whole start ds old mid → WroteEachFront R ls Next ds ds' mid now → WroteEachFront R ls Whole start ds' old now
+sofar_then_front R ls Next Whole start ds ds' old mid now s w =
+    record {
+      made = s.sofar ++ w.made;
+      rest = w.rest;
+      ends = w.ends;
+      right = subst (λ (es : List EntryData). Whole es w.ends)
+          (sym (map-append (λ (j : Journaled). j.entry) s.sofar (w.made ++ w.rest)) ∙ ap entries (sym (append_assoc s.sofar w.made w.rest)))
+          (s.goes_on (entries (w.made ++ w.rest)) w.ends w.right);
+      legal = legal_append R start ds ds' s.sofar w.made s.count s.legal w.legal;
+      whole = subst (λ (js : List Journaled). IsLegalEach R start js w.ends) (sym (append_assoc s.sofar w.made w.rest))
+          (legal_append R start ds w.ends s.sofar (w.made ++ w.rest) s.count s.legal w.whole);
+      wrote = front_behind old mid now (flat_map (journaled_text ls) s.sofar) (flat_map (journaled_text ls) w.made) _ (flat_map-append (journaled_text ls) s.sofar w.made) s.wrote w.wrote;
+    }

@@ -1,0 +1,82 @@
+-- A replay over several devices goes on by the drain of one, or by a line.
+use Rattle.std.proofs.Common.{◌≡◌, ℕ, suc, ◌+◌, ◌<◌, ◌≤◌, ◌^◌, List, [], ◌∷◌, ◌++◌, length, get_or, drop, slice_get, slice_set, Option, Some, refl, sym, ap, ◌∙◌, arith, subst}
+use Rattle.std.proofs.lemmas.List.{length-set, drop_more}
+use Rattle.tcmu_types.specs.Events.{EntryData}
+use Rattle.tcmu_model.specs.Device.{Device}
+use Rattle.tcmu_model.specs.Steps.{HandlerRelation}
+use Rattle.tcmu_model.specs.Drain.{Drains}
+use Rattle.tcmu_model.specs.Replay.{Plays}
+use Rattle.tcmu_model.specs.Sound.{IsSound, Every}
+use Rattle.tcmu_model.specs.Work.{HasOutcomes}
+use Rattle.tcmu_model.specs.ScenarioData.{DeviceLineData, LineData}
+use Rattle.tcmu_model.specs.Several.{DrainsEach, ReplaysEach}
+use Rattle.tcmu_model.proofs.Everies.{every-weaker}
+use Rattle.tcmu_top.specs.Playing.{WroteOn, WroteOnFront, WroteEach, WroteEachFront}
+use Rattle.tcmu_top.specs.Tasks.{IsFitFor}
+use Rattle.tcmu_top.proofs.Each.{Leads, SoFar, sofar_first, sofar_more, sofar_stopped, sofar_done}
+use Rattle.tcmu_top.proofs.Endings.{DrainsFrom, drains_step, drains_none, ending_drains, ending_lines}
+use Rattle.tcmu_top.proofs.Legal.{drains_own, plays_own}
+use Rattle.tcmu_top.proofs.Places.{every_get, every_set}
+
+-- what one device keeps, all keep
+pub every_kept : (P : Device → Type 0) (R : HandlerRelation) (ls : List DeviceLineData) (at n : ℕ) (so : Device → List EntryData → Device → Type 0) (ds ds' : List Device) (old new : Option (List ℕ))
+    → (w : WroteOn R ls at n so ds ds' old new) → (P w.before → P w.after) → Every P ds → Every P ds'
+every_kept P R ls at n so ds ds' old new w keeps h =
+    subst (Every P) (sym w.others) (every_set P ds at w.after h (keeps (every_get P ds at w.before h w.found)))
+
+pub count_kept : (R : HandlerRelation) (ls : List DeviceLineData) (at n : ℕ) (so : Device → List EntryData → Device → Type 0) (ds ds' : List Device) (old new : Option (List ℕ))
+    → WroteOn R ls at n so ds ds' old new → length ds' ≡ length ds
+count_kept R ls at n so ds ds' old new w = ap (λ (l : List Device). length l) w.others ∙ length-set ds at w.after
+
+-- ==== drains
+
+pub drains_first : (R : HandlerRelation) (ls : List DeviceLineData) (ds : List Device) (old : Option (List ℕ)) → Every (λ d. IsSound d.state) ds → SoFar R ls (DrainsFrom R 0 ds) (DrainsEach R 0 ds) ds ds old old
+drains_first R ls ds old sound =
+    let s = sofar_first R ls (DrainsEach R 0 ds) ds old sound in
+    record { sofar = s.sofar; legal = s.legal; goes_on = λ rest ends h. s.goes_on rest ends h.0; wrote = s.wrote; sound = s.sound; count = s.count }
+
+pub drained_more : (R : HandlerRelation) (ls : List DeviceLineData) (at : ℕ) (Whole : Leads) (start ds ds' : List Device) (old mid now : Option (List ℕ))
+    → SoFar R ls (DrainsFrom R at ds) Whole start ds old mid → WroteOn R ls at 0 (Drains R at) ds ds' mid now → SoFar R ls (DrainsFrom R (at + 1) ds') Whole start ds' old now
+drained_more R ls at Whole start ds ds' old mid now s w =
+    sofar_more R ls (DrainsFrom R at ds) (DrainsFrom R (at + 1) ds') Whole (Drains R at) at 0 start ds ds' old mid now s w (λ d d' es h. drains_own R at d d' es h)
+    (λ rest ends h k. drains_step R at ds ends w.before w.after w.wrote.entries rest w.found h (subst (λ (l : List Device). DrainsFrom R (at + 1) l rest ends) w.others k))
+
+pub drained_stopped : (R : HandlerRelation) (ls : List DeviceLineData) (at : ℕ) (Whole : Leads) (start ds ds' : List Device) (old mid now : Option (List ℕ)) → HasOutcomes R → at < length ds
+    → SoFar R ls (DrainsFrom R at ds) Whole start ds old mid → WroteOnFront R ls at (Drains R at) ds ds' mid now → WroteEachFront R ls Whole start ds' old now
+drained_stopped R ls at Whole start ds ds' old mid now outcomes lt s w =
+    sofar_stopped R ls (DrainsFrom R at ds) (λ d'. DrainsFrom R (at + 1) (slice_set ds at d')) Whole (Drains R at) at start ds ds' old mid now s w (λ d d' es h. drains_own R at d d' es h)
+    (λ es rest d d' ends found h k. drains_step R at ds ends d d' es rest found h k)
+    (λ d' sound. ending_drains R (at + 1) (slice_set ds at d') (omega (arith, lt, length-set ds at d')) outcomes (every_set (λ (d : Device). IsSound d.state) ds at d' s.sound sound))
+
+pub drained_all : (R : HandlerRelation) (ls : List DeviceLineData) (at : ℕ) (Whole : Leads) (start ds : List Device) (old now : Option (List ℕ)) → length ds ≤ at
+    → SoFar R ls (DrainsFrom R at ds) Whole start ds old now → WroteEach R ls Whole start ds old now
+drained_all R ls at Whole start ds old now le s = sofar_done R ls (DrainsFrom R at ds) Whole start ds old now s (drains_none R at ds le)
+
+-- ==== lines
+
+abbrev pub PlaysLine : HandlerRelation → LineData → Device → List EntryData → Device → Type 0
+PlaysLine R l d es d' = Plays R l.device d l.what es d'
+
+pub played_more : (R : HandlerRelation) (ls : List DeviceLineData) (l : LineData) (more : List LineData) (Whole : Leads) (start ds ds' : List Device) (old mid now : Option (List ℕ))
+    → SoFar R ls (ReplaysEach R ds (l ∷ more)) Whole start ds old mid → WroteOn R ls l.device 1 (PlaysLine R l) ds ds' mid now → SoFar R ls (ReplaysEach R ds' more) Whole start ds' old now
+played_more R ls l more Whole start ds ds' old mid now s w =
+    sofar_more R ls (ReplaysEach R ds (l ∷ more)) (ReplaysEach R ds' more) Whole (PlaysLine R l) l.device 1 start ds ds' old mid now s w (λ d d' es h. plays_own R l.device d d' l.what es h)
+    (λ rest ends h k. (w.wrote.entries, rest, w.before, w.after, refl, w.found, h, subst (λ (x : List Device). ReplaysEach R x more rest ends) w.others k))
+
+pub played_stopped : (R : HandlerRelation) (ls : List DeviceLineData) (l : LineData) (more : List LineData) (Whole : Leads) (start ds ds' : List Device) (old mid now : Option (List ℕ)) → HasOutcomes R
+    → Every (IsFitFor (length ds)) more → SoFar R ls (ReplaysEach R ds (l ∷ more)) Whole start ds old mid → WroteOnFront R ls l.device (PlaysLine R l) ds ds' mid now
+    → WroteEachFront R ls Whole start ds' old now
+played_stopped R ls l more Whole start ds ds' old mid now outcomes fit s w =
+    sofar_stopped R ls (ReplaysEach R ds (l ∷ more)) (λ d'. ReplaysEach R (slice_set ds l.device d') more) Whole (PlaysLine R l) l.device start ds ds' old mid now s w (λ d d' es h. plays_own R l.device d d' l.what es h)
+    (λ es rest d d' ends found h k. (es, rest, d, d', refl, found, h, k))
+    (λ d' sound. ending_lines R (slice_set ds l.device d') more outcomes (every_set (λ (d : Device). IsSound d.state) ds l.device d' s.sound sound)
+    (subst (λ (n : ℕ). Every (IsFitFor n) more) (sym (length-set ds l.device d')) fit))
+
+pub line_at : (ls : List LineData) (i : ℕ) (l : LineData) → i < length ls → l ≡ get_or ls i l → drop i ls ≡ l ∷ drop (i + 1) ls
+line_at ls i l lt is = drop_more ls i l lt ∙ ap (λ (x : LineData). x ∷ drop (i + 1) ls) (sym is)
+
+-- what holds of one device behind its turn, and what of all others
+pub every_turned : (P Q : Device → Type 0) (R : HandlerRelation) (ls : List DeviceLineData) (at n : ℕ) (so : Device → List EntryData → Device → Type 0) (ds ds' : List Device) (old new : Option (List ℕ))
+    → (w : WroteOn R ls at n so ds ds' old new) → ((d : Device) → P d → Q d) → (P w.before → Q w.after) → Every P ds → Every Q ds'
+every_turned P Q R ls at n so ds ds' old new w weaker turned h =
+    subst (Every Q) (sym w.others) (every_set Q ds at w.after (every-weaker P Q ds weaker h) (turned (every_get P ds at w.before h w.found)))

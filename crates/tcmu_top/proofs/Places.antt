@@ -1,0 +1,54 @@
+-- One place of a list, read and written.
+use Rattle.std.proofs.Common.{◌≡◌, ℕ, zero, suc, ◌+◌, ◌<◌, List, [], ◌∷◌, length, take, drop, slice_get, slice_set, Option, Some, refl, sym, ap, ◌∙◌, arith, subst}
+use Rattle.std.proofs.lemmas.Option.{same_Some}
+use Rattle.tcmu_model.specs.Sound.{Every}
+
+pub get_set_same : {X : Type 0} (xs : List X) (i : ℕ) (x y : X) → slice_get xs i ≡ Some x → slice_get (slice_set xs i y) i ≡ Some y
+get_set_same [] i x y e = absurd (cc)
+get_set_same (z ∷ xs) zero x y e = refl
+get_set_same (z ∷ xs) (suc i) x y e = get_set_same xs i x y e
+
+pub get_set_other : {X : Type 0} (xs : List X) (i j : ℕ) (y : X) → (j ≡ i → ⊥) → slice_get (slice_set xs i y) j ≡ slice_get xs j
+get_set_other [] i j y ne = refl
+get_set_other (z ∷ xs) zero zero y ne = absurd (ne refl)
+get_set_other (z ∷ xs) zero (suc j) y ne = refl
+get_set_other (z ∷ xs) (suc i) zero y ne = refl
+get_set_other (z ∷ xs) (suc i) (suc j) y ne = get_set_other xs i j y (λ e. ne (ap (λ n. suc n) e))
+
+-- a place within the list has an item
+pub get_within : {X : Type 0} (xs : List X) (i : ℕ) → i < length xs → (x : X) × (slice_get xs i ≡ Some x)
+get_within [] i h = absurd (omega (arith, h))
+get_within (x ∷ xs) zero h = (x, refl)
+get_within (x ∷ xs) (suc i) h = get_within xs i (omega (arith, h))
+
+pub every_get : {X : Type 0} (P : X → Type 0) (xs : List X) (i : ℕ) (x : X) → Every P xs → slice_get xs i ≡ Some x → P x
+every_get P [] i x h e = absurd (cc)
+every_get P (z ∷ xs) zero x h e = subst P (same_Some z x e) h.0
+every_get P (z ∷ xs) (suc i) x h e = every_get P xs i x h.1 e
+
+pub every_set : {X : Type 0} (P : X → Type 0) (xs : List X) (i : ℕ) (y : X) → Every P xs → P y → Every P (slice_set xs i y)
+every_set P [] i y h k = tt
+every_set P (z ∷ xs) zero y h k = (k, h.1)
+every_set P (z ∷ xs) (suc i) y h k = (h.0, every_set P xs i y h.1 k)
+
+-- a list from a place on
+pub drop_at : {X : Type 0} (xs : List X) (i : ℕ) (x : X) → slice_get xs i ≡ Some x → drop i xs ≡ x ∷ drop (suc i) xs
+drop_at [] i x e = absurd (cc)
+drop_at (z ∷ xs) zero x e = ap (λ y. y ∷ xs) (same_Some z x e)
+drop_at (z ∷ xs) (suc i) x e = drop_at xs i x e
+
+-- a list that agrees with another, in which one place is written, up to that place
+pub record Agrees {X : Type 0} (xs ys : List X) (i : ℕ) (y : X) : Type 0 where
+  pub before : take i ys ≡ take i xs
+  pub from : drop i ys ≡ y ∷ drop (suc i) ys
+
+pub agrees : {X : Type 0} (xs ys : List X) (i : ℕ) (x y : X) → slice_get xs i ≡ Some x → take (suc i) ys ≡ take (suc i) (slice_set xs i y) → Agrees xs ys i y
+agrees [] ys i x y e h = absurd (cc)
+agrees (z ∷ xs) [] zero x y e h = absurd (cc)
+agrees (z ∷ xs) [] (suc i) x y e h = absurd (cc)
+agrees (z ∷ xs) (w ∷ ys) zero x y e h = let same : w ≡ y = cc in record { before = refl; from = ap (λ v. v ∷ ys) same }
+agrees (z ∷ xs) (w ∷ ys) (suc i) x y e h =
+    let first : w ≡ z = cc in
+    let rest : take (suc i) ys ≡ take (suc i) (slice_set xs i y) = cc in
+    let more = agrees xs ys i x y e rest in
+    record { before = ap (λ v. v ∷ take i ys) first ∙ ap (λ l. z ∷ l) more.before; from = more.from }

@@ -1,0 +1,138 @@
+-- The devices of a scenario as they open over files, and the files as the devices leave them.
+use Rattle.std.specs.Prelude.{◌≡◌, ℕ, ◌/◌, ◌%◌, ◌^◌, ◌≤◌, Bool, true, false, ◌||◌, List, [], ◌∷◌, Option, Some, IfSome, is_some, slice_get, bytes_eq}
+use Rattle.std.specs.List.{list_any}
+use Rattle.std.specs.Option.{option_map}
+use Rattle.tcmu_types.specs.Numbered.{Rose}
+use Rattle.edge.specs.Stores.{StoreState, Content, store_of, Place, at_home, FilesState, fetch_fails, after_fetch, after_keep}
+use Rattle.media.specs.Opening as medium
+use Rattle.media.specs.declared.make.MakeFault.{MakeFault}
+use Rattle.media.specs.declared.make.MakeFault.TheVariants as fault
+use Rattle.tcmu_model.specs.MediumState.{Below, MediumState, file}
+use Rattle.tcmu_model.specs.Medium.{blanked, opened_medium, memory_below, file_below}
+use Rattle.tcmu_model.specs.Device.{Device, opening}
+use Rattle.tcmu_model.specs.Config.{ConfigData, MediumData, InMemory, InFile}
+use Rattle.tcmu_model.specs.ScenarioData.{DeviceLineData}
+
+-- ==== as they open
+
+-- so many logical blocks of zeros
+abbrev pub OpensMemory : ℕ → ConfigData → MediumState → Type 0
+OpensMemory blocks c m = m ≡ opened_medium blocks c.protected c.fails (memory_below blocks)
+
+-- The whole logical blocks of a store, from one to 2^35 of them. Where the files tell, it is that of the content at this name.
+pub record OpensFile (name : List ℕ) (files : Option FilesState) (c : ConfigData) (m : MediumState) : Type 0 where
+  pub store : StoreState
+  pub whole : store.size % 512 ≡ 0
+  pub some : 512 ≤ store.size
+  pub most : store.size ≤ 2 ^ 44
+  pub told : IfSome files (λ f. (content : Content) × (f.places name ≡ at_home content) × (store ≡ store_of content))
+  pub medium : m ≡ opened_medium (store.size / 512) c.protected c.fails (file_below store.bytes store.calls)
+
+abbrev pub OpensKind : MediumData → Option FilesState → ConfigData → MediumState → Type 0
+OpensKind (InMemory blocks) files = OpensMemory blocks
+OpensKind (InFile name) files = OpensFile name files
+
+-- the device of a device line, as it opens over these files
+abbrev pub Opens : Option FilesState → DeviceLineData → Device → Type 0
+Opens files l d = (m : MediumState) × OpensKind l.config.kind files l.config m × (d ≡ opening l.settings l.name m)
+
+-- the devices of these device lines, in order
+abbrev pub OpenEach : Option FilesState → List DeviceLineData → List Device → Type 0
+OpenEach files [] [] = Unit {0}
+OpenEach files (l ∷ ls) (d ∷ ds) = Opens files l d × OpenEach files ls ds
+OpenEach files _ _ = ⊥
+
+-- ==== fetches
+
+abbrev pub name_in : MediumData → List (List ℕ) → List (List ℕ)
+name_in (InFile name) names = name ∷ names
+name_in (InMemory blocks) names = names
+
+-- the names of the files of these device lines, in order
+abbrev pub file_names : List DeviceLineData → List (List ℕ)
+file_names [] = []
+file_names (l ∷ ls) = name_in l.config.kind (file_names ls)
+
+-- whether one of the fetches of these names, in order, fails
+abbrev pub a_fetch_fails : List (List ℕ) → FilesState → Bool
+a_fetch_fails [] f = false
+a_fetch_fails (name ∷ names) f = fetch_fails name f || a_fetch_fails names (after_fetch name f)
+
+-- ==== as they are left
+
+abbrev pub is_named : List DeviceLineData → List ℕ → Bool
+is_named ls name = list_any (bytes_eq name) (file_names ls)
+
+-- a file stands there with the bytes of what bears a medium, but for the lost range
+abbrev pub Holds : Below → Place → Type 0
+Holds b place = (content : Content) × (place ≡ at_home content) × (b.bytes ≡ Some (blanked b.lost content.bytes))
+
+-- each file that no device line names is as it was
+abbrev pub SameOthers : List DeviceLineData → FilesState → FilesState → Type 0
+SameOthers ls f f' = (name : List ℕ) → is_named ls name ≡ false → f'.places name ≡ f.places name
+
+abbrev pub OthersStay : List DeviceLineData → Option FilesState → Option FilesState → Type 0
+OthersStay ls files files' = IfSome files (λ f. (f' : FilesState) × (files' ≡ Some f') × SameOthers ls f f')
+
+-- where the files tell, the file of each device line holds what its device left in it, and each other file is as it was
+pub record Kept (ls : List DeviceLineData) (ends : List Device) (f f' : FilesState) : Type 0 where
+  pub named : (at : ℕ) (l : DeviceLineData) (d : Device) (name : List ℕ) → slice_get ls at ≡ Some l → slice_get ends at ≡ Some d → l.config.kind ≡ InFile name
+      → Holds d.medium.below (f'.places name)
+  pub others : SameOthers ls f f'
+
+abbrev pub KeptFiles : List DeviceLineData → List Device → Option FilesState → Option FilesState → Type 0
+KeptFiles ls ends files files' = IfSome files (λ f. (f' : FilesState) × (files' ≡ Some f') × Kept ls ends f f')
+
+-- ==== how they are opened, and given back
+
+-- a device was opened over the medium that was made for it
+abbrev pub Made : DeviceLineData → Option FilesState → Option FilesState → Device → Type 0
+Made l old new d = (m : MediumState) × medium.Opens l.config old new m × (d ≡ opening l.settings l.name m)
+
+-- the files behind the fetches of these names, in order
+abbrev pub after_fetches : List (List ℕ) → FilesState → FilesState
+after_fetches [] f = f
+after_fetches (name ∷ names) f = after_fetches names (after_fetch name f)
+
+-- these names were fetched: no fetch failed, and the files are as these leave them
+pub record Fetched (names : List (List ℕ)) (files files' : Option FilesState) : Type 0 where
+  pub none : IfSome files (λ f. a_fetch_fails names f ≡ false)
+  pub after : files' ≡ option_map (after_fetches names) files
+
+-- the devices of these device lines are open
+pub record AreOpen (files files' : Option FilesState) (ls : List DeviceLineData) (ds : List Device) : Type 0 where
+  pub opens : OpenEach files ls ds
+  pub fetched : Fetched (file_names ls) files files'
+
+-- a file could not be fetched
+pub record AFileLacks (ls : List DeviceLineData) (files files' : Option FilesState) (faults faults' : ℕ) : Type 0 where
+  pub fails : IfSome files (λ f. a_fetch_fails (file_names ls) f ≡ true)
+  pub others : OthersStay ls files files'
+  pub rose : Rose faults faults'
+
+-- why the devices of these device lines could not be opened
+abbrev pub Unopened : MakeFault → List DeviceLineData → Option FilesState → Option FilesState → ℕ → ℕ → Type 0
+Unopened fault.Open ls files files' faults faults' = AFileLacks ls files files' faults faults'
+Unopened fault.NoMemory ls files files' faults faults' = OthersStay ls files files'
+
+-- What is given back of a device: nothing of one in memory. The file of another, where it tells its bytes, holds those of the medium.
+abbrev pub Returns : MediumData → MediumState → Option FilesState → Option FilesState → Type 0
+Returns (InMemory blocks) m old new = new ≡ old
+Returns (InFile name) m old new =
+    m.below.layer ≡ file → is_some m.below.bytes ≡ true → (c : Content) × (m.below.bytes ≡ Some (blanked m.below.lost c.bytes)) × (new ≡ option_map (after_keep name c) old)
+
+-- no two device lines name one file
+abbrev pub OwnFiles : List DeviceLineData → Type 0
+OwnFiles ls =
+    (i j : ℕ) (l k : DeviceLineData) (a b : List ℕ) → slice_get ls i ≡ Some l → slice_get ls j ≡ Some k → l.config.kind ≡ InFile a → k.config.kind ≡ InFile b → (i ≡ j → ⊥) → bytes_eq a b ≡ false
+
+-- each device over a file tells its bytes
+abbrev pub TellFiles : List DeviceLineData → List Device → Type 0
+TellFiles ls ends =
+    (at : ℕ) (l : DeviceLineData) (d : Device) (name : List ℕ) → slice_get ls at ≡ Some l → slice_get ends at ≡ Some d → l.config.kind ≡ InFile name
+    → (d.medium.below.layer ≡ file) × (is_some d.medium.below.bytes ≡ true)
+
+-- the files that were fetched are given back
+abbrev pub KeepsEach : List DeviceLineData → List Device → Option FilesState → Option FilesState → Type 0
+KeepsEach ls ends old new =
+    OwnFiles ls → TellFiles ls ends → (f : FilesState) → old ≡ Some (after_fetches (file_names ls) f) → (f' : FilesState) × (new ≡ Some f') × Kept ls ends f f'

@@ -1,0 +1,162 @@
+//! The replay of a scenario's lines on its devices, and its text.
+ghost use Rattle.std.specs.Prelude.{◌≡◌, ◌+◌, ◌^◌, ◌≤◌, ◌<◌, length, OnOk, OnErr, IsErrOf};
+ghost use Rattle.tcmu_types.specs.Numbered.{Rose};
+ghost use Rattle.edge.specs.Outside.{Gained, GainedFront};
+ghost use Rattle.tcmu_model.specs.Drain.{Drains};
+ghost use Rattle.tcmu_model.specs.Sound.{IsSound, Every};
+ghost use Rattle.tcmu_model.specs.Work.{HasOutcomes};
+ghost use Rattle.tcmu_model.specs.Replay.{Plays};
+ghost use Rattle.tcmu_model.specs.Several.{DrainsEach, ReplaysEach, ends_text};
+ghost use Rattle.tcmu_model.specs.ScenarioRules.{IsScenario, IsServed};
+ghost use Rattle.tcmu_top.specs.Tasks.{IsFitFor};
+ghost use Rattle.tcmu_top.specs.Playing.{states_of, AreOpened, WroteOn, WroteOnFront, WroteEach, WroteEachFront};
+ghost use Rattle.tcmu_top.specs.Top.{Replayed, ReplayedInPart};
+
+use crate::count::open_count;
+use crate::lines::{drain, play_line};
+use crate::writing::{Stop, write_end, write_readies};
+use device_set::DeviceSet;
+use edge::Sink;
+use scenario_text::{DeviceLine, Line, Scenario};
+use std::alloc::Global;
+use tcmu_path::Path;
+
+/// Drains the device of a number.
+fn drain_on<P: Path, K: Sink>(
+    alloc: Global,
+    devices: &[DeviceLine],
+    set: &mut DeviceSet<P>,
+    at: u32,
+    out: &mut K,
+) -> Result<(), Stop>
+    requires there { at < length set.old }
+    requires lines { length devices.now ≡ length set.old }
+    requires few { Every (λ d. d.state.accepted < 2 ^ 63) (states_of P.device set.old) }
+    requires sound { Every (λ d. IsSound d.state) (states_of P.device set.old) }
+    requires outcomes { HasOutcomes P.relation }
+    ensures ok { OnOk result (WroteOn P.relation devices.now at 0 (Drains P.relation at) (states_of P.device set.old) (states_of P.device set.new) (K.written out.old) (K.written out.new)) }
+    ensures err { OnErr result (WroteOnFront P.relation devices.now at (Drains P.relation at) (states_of P.device set.old) (states_of P.device set.new) (K.written out.old) (K.written out.new)) }
+    ensures fault { IsErrOf result Stop.WriteFault → Rose (K.faults out.old) (K.faults out.new) }
+    ensures later { K.faults out.old ≤ K.faults out.new }
+{
+    drain(alloc, &devices[at as usize], set.get_mut(at), out)
+}
+
+/// Makes and writes what a line asks for of its device.
+fn play_on<P: Path, K: Sink>(
+    alloc: Global,
+    devices: &[DeviceLine],
+    set: &mut DeviceSet<P>,
+    line: &Line,
+    out: &mut K,
+) -> Result<(), Stop>
+    requires lines { length devices.now ≡ length set.old }
+    requires fit { IsFitFor (length set.old) line.now }
+    requires few { Every (λ d. d.state.accepted < 2 ^ 63) (states_of P.device set.old) }
+    requires sound { Every (λ d. IsSound d.state) (states_of P.device set.old) }
+    requires outcomes { HasOutcomes P.relation }
+    ensures ok { OnOk result (WroteOn P.relation devices.now line.now.device 1 (λ d es d'. Plays P.relation line.now.device d line.now.what es d') (states_of P.device set.old) (states_of P.device set.new) (K.written out.old) (K.written out.new)) }
+    ensures err { OnErr result (WroteOnFront P.relation devices.now line.now.device (λ d es d'. Plays P.relation line.now.device d line.now.what es d') (states_of P.device set.old) (states_of P.device set.new) (K.written out.old) (K.written out.new)) }
+    ensures fault { IsErrOf result Stop.WriteFault → Rose (K.faults out.old) (K.faults out.new) }
+    ensures later { K.faults out.old ≤ K.faults out.new }
+{
+    let at = line.device;
+    play_line(alloc, &devices[at as usize], set.get_mut(at), line, out)
+}
+
+/// Drains each device, in order.
+fn drain_each<P: Path, K: Sink>(
+    alloc: Global,
+    devices: &[DeviceLine],
+    set: &mut DeviceSet<P>,
+    out: &mut K,
+) -> Result<(), Stop>
+    requires lines { length devices.now ≡ length set.old }
+    requires few { Every (λ d. d.state.accepted < 2 ^ 63) (states_of P.device set.old) }
+    requires sound { Every (λ d. IsSound d.state) (states_of P.device set.old) }
+    requires outcomes { HasOutcomes P.relation }
+    ensures ok { OnOk result (WroteEach P.relation devices.now (DrainsEach P.relation 0 (states_of P.device set.old)) (states_of P.device set.old) (states_of P.device set.new) (K.written out.old) (K.written out.new)) }
+    ensures err { OnErr result (WroteEachFront P.relation devices.now (DrainsEach P.relation 0 (states_of P.device set.old)) (states_of P.device set.old) (states_of P.device set.new) (K.written out.old) (K.written out.new)) }
+    ensures fault { IsErrOf result Stop.WriteFault → Rose (K.faults out.old) (K.faults out.new) }
+    ensures later { K.faults out.old ≤ K.faults out.new }
+    ensures count { OnOk result (length set.new ≡ length set.old) }
+    ensures still_sound { OnOk result (Every (λ d. IsSound d.state) (states_of P.device set.new)) }
+    ensures still_few { OnOk result (Every (λ d. d.state.accepted < 2 ^ 63) (states_of P.device set.new)) }
+{
+    for at in 0..set.len() {
+        drain_on(alloc, devices, set, at, out)?;
+    }
+    Ok(())
+}
+
+/// Makes and writes what the lines ask for of their devices, and drains each device behind the last.
+fn replay_lines<P: Path, K: Sink>(
+    alloc: Global,
+    devices: &[DeviceLine],
+    set: &mut DeviceSet<P>,
+    lines: &[Line],
+    out: &mut K,
+) -> Result<(), Stop>
+    requires lines { length devices.now ≡ length set.old }
+    requires fit { Every (IsFitFor (length set.old)) lines.now }
+    requires few { Every (λ d. d.state.accepted + length lines.now < 2 ^ 63) (states_of P.device set.old) }
+    requires sound { Every (λ d. IsSound d.state) (states_of P.device set.old) }
+    requires outcomes { HasOutcomes P.relation }
+    ensures ok { OnOk result (WroteEach P.relation devices.now (ReplaysEach P.relation (states_of P.device set.old) lines.now) (states_of P.device set.old) (states_of P.device set.new) (K.written out.old) (K.written out.new)) }
+    ensures err { OnErr result (WroteEachFront P.relation devices.now (ReplaysEach P.relation (states_of P.device set.old) lines.now) (states_of P.device set.old) (states_of P.device set.new) (K.written out.old) (K.written out.new)) }
+    ensures fault { IsErrOf result Stop.WriteFault → Rose (K.faults out.old) (K.faults out.new) }
+    ensures later { K.faults out.old ≤ K.faults out.new }
+    ensures count { OnOk result (length set.new ≡ length set.old) }
+    ensures still_sound { OnOk result (Every (λ d. IsSound d.state) (states_of P.device set.new)) }
+    ensures still_few { OnOk result (Every (λ d. d.state.accepted < 2 ^ 63) (states_of P.device set.new)) }
+{
+    for line in lines {
+        play_on(alloc, devices, set, line, out)?;
+    }
+    drain_each(alloc, devices, set, out)
+}
+
+/// Writes the last line of each device.
+fn write_ends<P: Path, K: Sink>(
+    alloc: Global,
+    devices: &[DeviceLine],
+    set: &DeviceSet<P>,
+    out: &mut K,
+) -> Result<(), Stop>
+    requires lines { length devices.now ≡ length set.now }
+    requires few { Every (λ d. d.state.accepted < 2 ^ 63) (states_of P.device set.now) }
+    requires sound { Every (λ d. IsSound d.state) (states_of P.device set.now) }
+    ensures ok { OnOk result (Gained (K.written out.old) (ends_text devices.now (states_of P.device set.now)) (K.written out.new)) }
+    ensures err { OnErr result (GainedFront (K.written out.old) (ends_text devices.now (states_of P.device set.now)) (K.written out.new)) }
+    ensures fault { IsErrOf result Stop.WriteFault → Rose (K.faults out.old) (K.faults out.new) }
+    ensures later { K.faults out.old ≤ K.faults out.new }
+{
+    for at in 0..set.len() {
+        let count = open_count(set.get(at));
+        write_end(alloc, &devices[at as usize], count, out)?;
+    }
+    Ok(())
+}
+
+/// Replays a scenario's lines on its devices, and writes the device lines, the journal and the end lines.
+pub fn replay_devices<P: Path, K: Sink>(
+    alloc: Global,
+    scenario: &Scenario,
+    set: &mut DeviceSet<P>,
+    out: &mut K,
+) -> Result<(), Stop>
+    requires opened { AreOpened scenario.now.devices (states_of P.device set.old) }
+    requires limits { IsScenario scenario.now }
+    requires served { IsServed scenario.now }
+    requires outcomes { HasOutcomes P.relation }
+    ensures ok { OnOk result (Replayed P.relation scenario.now.devices (states_of P.device set.old) scenario.now.lines (states_of P.device set.new) (K.written out.old) (K.written out.new)) }
+    ensures err { OnErr result (ReplayedInPart P.relation scenario.now.devices (states_of P.device set.old) scenario.now.lines (states_of P.device set.new) (K.written out.old) (K.written out.new)) }
+    ensures fault { IsErrOf result Stop.WriteFault → Rose (K.faults out.old) (K.faults out.new) }
+    ensures later { K.faults out.old ≤ K.faults out.new }
+    ensures count { OnOk result (length set.new ≡ length set.old) }
+{
+    let devices = scenario.devices.as_slice();
+    write_readies(alloc, devices, out)?;
+    replay_lines(alloc, devices, set, scenario.lines.as_slice(), out)?;
+    write_ends(alloc, devices, set, out)
+}
