@@ -1,4 +1,6 @@
 pub mod Tasks
 pub mod Playing
 pub mod Opened
+pub mod Words
+pub mod Loads
 pub mod Top

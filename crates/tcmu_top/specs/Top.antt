@@ -1,5 +1,5 @@
 -- What the top call says of what it read and wrote.
-use Rattle.std.specs.Prelude.{◌≡◌, ◌≢◌, ◌⊎◌, ℕ, Bool, true, false, List, [], ◌∷◌, ◌++◌, Option, IfSome, Ok, Err, bytes_eq, codes}
+use Rattle.std.specs.Prelude.{◌≡◌, ◌≢◌, ◌⊎◌, ℕ, Bool, true, false, List, [], ◌∷◌, ◌++◌, Option, Some, None, IfSome, Ok, Err, bytes_eq, codes}
 use Rattle.std.specs.List.{flat_map}
 use Rattle.std.specs.Fmt.{decimal}
 use Rattle.tcmu_types.specs.Numbered.{Rose}
@@ -16,6 +16,9 @@ use Rattle.tcmu_model.specs.Several.{Journaled, IsLegalEach, journaled_text, IsR
 use Rattle.tcmu_model.specs.declared.faults.Why.{Why}
 use Rattle.tcmu_model.specs.declared.faults.Why.TheVariants as why
 use Rattle.tcmu_top.specs.Opened.{OpenEach, file_names, a_fetch_fails, KeptFiles, OthersStay}
+use Rattle.tcmu_top.specs.Loads.{LoadEnds}
+use Rattle.tcmu_top.specs.declared.words.Task.{Task}
+use Rattle.tcmu_top.specs.declared.words.Task.TheVariants as task
 use Rattle.tcmu_top.specs.declared.status.Status.{Status}
 use Rattle.tcmu_top.specs.declared.status.Status.TheVariants as status
 
@@ -155,10 +158,15 @@ pub record BytesEnd (bytes : List ℕ) (files files' : Option FilesState) (opene
 
 -- ==== the words
 
-abbrev pub are_replay : List (List ℕ) → Bool
-are_replay (word ∷ []) = bytes_eq word (codes "replay")
-are_replay [] = false
-are_replay (word ∷ other ∷ more) = false
+-- How the program ends, by what its words ask for: a replay; a load, which reads nothing and leaves the files; or nothing, where they are
+-- none that it knows.
+abbrev pub TaskEnds : Option Task → (left left' : Option (List ℕ)) (read read' : ℕ) (files files' : Option FilesState) (opened opened' : ℕ) (old new : Option (List ℕ)) (wrote wrote' : ℕ) → Status → Type 0
+TaskEnds (Some task.Replay) left left' read read' files files' opened opened' old new wrote wrote' ended =
+    Ends left read read' files files' opened opened' old new wrote wrote' ended
+TaskEnds (Some (task.Load seed count)) left left' read read' files files' opened opened' old new wrote wrote' ended =
+    LoadEnds seed count old new wrote wrote' ended × (left' ≡ left) × (files' ≡ files)
+TaskEnds None left left' read read' files files' opened opened' old new wrote wrote' ended =
+    (ended ≡ status.BadWords) × (left' ≡ left) × Untouched files files' old new
 
 -- ==== the fault line
 

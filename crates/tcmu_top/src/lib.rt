@@ -5,14 +5,17 @@ mod count;
 mod faults;
 mod laws;
 mod lines;
+mod load;
 mod opening;
 mod reading;
 mod several;
 mod status;
 mod top;
+mod words;
 mod writing;
 
 pub use laws::{replay_law, text_law};
+pub use load::run_load;
 pub use status::Status;
 pub use tcmu_model::Why;
 pub use top::{run_replay, tcmu_top};

@@ -1,18 +1,21 @@
 //! The top call: words, reading, replaying, and the status.
-ghost use Rattle.std.specs.Prelude.{◌≡◌, ℕ, ◌≤◌, true, false, Option};
+ghost use Rattle.std.specs.Prelude.{◌≡◌, ℕ, ◌≤◌, Option};
 ghost use Rattle.tcmu_types.specs.Data.{texts_of};
 ghost use Rattle.tcmu_types.specs.Numbered.{Rose};
 ghost use Rattle.edge.specs.Stores.{FilesState};
 ghost use Rattle.tcmu_model.specs.ScenarioRules.{IsScenario, IsServed};
 ghost use Rattle.tcmu_top.specs.Opened.{AreOpen};
 ghost use Rattle.tcmu_top.specs.Playing.{AreOpened, states_of};
-ghost use Rattle.tcmu_top.specs.Top.{ScenarioEnds, BytesEnd, Ends, Untouched, are_replay, Reported};
+ghost use Rattle.tcmu_top.specs.Words.{task_of};
+ghost use Rattle.tcmu_top.specs.Top.{ScenarioEnds, BytesEnd, Ends, TaskEnds, Reported};
 
 use crate::faults::report;
+use crate::load::run_load;
 use crate::opening::{ServedDevice, keep_files, open_devices};
 use crate::reading::{Unread, read_all};
 use crate::several::replay_devices;
 use crate::status::Status;
+use crate::words::{Task, task_of};
 use crate::writing::Stop;
 use device_set::DeviceSet;
 use edge::{Files, Sink, Source};
@@ -111,18 +114,28 @@ pub fn run_replay<S: Source, K: Sink, F: Files>(
     }
 }
 
-/// Whether the words are those of a replay.
-fn are_replay(words: &Words) -> bool
-    ensures { result ≡ are_replay (texts_of words.now.items) }
+/// Does what the words ask for.
+fn run<S: Source, K: Sink, F: Files>(
+    alloc: Global,
+    words: &Words,
+    src: &mut S,
+    out: &mut K,
+    files: &mut F,
+) -> Status
+    ensures ends { TaskEnds (task_of (texts_of words.now.items)) (S.left src.old) (S.left src.new) (S.faults src.old) (S.faults src.new) (F.state files.old) (F.state files.new) (F.faults files.old) (F.faults files.new) (K.written out.old) (K.written out.new) (K.faults out.old) (K.faults out.new) result }
+    ensures read { S.faults src.old ≤ S.faults src.new }
+    ensures opened { F.faults files.old ≤ F.faults files.new }
+    ensures wrote { K.faults out.old ≤ K.faults out.new }
 {
-    match words.as_slice() {
-        [word] => word.as_slice() == b"replay".as_slice(),
-        _ => false,
+    match task_of(words) {
+        Some(Task::Replay) => run_replay(alloc, src, out, files),
+        Some(Task::Load { seed, count }) => run_load(alloc, seed, count, out),
+        None => Status::BadWords,
     }
 }
 
-/// All that the program does: the words decide what. `replay` reads a scenario from the source and writes its journal to the sink. The
-/// line of a fault goes to the error stream; a failure there leaves the status as it is.
+/// All that the program does: the words decide what. `replay` reads a scenario from the source and writes its journal to the sink, `load`
+/// writes the line of a load. The line of a fault goes to the error stream; a failure there leaves the status as it is.
 pub fn tcmu_top<S: Source, K: Sink, E: Sink, F: Files>(
     alloc: Global,
     words: &Words,
@@ -131,20 +144,13 @@ pub fn tcmu_top<S: Source, K: Sink, E: Sink, F: Files>(
     err: &mut E,
     files: &mut F,
 ) -> Status
-    ensures replay { are_replay (texts_of words.now.items) ≡ true
-        → Ends (S.left src.old) (S.faults src.old) (S.faults src.new) (F.state files.old) (F.state files.new) (F.faults files.old) (F.faults files.new) (K.written out.old) (K.written out.new) (K.faults out.old) (K.faults out.new) result }
-    ensures bad_words { are_replay (texts_of words.now.items) ≡ false
-        → (result ≡ Status.BadWords) × (S.left src.new ≡ S.left src.old) × Untouched (F.state files.old) (F.state files.new) (K.written out.old) (K.written out.new) }
+    ensures ends { TaskEnds (task_of (texts_of words.now.items)) (S.left src.old) (S.left src.new) (S.faults src.old) (S.faults src.new) (F.state files.old) (F.state files.new) (F.faults files.old) (F.faults files.new) (K.written out.old) (K.written out.new) (K.faults out.old) (K.faults out.new) result }
     ensures reported { Reported result (E.written err.old) (E.written err.new) (Rose (E.faults err.old) (E.faults err.new)) }
     ensures read { S.faults src.old ≤ S.faults src.new }
     ensures opened { F.faults files.old ≤ F.faults files.new }
     ensures wrote { K.faults out.old ≤ K.faults out.new }
 {
-    if !are_replay(words) {
-        report(err, Status::BadWords);
-        return Status::BadWords;
-    }
-    let status = run_replay(alloc, src, out, files);
+    let status = run(alloc, words, src, out, files);
     report(err, status);
     status
 }

@@ -1,0 +1,100 @@
+//! The words of the program: which of its tasks they ask for.
+ghost use Rattle.std.specs.Prelude.{◌≡◌, ◌-◌, ◌^◌, IfSome};
+ghost use Rattle.std.specs.List.{list_all};
+ghost use Rattle.tcmu_types.specs.Data.{texts_of};
+ghost use Rattle.tcmu_model.specs.Fields.{is_digit, is_number, number_of};
+ghost use Rattle.tcmu_top.specs.Words.{task_of, replay_of, load_of, IsTask};
+
+use device_config::fields::number_of;
+use tcmu_types::Words;
+
+/// What the words ask for.
+#[derive(Clone, Copy, Debug, PartialEq, Eq)]
+pub enum Task {
+    Replay,
+    /// The load of a seed, of so many commands.
+    Load { seed: u64, count: u32 },
+}
+
+fn is_digit(b: u8) -> bool
+    ensures { result ≡ is_digit b }
+{
+    b'0' <= b && b <= b'9'
+}
+
+fn all_digits(text: &[u8]) -> bool
+    ensures { result ≡ list_all is_digit text.now }
+{
+    text.iter().all(|b| is_digit(*b))
+}
+
+fn is_number(text: &[u8]) -> bool
+    ensures { result ≡ is_number text.now }
+{
+    if text.len() < 1 {
+        return false;
+    }
+    if !all_digits(text) {
+        return false;
+    }
+    text.len() == 1 || b'0' < text[0]
+}
+
+/// The number of 64 bits that a text spells.
+fn seed_of(text: &[u8]) -> Option<u64>
+    ensures { result ≡ number_of 0 (2 ^ 64 - 1) text.now }
+{
+    if !is_number(text) {
+        return None;
+    }
+    let mut n: u128 = 0;
+    for b in text {
+        n = 10 * n + (*b - b'0') as u128;
+        if n > u64::MAX as u128 {
+            return None;
+        }
+    }
+    Some(n as u64)
+}
+
+/// The replay that a word asks for.
+#[tactic(auto, unfolding(crate::specs::Words::replay_of))]
+fn replay_of(word: &[u8]) -> Option<Task>
+    ensures value { result ≡ replay_of word.now }
+    ensures limits { IfSome result IsTask }
+{
+    if word == b"replay".as_slice() {
+        Some(Task::Replay)
+    } else {
+        None
+    }
+}
+
+/// The load that three words ask for.
+#[tactic(auto, unfolding(crate::specs::Words::load_of))]
+fn load_of(word: &[u8], seed: &[u8], count: &[u8]) -> Option<Task>
+    ensures value { result ≡ load_of word.now seed.now count.now }
+    ensures limits { IfSome result IsTask }
+{
+    if word != b"load".as_slice() {
+        return None;
+    }
+    let seed = seed_of(seed)?;
+    let count = number_of(0, 10000, count)?;
+    Some(Task::Load {
+        seed,
+        count: count as u32,
+    })
+}
+
+/// The task that the words ask for; None exactly where they are none that the program knows.
+pub fn task_of(words: &Words) -> Option<Task>
+    ensures value { result ≡ task_of (texts_of words.now.items) }
+    ensures limits { IfSome result IsTask }
+{
+    match words.as_slice() {
+        [word] => replay_of(word.as_slice()),
+        [word, seed, count] => load_of(word.as_slice(), seed.as_slice(), count.as_slice()),
+        _ => None,
+    }
+}
