@@ -17,3 +17,8 @@ pub mod LaidBlocks
 pub mod LaidLists
 pub mod Submitted
 pub mod Entered
+pub mod Answered
+pub mod Numbered
+pub mod AnswerBytes
+pub mod PlacedAnswers
+pub mod AnswerData

@@ -7,5 +7,6 @@ pub mod TargetCleans
 pub mod UserSteps
 pub mod UserNext
 pub mod Owned
+pub mod Placed
 pub mod Hostile
 pub mod Shown

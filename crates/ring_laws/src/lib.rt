@@ -4,7 +4,9 @@
 #![tactic(auto)]
 
 mod laws;
+mod placing;
 mod worked;
 
 pub use laws::{answering_law, enter_law, laying_law, opening_law, submit_law};
+pub use placing::placing_law;
 pub use worked::{picture_examples, target_examples, user_examples, way_examples};
