@@ -22,3 +22,4 @@ pub mod Numbered
 pub mod AnswerBytes
 pub mod PlacedAnswers
 pub mod AnswerData
+pub mod AnswerBlocks

@@ -1,12 +1,14 @@
 -- An answer that is placed: what it rests on, whatever the states of the other commands, and the device behind it.
-use Rattle.std.specs.Prelude.{◌≡◌, ℕ, ◌+◌, ◌%◌, ◌≤◌, ◌<◌, true, List, [], ◌∷◌, ◌++◌, length, take, drop, map, slice_get, Some}
+use Rattle.std.specs.Prelude.{◌≡◌, ℕ, ◌+◌, ◌%◌, ◌≤◌, ◌<◌, true, List, [], ◌∷◌, ◌++◌, length, take, drop, map, slice_get, Some, IfSome}
 use Rattle.tcmu_model.specs.declared.state.CommandState.TheVariants.{Parked, Placed}
+use Rattle.tcmu_types.specs.Rules.{IsCommand}
+use Rattle.tcmu_model.specs.Lengths.{blocks_of}
 use Rattle.tcmu_model.specs.Lists.{first_of}
 use Rattle.tcmu_model.specs.RingState.{RingState, Item, lengths, used, is_command, published_commands, dispatched_commands}
 use Rattle.tcmu_model.specs.Device.{Unfinished, DeviceState, is_at}
 use Rattle.tcmu_model.specs.Events.{turned}
-use Rattle.tcmu_model.specs.Sound.{Differ}
-use Rattle.tcmu_model.specs.BlockLists.{Taken}
+use Rattle.tcmu_model.specs.Sound.{Every, Differ, ReplyFits}
+use Rattle.tcmu_model.specs.BlockLists.{Taken, list_of, held_by}
 use Rattle.tcmu_model.specs.Regions.{RegionState}
 use Rattle.ring_laws.specs.Picture.{place_of}
 use Rattle.ring_laws.specs.Sides.{PendingRow, GivenJob, UserState}
@@ -45,6 +47,15 @@ pub record CanPlace (user : UserState) (rows : List PendingRow) (d : DeviceState
   pub behind : length d.placed < dispatched_commands d.ring
   pub flags : user.flags ≡ d.settings.flags
   pub offsets : user.offsets ≡ drop (length d.placed) (command_places d.ring.size 0 (take d.ring.dispatched d.ring.laid))
+
+-- What is answered fits into its blocks: also kept by every sound device with its lists, and between two answers.
+pub record CanFill (d : DeviceState) (lists : List Taken) : Type 0 where
+  pub pages : 1 ≤ d.settings.pages
+  pub ring : d.ring.size ≡ d.settings.ring
+  pub commands : Every (λ u. IsCommand u.command) d.unfinished
+  pub replies : Every (λ u. IfSome u.reply (ReplyFits u.command)) d.unfinished
+  pub differ : Differ (held_by lists d.unfinished)
+  pub sizes : Every (λ u. length (list_of lists u.serial) ≡ blocks_of d.settings.pages u.command) d.unfinished
 
 -- a region and its user side with an answer placed; the jobs that are left stand beside it
 abbrev pub answer_placed : RegionState → UserState → sides.Parked → List GivenJob → Placing
