@@ -23,3 +23,4 @@ pub mod AnswerBytes
 pub mod PlacedAnswers
 pub mod AnswerData
 pub mod AnswerBlocks
+pub mod TailMoved
