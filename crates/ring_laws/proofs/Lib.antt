@@ -24,3 +24,4 @@ pub mod PlacedAnswers
 pub mod AnswerData
 pub mod AnswerBlocks
 pub mod TailMoved
+pub mod Ticked

@@ -6,9 +6,11 @@
 mod laws;
 mod placing;
 mod publishing;
+mod ticking;
 mod worked;
 
 pub use laws::{answering_law, enter_law, laying_law, opening_law, submit_law};
 pub use placing::placing_law;
 pub use publishing::publish_law;
+pub use ticking::{block_law, tick_law};
 pub use worked::{picture_examples, target_examples, user_examples, way_examples};
