@@ -12,7 +12,7 @@ use Rattle.ring_laws.specs.Represents.{entry_at, id_in}
 use Rattle.ring_laws.proofs.Bytes.{part, length-written, part-written_before, part-written_behind}
 use Rattle.ring_laws.proofs.Layouts.{take-written_inside}
 
-sense_short : (s : Option SenseData) → length (sense_buffer s) ≤ 96
+pub sense_short : (s : Option SenseData) → length (sense_buffer s) ≤ 96
 sense_short None = omega arith
 sense_short (Some s) = let k : ◌≡◌ {A = ℕ} (length (fixed_sense s)) 18 = refl in omega (arith, k)
 

@@ -25,3 +25,5 @@ pub mod AnswerData
 pub mod AnswerBlocks
 pub mod TailMoved
 pub mod Ticked
+pub mod Completing
+pub mod KeptLists

@@ -8,5 +8,6 @@ pub mod UserSteps
 pub mod UserNext
 pub mod Owned
 pub mod Placed
+pub mod Cleaned
 pub mod Hostile
 pub mod Shown

@@ -3,12 +3,16 @@
 //! as long as nothing else cites them.
 #![tactic(auto)]
 
+mod cleaning;
+mod kept_lists;
 mod laws;
 mod placing;
 mod publishing;
 mod ticking;
 mod worked;
 
+pub use cleaning::completion_law;
+pub use kept_lists::kept_law;
 pub use laws::{answering_law, enter_law, laying_law, opening_law, submit_law};
 pub use placing::placing_law;
 pub use publishing::publish_law;
