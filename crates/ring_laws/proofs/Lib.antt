@@ -27,3 +27,4 @@ pub mod TailMoved
 pub mod Ticked
 pub mod Completing
 pub mod KeptLists
+pub mod DelayedKept

@@ -9,5 +9,6 @@ pub mod UserNext
 pub mod Owned
 pub mod Placed
 pub mod Cleaned
+pub mod Refused
 pub mod Hostile
 pub mod Shown

@@ -9,6 +9,7 @@ mod laws;
 mod placing;
 mod publishing;
 mod ticking;
+mod waiting;
 mod worked;
 
 pub use cleaning::completion_law;
@@ -17,4 +18,5 @@ pub use laws::{answering_law, enter_law, laying_law, opening_law, submit_law};
 pub use placing::placing_law;
 pub use publishing::publish_law;
 pub use ticking::{block_law, tick_law};
+pub use waiting::{delayed_law, refused_law};
 pub use worked::{picture_examples, target_examples, user_examples, way_examples};
