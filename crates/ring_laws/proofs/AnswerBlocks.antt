@@ -1,5 +1,5 @@
 -- An answer is placed: the blocks and their data.
-use Rattle.std.proofs.Common.{◌≡◌, ◌≢◌, ℕ, ◌+◌, ◌-◌, ◌*◌, ◌/◌, ◌≤◌, ◌<◌, ◌||◌, Bool, true, false, cond, List, [], ◌∷◌, ◌++◌, length, take, drop, filter, map, refl, sym, ap, ◌∙◌, arith, Option, Some, None, slice_get, length-append, subst, ⊎_elim, eqb}
+use Rattle.std.proofs.Common.{◌≡◌, ℕ, ◌+◌, ◌-◌, ◌*◌, ◌/◌, ◌≤◌, ◌||◌, Bool, true, false, cond, List, [], ◌∷◌, ◌++◌, length, take, drop, filter, refl, sym, ap, ◌∙◌, arith, Option, Some, None, slice_get, length-append, subst, ⊎_elim, eqb}
 use Rattle.std.proofs.lemmas.Bool.{cases_Bool, eqb-true, false≢true, or_parts, or_left, or_right, and_parts}
 use Rattle.std.specs.Prelude.{IfSome, IsTrue}
 use Rattle.std.proofs.lemmas.List.{drop-take, drop-replicate, nil_from_length}
@@ -24,7 +24,7 @@ use Rattle.ring_laws.specs.Areas.{bytes_along, IsHome, IsLent}
 use Rattle.ring_laws.specs.Picture.{payload_of, data_in}
 use Rattle.ring_laws.specs.Sides.{PendingRow, GivenJob, UserState, Carried}
 use Rattle.ring_laws.specs.Sides as sides
-use Rattle.ring_laws.specs.Represents.{RingStands, HaveData, BlocksOf, BlocksStand, IsJobOf, command_places}
+use Rattle.ring_laws.specs.Represents.{RingStands, HaveData, BlocksOf, BlocksStand, IsJobOf}
 use Rattle.ring_laws.specs.UserSteps.{placed_at, with_payload}
 use Rattle.ring_laws.specs.Placed.{CanAnswer, CanPlace, CanFill, placed_in, answer_placed}
 use Rattle.ring_laws.specs.Owned.{ListsSound}

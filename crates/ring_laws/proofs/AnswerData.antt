@@ -1,11 +1,11 @@
 -- An answer is placed: its data go back into the blocks of its command.
-use Rattle.std.proofs.Common.{◌≡◌, ◌≢◌, ℕ, ◌+◌, ◌-◌, ◌*◌, ◌/◌, ◌≤◌, ◌<◌, min, true, false, List, [], ◌∷◌, ◌++◌, length, take, drop, set, refl, sym, ap, ◌∙◌, arith, suc, zero, Option, Some, None, slice_get, append_assoc, length-append, length-take, length-drop, append-nil, subst, ⊎_elim, eqb}
+use Rattle.std.proofs.Common.{◌≡◌, ◌≢◌, ℕ, ◌+◌, ◌-◌, ◌*◌, ◌/◌, ◌≤◌, ◌<◌, min, true, false, List, [], ◌∷◌, ◌++◌, length, take, drop, set, refl, sym, ap, ◌∙◌, arith, suc, Option, Some, None, slice_get, append_assoc, length-append, length-take, length-drop, append-nil, subst, ⊎_elim, eqb}
 use Rattle.std.proofs.Math.Nat.{mul-le-mul_left, mul-div_cancel_left}
 use Rattle.std.proofs.lemmas.Bool.{cases_Bool, eqb-true, eqb-false, cases_lt, or_parts}
 use Rattle.std.proofs.lemmas.List.{drop_at, take_all, take-append-drop, drop_all, drop-append-le, drop-drop, nil_from_length}
 use Rattle.tcmu_types.specs.declared.iovec.Iov.{Iov}
 use Rattle.tcmu_model.specs.Events.{is_among}
-use Rattle.tcmu_model.specs.Iovecs.{piece, joined, merged, iovs_along, scattered, gathered}
+use Rattle.tcmu_model.specs.Iovecs.{merged, iovs_along, scattered, gathered}
 use Rattle.tcmu_model.specs.Layout.{put}
 use Rattle.tcmu_model.specs.Regions.{home, HaveSize, numbers_from, first_block, block_count, numbers_of, put_home, put_where, returned}
 use Rattle.tcmu_model.specs.Sound.{Every, Differ}

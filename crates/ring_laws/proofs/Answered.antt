@@ -1,12 +1,10 @@
 -- A response in an entry: what it changes, and the id that is read of it.
-use Rattle.std.proofs.Common.{◌≡◌, ℕ, ◌+◌, ◌-◌, ◌^◌, ◌≤◌, ◌<◌, ◌⊎◌, List, [], ◌++◌, length, take, drop, refl, sym, ap, ◌∙◌, arith, Option, Some, None, append_assoc, length-append, length-drop, ⊎_elim}
-use Rattle.std.specs.Option.{is_some}
-use Rattle.std.specs.Prelude.{unwrap_or}
-use Rattle.std.proofs.lemmas.List.{take-append-le, drop-append-le, length-take-le, take-take, drop-take, drop-drop}
+use Rattle.std.proofs.Common.{◌≡◌, ℕ, ◌+◌, ◌-◌, ◌^◌, ◌≤◌, ◌<◌, ◌⊎◌, List, [], ◌++◌, length, take, drop, refl, sym, ap, ◌∙◌, arith, Option, Some, None, length-append, length-drop, ⊎_elim}
+use Rattle.std.proofs.lemmas.List.{drop-append-le, length-take-le, drop-take, drop-drop}
 use Rattle.tcmu_types.specs.Data.{CommandData, SenseData, ReplyData, SettingsData}
 use Rattle.tcmu_types.specs.SenseBytes.{fixed_sense}
-use Rattle.tcmu_model.specs.Layout.{le, field, put, zeros, padded, ring_start, entry_header, command_head, command_bytes, sense_buffer, length_flag, answer_bytes, response_bytes, with_response}
-use Rattle.tcmu_model.proofs.Written.{lengths as writes, length-le, length-zeros, length-padded, field-put, field-before, field-le}
+use Rattle.tcmu_model.specs.Layout.{le, put, zeros, padded, ring_start, entry_header, command_head, command_bytes, sense_buffer, answer_bytes, response_bytes, with_response}
+use Rattle.tcmu_model.proofs.Written.{lengths as writes, length-le, length-padded, field-put, field-before, field-le}
 use Rattle.ring_laws.specs.Picture.{request_of, answered_entry}
 use Rattle.ring_laws.specs.Represents.{entry_at, id_in}
 use Rattle.ring_laws.proofs.Bytes.{part, length-written, part-written_before, part-written_behind}

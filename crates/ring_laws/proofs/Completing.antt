@@ -1,5 +1,5 @@
 -- A response that was written is read, and logs what the device logs.
-use Rattle.std.proofs.Common.{◌≡◌, ℕ, ◌+◌, ◌-◌, ◌%◌, ◌^◌, ◌≤◌, ◌<◌, ◌&&◌, min, Bool, true, false, not, cond, List, [], ◌++◌, length, take, drop, refl, sym, ap, ◌∙◌, arith, Option, Some, None, append_assoc, length-append, length-drop, subst, ⊎_elim, eqb}
+use Rattle.std.proofs.Common.{◌≡◌, ℕ, ◌+◌, ◌-◌, ◌%◌, ◌^◌, ◌≤◌, ◌<◌, ◌&&◌, min, Bool, true, false, not, cond, List, [], ◌++◌, length, take, drop, refl, sym, ap, ◌∙◌, arith, Option, Some, None, length-append, length-drop, ⊎_elim, eqb}
 use Rattle.std.specs.Prelude.{IfSome, IsTrue, unwrap_or, ◌∷◌}
 use Rattle.std.specs.Option.{is_some}
 use Rattle.byteorder.specs.Endian.{little_number}
@@ -22,7 +22,7 @@ use Rattle.ring_laws.specs.Picture.{payload_of, told_length, answered_entry}
 use Rattle.ring_laws.specs.Represents.{HaveData, entry_at, pending_of}
 use Rattle.ring_laws.specs.TargetCleans.{completion_read, completions_read, length_told, payload_read, sense_read}
 use Rattle.ring_laws.specs.Cleaned.{response_of}
-use Rattle.ring_laws.proofs.Bytes.{part, part_of_front, length-written}
+use Rattle.ring_laws.proofs.Bytes.{part_of_front, length-written}
 use Rattle.ring_laws.proofs.Answered.{length-response, id_of_answered, sense_short}
 
 -- ==== what is read of an entry

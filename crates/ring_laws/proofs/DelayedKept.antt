@@ -1,5 +1,5 @@
 -- A command that is accepted and waits for room, and answers after which nothing has changed.
-use Rattle.std.proofs.Common.{◌≡◌, ℕ, ◌+◌, Bool, true, false, List, [], ◌∷◌, ◌++◌, refl, sym, ap, ◌∙◌, Option}
+use Rattle.std.proofs.Common.{◌≡◌, ℕ, ◌+◌, true, List, [], ◌∷◌, ◌++◌, refl, ap, ◌∙◌, Option}
 use Rattle.std.proofs.lemmas.Bool.{false≢true}
 use Rattle.tcmu_types.specs.Data.{CommandData, SettingsData}
 use Rattle.tcmu_types.specs.declared.answer.Submit.{Submit}
@@ -7,7 +7,7 @@ use Rattle.tcmu_types.specs.declared.answer.Submit.TheVariants as submit
 use Rattle.tcmu_types.specs.declared.answer.Enter.{Enter}
 use Rattle.tcmu_types.specs.declared.answer.Enter.TheVariants as enter
 use Rattle.tcmu_model.specs.Device.{Delayed, DeviceState}
-use Rattle.tcmu_model.specs.Events.{after_submit, after_enter, with_delayed, one_accepted}
+use Rattle.tcmu_model.specs.Events.{after_submit, after_enter, with_delayed}
 use Rattle.tcmu_model.specs.BlockLists.{Taken}
 use Rattle.tcmu_model.specs.Regions.{RegionState}
 use Rattle.ring_laws.specs.Sides.{Recorded, PendingRow, InHand, TargetState, UserState}

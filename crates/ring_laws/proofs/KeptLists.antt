@@ -1,9 +1,9 @@
 -- Block lists of commands that are finished, and whose items are cleared, go: no point looks at them.
-use Rattle.std.proofs.Common.{◌≡◌, ℕ, ◌+◌, ◌≤◌, ◌<◌, ◌||◌, Bool, true, false, cond, List, [], ◌∷◌, ◌++◌, length, take, drop, map, filter, refl, sym, ap, ◌∙◌, arith, suc, zero, Option, Some, None, slice_get, append_assoc, subst, ⊎_elim, eqb}
+use Rattle.std.proofs.Common.{◌≡◌, ℕ, ◌≤◌, ◌<◌, ◌||◌, Bool, true, false, List, [], ◌∷◌, ◌++◌, length, drop, map, filter, refl, sym, ap, ◌∙◌, arith, suc, zero, Option, Some, slice_get, append_assoc, subst, ⊎_elim, eqb}
 use Rattle.std.specs.Bool.{MatchBool}
 use Rattle.std.specs.List.{list_any}
 use Rattle.std.proofs.lemmas.Bool.{cases_Bool, eqb-true, eq-eqb, or_left, or_right}
-use Rattle.tcmu_types.specs.Data.{CommandData, SettingsData}
+use Rattle.tcmu_types.specs.Data.{CommandData}
 use Rattle.tcmu_model.specs.Lists.{first_of}
 use Rattle.tcmu_model.specs.Lengths.{blocks_of, block_size}
 use Rattle.tcmu_model.specs.RingState.{Item, serials_in, serial_in}
@@ -15,9 +15,9 @@ use Rattle.tcmu_model.specs.Sound.{Every, Differ}
 use Rattle.tcmu_model.specs.BlockLists.{Taken, list_of, held_by, blocks_taken, is_kept, kept_lists}
 use Rattle.tcmu_model.specs.Pending.{PendingData}
 use Rattle.tcmu_model.proofs.Everies.{every-weaker, every-filter, every-both}
-use Rattle.tcmu_model.proofs.Rises.{among-append, among-here}
+use Rattle.tcmu_model.proofs.Rises.{among-append}
 use Rattle.ring_laws.specs.Sides.{Recorded, PendingRow, GivenJob, JobState, InHand, TargetState, UserState}
-use Rattle.ring_laws.specs.Represents.{RingStands, BlocksOf, BlocksStand, HaveData, JobsStand, AreGiven, AreOut, IsGiven, IsOut, IsJobOf, is_out, TargetKeeps, pending_of}
+use Rattle.ring_laws.specs.Represents.{RingStands, BlocksOf, BlocksStand, HaveData, JobsStand, AreGiven, AreOut, IsJobOf, is_out, TargetKeeps, pending_of}
 use Rattle.ring_laws.specs.Areas.{IsLent}
 use Rattle.ring_laws.specs.Picture.{payload_of, command_iovs}
 use Rattle.ring_laws.specs.Owned.{ListsSound}

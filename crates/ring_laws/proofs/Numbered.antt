@@ -1,12 +1,11 @@
 -- The commands of a ring, counted, and the entry that the next answer goes into.
-use Rattle.std.proofs.Common.{◌≡◌, ℕ, ◌+◌, ◌%◌, ◌≤◌, ◌<◌, ◌⊎◌, inl, inr, true, false, cond, List, [], ◌∷◌, ◌++◌, length, take, drop, map, refl, sym, ap, ◌∙◌, arith, suc, zero, Some, slice_get, subst, ⊎_elim}
+use Rattle.std.proofs.Common.{◌≡◌, ℕ, ◌+◌, ◌%◌, ◌≤◌, ◌<◌, ◌⊎◌, true, false, cond, List, [], ◌∷◌, length, take, drop, map, refl, sym, ap, ◌∙◌, arith, suc, zero, Some, slice_get, ⊎_elim}
 use Rattle.std.proofs.lemmas.Bool.{cases_Bool, cases_lt}
 use Rattle.std.proofs.lemmas.List.{take-take, length-take-le, take-append-drop}
 use Rattle.std.proofs.lemmas.List.Sums.{sum_by-cons}
 use Rattle.std.proofs.lemmas.Option.{slice_get_within}
-use Rattle.tcmu_model.specs.RingState.{RingState, Item, lengths, used, commands_in, is_command, published_commands, dispatched_commands}
-use Rattle.tcmu_model.specs.Device.{Unfinished, DeviceState}
-use Rattle.tcmu_model.specs.Events.{is_among}
+use Rattle.tcmu_model.specs.RingState.{Item, lengths, used, commands_in, is_command}
+use Rattle.tcmu_model.specs.Device.{DeviceState}
 use Rattle.tcmu_model.specs.Sound.{IsSound, Differ, Rise}
 use Rattle.tcmu_model.proofs.Basics.{rows_rise}
 use Rattle.tcmu_model.proofs.Fronts.{commands_more}

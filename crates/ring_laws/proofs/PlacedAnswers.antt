@@ -1,14 +1,12 @@
 -- What a placed answer keeps: the ring, the ids, and what both sides keep of the device.
-use Rattle.std.proofs.Common.{◌≡◌, ℕ, ◌+◌, ◌^◌, ◌≤◌, ◌<◌, true, false, List, [], ◌∷◌, ◌++◌, length, take, drop, map, refl, sym, ap, ◌∙◌, arith, suc, zero, Option, Some, None, slice_get, length-append, subst, ⊎_elim, eqb}
-use Rattle.std.proofs.lemmas.Bool.{cases_Bool, and_parts, eqb-true}
+use Rattle.std.proofs.Common.{◌≡◌, ℕ, ◌+◌, ◌^◌, ◌≤◌, ◌<◌, true, false, List, [], ◌∷◌, ◌++◌, length, take, drop, map, refl, sym, ap, ◌∙◌, arith, suc, zero, Some, slice_get, length-append, subst, ⊎_elim}
+use Rattle.std.proofs.lemmas.Bool.{cases_Bool}
 use Rattle.std.specs.Option.{option_map}
-use Rattle.tcmu_types.specs.Data.{ReplyData}
 use Rattle.tcmu_types.specs.declared.settings.Flags.{Flags}
 use Rattle.tcmu_model.specs.declared.state.CommandState.{CommandState}
 use Rattle.tcmu_model.specs.declared.state.CommandState.TheVariants.{Parked, Placed}
-use Rattle.tcmu_model.specs.Lists.{first_of}
 use Rattle.tcmu_model.specs.Device.{Unfinished, DeviceState, is_at}
-use Rattle.tcmu_model.specs.Events.{turned, in_state}
+use Rattle.tcmu_model.specs.Events.{turned}
 use Rattle.tcmu_model.specs.Sound.{Every, Differ}
 use Rattle.tcmu_model.specs.BlockLists.{Taken}
 use Rattle.tcmu_model.specs.Layout.{with_response}
@@ -17,7 +15,7 @@ use Rattle.ring_laws.specs.Picture.{place_of, told_length}
 use Rattle.ring_laws.specs.Sides.{Recorded, PendingRow, TargetState, UserState, GivenJob, Carried}
 use Rattle.ring_laws.specs.Sides as sides
 use Rattle.ring_laws.specs.Represents.{RingStands, IdsStand, IsId, TargetKeeps, UserKeeps, pending_of, id_of, row_has, command_places}
-use Rattle.ring_laws.specs.UserSteps.{Placing, placed_at, placed_one, answered_region, with_payload}
+use Rattle.ring_laws.specs.UserSteps.{Placing, placed_at, placed_one, with_payload}
 use Rattle.ring_laws.specs.Placed.{CanAnswer, CanPlace, placed_in}
 use Rattle.ring_laws.proofs.Numbered.{NextEntry, next-entry}
 use Rattle.ring_laws.proofs.AnswerBytes.{place-ring, place-ids, found-at}

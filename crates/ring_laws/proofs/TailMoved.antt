@@ -1,34 +1,32 @@
 -- The user side publishes: the tail is moved over the answers that are placed, and nothing else changes.
-use Rattle.std.proofs.Common.{◌≡◌, ℕ, ◌+◌, ◌-◌, ◌%◌, ◌≤◌, ◌<◌, Bool, true, false, cond, List, [], ◌∷◌, ◌++◌, length, take, drop, map, refl, sym, ap, ◌∙◌, arith, suc, zero, Option, Some, None, slice_get, subst, ⊎_elim, inr, eqb}
-use Rattle.std.specs.List.{sum_by, count_by, filter}
-use Rattle.std.proofs.lemmas.Bool.{cases_Bool, eqb-true, ne_eqb, eq-eqb}
+use Rattle.std.proofs.Common.{◌≡◌, ℕ, ◌+◌, ◌-◌, ◌%◌, ◌≤◌, Bool, true, false, cond, List, [], ◌∷◌, ◌++◌, length, take, drop, map, refl, sym, ap, ◌∙◌, arith, suc, zero, Option, Some, subst, ⊎_elim, eqb}
+use Rattle.std.specs.List.{sum_by, count_by}
+use Rattle.std.proofs.lemmas.Bool.{cases_Bool, eqb-true, ne_eqb}
 use Rattle.std.proofs.lemmas.List.{take-append-drop, take-take, length-take-le, drop-drop, drop-take, take-map, drop-map}
 use Rattle.std.proofs.lemmas.List.Sums.{sum_by-cons}
-use Rattle.tcmu_types.specs.Data.{CommandData}
-use Rattle.tcmu_types.specs.declared.answer.Publish.{Publish}
 use Rattle.tcmu_types.specs.declared.answer.Publish.TheVariants as publish
 use Rattle.tcmu_types.specs.declared.settings.Flags.{Flags}
 use Rattle.tcmu_model.specs.RingState.{RingState, Item, Laid, lengths, head, commands_in, is_command, front_with, serials_in, published_commands}
 use Rattle.tcmu_model.specs.RingState as ring
-use Rattle.tcmu_model.specs.Device.{Unfinished, DeviceState}
-use Rattle.tcmu_model.specs.Events.{publishable, publish_answer, after_publish, is_in_hand}
+use Rattle.tcmu_model.specs.Device.{DeviceState}
+use Rattle.tcmu_model.specs.Events.{publishable, publish_answer, after_publish}
 use Rattle.tcmu_model.specs.Sound.{IsSound}
 use Rattle.tcmu_model.specs.BlockLists.{Taken}
 use Rattle.tcmu_model.specs.Layout.{le, put, zeros, ring_start, data_start, tail_place, mailbox_bytes, device_mailbox}
 use Rattle.tcmu_model.specs.Regions.{RegionState}
 use Rattle.tcmu_model.proofs.Written.{length-le}
 use Rattle.tcmu_model.proofs.Facts.{publishable_fits}
-use Rattle.ring_laws.specs.Picture.{place_of, tail, kind_of}
+use Rattle.ring_laws.specs.Picture.{place_of, tail}
 use Rattle.ring_laws.specs.Sides.{Recorded, PendingRow, TargetState, UserState, InHand}
 use Rattle.ring_laws.specs.Represents.{RingStands, IdsStand, NotesStand, BlocksStand, JobsStand, TargetKeeps, UserKeeps, recorded, entry_at, id_at, ids_in, AreNoteIds}
 use Rattle.ring_laws.specs.UserSteps.{is_cmd, movable, moving, moving_items, user_publish_answer, user_published, region_published}
-use Rattle.ring_laws.proofs.Bytes.{part, length-written, part-written_behind}
+use Rattle.ring_laws.proofs.Bytes.{length-written, part-written_behind}
 use Rattle.ring_laws.proofs.Layouts.{take-written_inside, add-mod}
 use Rattle.ring_laws.proofs.Places.{lengths-append}
 use Rattle.ring_laws.proofs.RingLaid.{stands-by}
 use Rattle.ring_laws.proofs.Submit.{commands-append}
 use Rattle.ring_laws.proofs.Agree.{sum-recorded}
-use Rattle.ring_laws.proofs.Kept.{id-same, command_long}
+use Rattle.ring_laws.proofs.Kept.{id-same}
 
 -- the device with its items published up to an index
 abbrev pub published_to : DeviceState → ℕ → DeviceState

@@ -1,9 +1,8 @@
 -- A tick, a block and an unblock: the region stays as it is, and the target's records follow the device.
-use Rattle.std.proofs.Common.{◌≡◌, ℕ, ◌+◌, ◌*◌, ◌≤◌, ◌<◌, ◌&&◌, ◌⊎◌, Bool, true, false, not, cond, List, [], ◌∷◌, ◌++◌, length, take, drop, map, filter, refl, sym, ap, ◌∙◌, arith, Option, Some, None, slice_get, subst, ⊎_elim, eqb}
+use Rattle.std.proofs.Common.{◌≡◌, ℕ, ◌<◌, ◌⊎◌, Bool, true, false, not, cond, List, [], ◌∷◌, ◌++◌, length, take, drop, map, filter, refl, sym, ap, ◌∙◌, Option, Some, None, slice_get, subst, ⊎_elim, eqb}
 use Rattle.std.specs.Bool.{MatchBool}
-use Rattle.std.specs.Option.{option_map}
 use Rattle.std.proofs.lemmas.Bool.{cases_Bool}
-use Rattle.tcmu_types.specs.Data.{CommandData, SettingsData, DoneData}
+use Rattle.tcmu_types.specs.Data.{SettingsData, DoneData}
 use Rattle.tcmu_model.specs.Lists.{first_of}
 use Rattle.tcmu_model.specs.Lengths.{blocks_of, block_size}
 use Rattle.tcmu_model.specs.RingState.{Item, Laid, commands_in, serials_in}
@@ -20,7 +19,6 @@ use Rattle.ring_laws.specs.Sides.{Recorded, PendingRow, GivenJob, JobState, InHa
 use Rattle.ring_laws.specs.Represents.{RingStands, IdsStand, NotesStand, BlocksOf, BlocksStand, JobsStand, AreGiven, AreOut, IsGiven, IsOut, is_out, IsJobOf, IsId, id_of, row_has, has_id, serial_with, AreNoteIds, TargetKeeps, UserKeeps, entry_at, id_in, ids_in, pending_of}
 use Rattle.ring_laws.specs.TargetSteps.{is_due_at, expired_at, checked, ticked_log, target_tick_answer, target_ticked, target_blocked}
 use Rattle.ring_laws.specs.Owned.{ListsSound}
-use Rattle.ring_laws.proofs.RingLaid.{stands-by}
 
 -- ==== the ring, whatever changes of the commands but their answers
 
