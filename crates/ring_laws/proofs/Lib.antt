@@ -28,3 +28,4 @@ pub mod Ticked
 pub mod Completing
 pub mod KeptLists
 pub mod DelayedKept
+pub mod HandledKept

@@ -22,21 +22,22 @@ use Rattle.ring_laws.specs.Owned.{ListsSound}
 
 -- ==== the ring, whatever changes of the commands but their answers
 
--- the answers that stand in entries are the same with other commands
+-- the answers that are placed are the same with other commands
 abbrev pub SameAnswers : DeviceState → List Unfinished → Type 0
-SameAnswers d us = (read_len : Bool) (id : ℕ) (request : List ℕ) (q : ℕ) → with_answer read_len id request (first_of (has_serial q) us) ≡ with_answer read_len id request (first_of (has_serial q) d.unfinished)
+SameAnswers d us = (k q : ℕ) → slice_get d.placed k ≡ Some q → (read_len : Bool) (id : ℕ) (request : List ℕ) → with_answer read_len id request (first_of (has_serial q) us) ≡ with_answer read_len id request (first_of (has_serial q) d.unfinished)
 
-entry_by : (d e : DeviceState) (id : ℕ) (request : List ℕ) (o : Option ℕ) → e.settings ≡ d.settings → SameAnswers d e.unfinished → entry_of e id request o ≡ entry_of d id request o
-entry_by d e id request None s h = refl
-entry_by d e id request (Some q) s h = ap (λ (z : SettingsData). with_answer z.flags.read_len id request (first_of (has_serial q) e.unfinished)) s ∙ h d.settings.flags.read_len id request q
+entry_by : (d : DeviceState) (us : List Unfinished) (now : ℕ) (blocked attached : Bool) (ds : List Delayed) (log : List DoneData) (id : ℕ) (request : List ℕ) (k : ℕ) (o : Option ℕ) → slice_get d.placed k ≡ o → SameAnswers d us →
+    entry_of (record d { now = now; blocked = blocked; attached = attached; unfinished = us; delayed = ds; log = log }) id request o ≡ entry_of d id request o
+entry_by d us now blocked attached ds log id request k None g h = refl
+entry_by d us now blocked attached ds log id request k (Some q) g h = h k q g d.settings.flags.read_len id request
 
 item_by : (d : DeviceState) (now : ℕ) (blocked attached : Bool) (us : List Unfinished) (ds : List Delayed) (log : List DoneData) (lists : List Taken) (i n : ℕ) (l : Laid) (id : ℕ) (ids : List ℕ) → SameAnswers d us →
     item_bytes (record d { now = now; blocked = blocked; attached = attached; unfinished = us; delayed = ds; log = log }) lists i id ids (record { len = n; laid = l }) ≡ item_bytes d lists i id ids (record { len = n; laid = l })
 item_by d now blocked attached us ds log lists i n ring.Pad id ids h = refl
 item_by d now blocked attached us ds log lists i n (ring.Tmr k ss) id ids h = refl
 item_by d now blocked attached us ds log lists i n (ring.Cmd s c) id ids h =
-    entry_by d (record d { now = now; blocked = blocked; attached = attached; unfinished = us; delayed = ds; log = log }) id (request_of d.settings (list_of lists s) (place_of d.ring i) id c)
-    (slice_get d.placed (commands_in (take i d.ring.laid))) refl h
+    let k : ℕ = commands_in (take i d.ring.laid) in
+    entry_by d us now blocked attached ds log id (request_of d.settings (list_of lists s) (place_of d.ring i) id c) k (slice_get d.placed k) refl h
 
 pub ring_by : (front : List ℕ) (items : List Recorded) (d : DeviceState) (now : ℕ) (blocked attached : Bool) (us : List Unfinished) (ds : List Delayed) (log : List DoneData) (lists : List Taken) → SameAnswers d us → RingStands front items d lists →
     RingStands front items (record d { now = now; blocked = blocked; attached = attached; unfinished = us; delayed = ds; log = log }) lists
@@ -58,7 +59,7 @@ ids_by front rows d now blocked attached us ds log h = record { range = h.range;
 
 pub ring_blocked : (front : List ℕ) (items : List Recorded) (d : DeviceState) (lists : List Taken) (b : Bool) → RingStands front items d lists → RingStands front items (after_block d b) lists
 unfolding after_block
-ring_blocked front items d lists b h = ring_by front items d d.now b d.attached d.unfinished d.delayed d.log lists (λ rl id r q. refl) h
+ring_blocked front items d lists b h = ring_by front items d d.now b d.attached d.unfinished d.delayed d.log lists (λ k q g rl id r. refl) h
 
 pub ids_blocked : (front : List ℕ) (rows : List PendingRow) (d : DeviceState) (b : Bool) → IdsStand front rows d → IdsStand front rows (after_block d b)
 unfolding after_block
@@ -305,7 +306,7 @@ unfolding after_tick
 ring_ticked front items d lists n h =
     let now : ℕ = later d.now n in
     ring_by front items d now d.blocked d.attached (map (expire now) d.unfinished) (filter (λ w. not (has_left now w)) d.delayed) (d.log ++ tick_completions d now) lists
-    (λ rl id r q. expired_found now q d.unfinished rl id r) h
+    (λ k q g rl id r. expired_found now q d.unfinished rl id r) h
 
 pub ids_ticked : (front : List ℕ) (rows : List PendingRow) (d : DeviceState) (n : ℕ) → IdsStand front rows d → IdsStand front (map (expired_at (later d.now n)) rows) (after_tick d n)
 unfolding after_tick

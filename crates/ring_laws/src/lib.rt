@@ -4,6 +4,7 @@
 #![tactic(auto)]
 
 mod cleaning;
+mod handling;
 mod kept_lists;
 mod laws;
 mod placing;
@@ -13,6 +14,7 @@ mod waiting;
 mod worked;
 
 pub use cleaning::completion_law;
+pub use handling::handle_law;
 pub use kept_lists::kept_law;
 pub use laws::{answering_law, enter_law, laying_law, opening_law, submit_law};
 pub use placing::placing_law;
