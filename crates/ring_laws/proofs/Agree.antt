@@ -16,7 +16,7 @@ use Rattle.ring_laws.specs.TargetSteps.{used_in, head_in, pad_in, blocks_held, b
 use Rattle.ring_laws.proofs.Layouts.{add-mod}
 use Rattle.ring_laws.proofs.Places.{used_is}
 
-sum-recorded : (xs : List Item) → sum_by (λ x. x.len) (map recorded xs) ≡ lengths xs
+pub sum-recorded : (xs : List Item) → sum_by (λ x. x.len) (map recorded xs) ≡ lengths xs
 sum-recorded [] = refl
 sum-recorded (x ∷ xs) =
     let a : sum_by (λ (y : Recorded). y.len) (recorded x ∷ map recorded xs) ≡ x.len + sum_by (λ (y : Recorded). y.len) (map recorded xs) = sum_by-cons (λ (y : Recorded). y.len) (recorded x) (map recorded xs) in

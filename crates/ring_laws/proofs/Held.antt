@@ -1,21 +1,12 @@
 -- What a sound ring gives of its items, and of what stands before the next one.
-use Rattle.std.proofs.Common.{◌≡◌, ℕ, ◌+◌, ◌%◌, ◌≤◌, ◌<◌, List, [], ◌∷◌, take, refl, sym, ap, ◌∙◌, arith, Some, slice_get, subst}
+use Rattle.std.proofs.Common.{◌≡◌, ℕ, ◌+◌, ◌%◌, ◌≤◌, List, [], ◌∷◌, take, refl, sym, ap, ◌∙◌, arith, subst}
 use Rattle.std.proofs.lemmas.List.Sums.{sum_by-cons}
 use Rattle.tcmu_types.specs.Data.{SettingsData}
-use Rattle.tcmu_model.specs.RingState.{RingState, Item, lengths, used}
+use Rattle.tcmu_model.specs.RingState.{Item, lengths}
 use Rattle.tcmu_model.specs.Device.{DeviceState}
-use Rattle.ring_laws.specs.Picture.{place_of}
+use Rattle.ring_laws.specs.Placed.{HoldsItems}
 use Rattle.tcmu_model.specs.Sound.{IsSound, IsItem, Along}
 use Rattle.tcmu_model.proofs.Indexed.{item_at}
-
--- the ring holds its items whole, and keeps a byte free
-pub record HoldsItems (r : RingState) : Type 0 where
-  pub size : 4096 ≤ r.size
-  pub even : r.size % 8 ≡ 0
-  pub aligned : lengths r.laid % 8 ≡ 0
-  pub room : used r < r.size
-  pub whole : (i : ℕ) (x : Item) → slice_get r.laid i ≡ Some x → place_of r i + x.len ≤ r.size
-  pub some : (i : ℕ) (x : Item) → slice_get r.laid i ≡ Some x → 8 ≤ x.len
 
 aligned_from : (s : SettingsData) (start : ℕ) (is : List Item) → Along (IsItem s) start is → lengths is % 8 ≡ 0
 aligned_from s start [] h = refl

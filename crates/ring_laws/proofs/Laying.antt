@@ -10,7 +10,7 @@ use Rattle.ring_laws.specs.TargetSteps.{with_pad}
 use Rattle.ring_laws.proofs.Bytes.{part, length-written, take-written, part-written, part-written_before, part-written_behind}
 use Rattle.ring_laws.proofs.Layouts.{take-written_inside, length-pad}
 use Rattle.tcmu_model.proofs.Written.{length-le}
-use Rattle.ring_laws.proofs.Held.{HoldsItems}
+use Rattle.ring_laws.specs.Placed.{HoldsItems}
 
 -- the device with an item laid
 abbrev pub laid_in : DeviceState → Item → List Unfinished → DeviceState

@@ -17,3 +17,15 @@ pub mod LaidBlocks
 pub mod LaidLists
 pub mod Submitted
 pub mod Entered
+pub mod Answered
+pub mod Numbered
+pub mod AnswerBytes
+pub mod PlacedAnswers
+pub mod AnswerData
+pub mod AnswerBlocks
+pub mod TailMoved
+pub mod Ticked
+pub mod Completing
+pub mod KeptLists
+pub mod DelayedKept
+pub mod HandledKept

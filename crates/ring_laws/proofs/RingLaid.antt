@@ -15,7 +15,7 @@ use Rattle.ring_laws.specs.Represents.{RingStands, StandsAt, recorded, entry_at,
 use Rattle.ring_laws.specs.TargetSteps.{pads_of}
 use Rattle.ring_laws.proofs.Bytes.{part}
 use Rattle.ring_laws.proofs.Layouts.{mailbox_moved}
-use Rattle.ring_laws.proofs.Held.{HoldsItems}
+use Rattle.ring_laws.specs.Placed.{HoldsItems}
 use Rattle.ring_laws.proofs.Places.{apart_in_ring, laid_with, LaidCase, laid_case, Old, Padding, New, take-laid, lengths_to_new, ends_within, used_is, lengths_more, lengths-append, lengths-pads}
 use Rattle.ring_laws.proofs.Laying.{laid_in, entered, Room, has_room, entered_part, entered_new, entered_pad, length-entered, take-entered}
 

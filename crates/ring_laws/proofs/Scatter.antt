@@ -34,7 +34,7 @@ scattered-other size area (c ∷ bs) bytes b h =
     let p = or_parts (eqb c b) (is_among bs b) h in
     scattered-other size (set area c (over (take size bytes) (home (slice_get area c)))) bs (drop size bytes) b p.1 ∙ get-set_other area c b (over (take size bytes) (home (slice_get area c))) (eqb-false c b p.0)
 
-here-other : (size : ℕ) (area : List (Option (List ℕ))) (c : ℕ) (o : Option (List ℕ)) (bs : List ℕ) → is_among bs c ≡ false → Every (IsHome size area) bs → Every (IsHome size (set area c o)) bs
+pub here-other : (size : ℕ) (area : List (Option (List ℕ))) (c : ℕ) (o : Option (List ℕ)) (bs : List ℕ) → is_among bs c ≡ false → Every (IsHome size area) bs → Every (IsHome size (set area c o)) bs
 here-other size area c o [] h e = tt
 here-other size area c o (b ∷ bs) h e =
     let p = or_parts (eqb b c) (is_among bs c) h in

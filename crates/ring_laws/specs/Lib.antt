@@ -7,5 +7,8 @@ pub mod TargetCleans
 pub mod UserSteps
 pub mod UserNext
 pub mod Owned
+pub mod Placed
+pub mod Cleaned
+pub mod Refused
 pub mod Hostile
 pub mod Shown

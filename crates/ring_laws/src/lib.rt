@@ -3,8 +3,22 @@
 //! as long as nothing else cites them.
 #![tactic(auto)]
 
+mod cleaning;
+mod handling;
+mod kept_lists;
 mod laws;
+mod placing;
+mod publishing;
+mod ticking;
+mod waiting;
 mod worked;
 
+pub use cleaning::completion_law;
+pub use handling::handle_law;
+pub use kept_lists::kept_law;
 pub use laws::{answering_law, enter_law, laying_law, opening_law, submit_law};
+pub use placing::placing_law;
+pub use publishing::publish_law;
+pub use ticking::{block_law, tick_law};
+pub use waiting::{delayed_law, refused_law};
 pub use worked::{picture_examples, target_examples, user_examples, way_examples};

@@ -1,6 +1,6 @@
 //! The worked rows, over a source and a sink in memory.
 use crate::{Status, Why, run_replay, tcmu_top};
-use edge::{MemFiles, MemSink, MemSource, MemStore};
+use edge::{MemFiles, MemSink, MemSource};
 use std::alloc::Global;
 use std::test::Fail;
 use tcmu_types::{Bytes, NoMemory, Serials, Words};
@@ -194,48 +194,5 @@ fn words(rt: HostRuntime) -> Result<(), Fail> {
         assert_eq!(rt; status.code(), code);
         assert_eq!(rt; err.written(), line.as_bytes());
     }
-    Ok(())
-}
-
-/// The status of a replay over one file, `img`, of two blocks of zeros, of which the store call of this number fails; its text; and
-/// the bytes of the file behind it.
-fn replayed_on_file(
-    alloc: Global,
-    input: &[u8],
-    fails: u64,
-) -> Result<(Status, MemSink, MemFiles), NoMemory> {
-    let zeros = vec![in alloc; 0; 1024].map_err(|_| NoMemory)?;
-    let store = MemStore::new(
-        Bytes::from_slice(alloc, &zeros)?,
-        Serials::from_slice(alloc, &[fails])?,
-    );
-    let mut files = MemFiles::new(alloc, Serials::new(alloc));
-    files.add(alloc, b"img", store)?;
-    let mut src = MemSource::new(Bytes::from_slice(alloc, input)?, Serials::new(alloc));
-    let mut out = MemSink::new(alloc, 16384, Serials::new(alloc))?;
-    let status = run_replay(alloc, &mut src, &mut out, &mut files);
-    Ok((status, out, files))
-}
-
-const OVER_A_FILE: &str =
-    "device d0 tcm-user/0/d0/file/img ring=4096 blocks=16 flags=ooo timeout=30\nsubmit d0 a 1 2a000000000000000100 out=11*512\n";
-
-/// What is written to a device stands in its file at the end. A missing file is status 6, and nothing is written.
-#[test]
-fn files(rt: HostRuntime) -> Result<(), Fail> {
-    let alloc = rt.alloc();
-    let (status, _out, files) = replayed_on_file(alloc, OVER_A_FILE.as_bytes(), 0)?;
-    assert_eq!(rt; status, Status::Ok);
-    let written = files.get(b"img").map(|store| {
-        store.bytes().len() == 1024
-            && store.bytes()[..512].iter().all(|byte| *byte == 0x11)
-            && store.bytes()[512..].iter().all(|byte| *byte == 0)
-    });
-    assert_eq!(rt; written, Some(true));
-    let missing = "device d0 tcm-user/0/d0/file/none ring=4096 blocks=16 flags=ooo timeout=30\n";
-    let (status, out, _files) = replayed_on_file(alloc, missing.as_bytes(), 0)?;
-    assert_eq!(rt; status, Status::OpenFault);
-    assert_eq!(rt; status.code(), 6);
-    assert_eq!(rt; out.written(), b"".as_slice());
     Ok(())
 }

@@ -1,0 +1,97 @@
+-- A command that is accepted and waits for room, and answers after which nothing has changed.
+use Rattle.std.proofs.Common.{◌≡◌, ℕ, ◌+◌, true, List, [], ◌∷◌, ◌++◌, refl, ap, ◌∙◌, Option}
+use Rattle.std.proofs.lemmas.Bool.{false≢true}
+use Rattle.tcmu_types.specs.Data.{CommandData, SettingsData}
+use Rattle.tcmu_types.specs.declared.answer.Submit.{Submit}
+use Rattle.tcmu_types.specs.declared.answer.Submit.TheVariants as submit
+use Rattle.tcmu_types.specs.declared.answer.Enter.{Enter}
+use Rattle.tcmu_types.specs.declared.answer.Enter.TheVariants as enter
+use Rattle.tcmu_model.specs.Device.{Delayed, DeviceState}
+use Rattle.tcmu_model.specs.Events.{after_submit, after_enter, with_delayed}
+use Rattle.tcmu_model.specs.BlockLists.{Taken}
+use Rattle.tcmu_model.specs.Regions.{RegionState}
+use Rattle.ring_laws.specs.Sides.{Recorded, PendingRow, InHand, TargetState, UserState}
+use Rattle.ring_laws.specs.Represents.{RingStands, IdsStand, NotesStand, BlocksStand, JobsStand, TargetKeeps, UserKeeps}
+use Rattle.ring_laws.specs.TargetSteps.{target_submitted, region_submitted, target_entered, region_entered}
+use Rattle.ring_laws.specs.Refused.{is_refusal, is_waiting}
+use Rattle.ring_laws.specs.Owned.{ListsSound}
+use Rattle.ring_laws.proofs.RingLaid.{stands-by}
+
+pub ring_waits : (front : List ℕ) (items : List Recorded) (d : DeviceState) (lists : List Taken) (c : CommandData) (s : ℕ) → RingStands front items d lists → RingStands front items (after_submit d c (submit.Delayed s)) lists
+unfolding after_submit with_delayed
+ring_waits front items d lists c s h =
+    let ws : List Delayed = d.delayed ++ record { serial = s; command = c; leaves = d.now + d.settings.qfull } ∷ [] in
+    record {
+      long = h.long;
+      mailbox = h.mailbox;
+      stands = λ i x cl g. stands-by front front d (record d { accepted = d.accepted + 1; delayed = ws }) lists lists i x
+          (record { settings = refl; size = refl; placed = refl; found = λ k q z. refl; listed = λ i n q c l z. refl }) refl cl g refl (h.stands i x cl g);
+      recorded = h.recorded;
+    }
+
+pub ids_wait : (front : List ℕ) (rows : List PendingRow) (d : DeviceState) (c : CommandData) (s : ℕ) → IdsStand front rows d → IdsStand front rows (after_submit d c (submit.Delayed s))
+unfolding after_submit with_delayed
+ids_wait front rows d c s h = record { range = h.range; differ = h.differ; answered = h.answered; own = h.own }
+
+pub notes_wait : (front : List ℕ) (rows : List PendingRow) (d : DeviceState) (c : CommandData) (s : ℕ) → NotesStand front rows d → NotesStand front rows (after_submit d c (submit.Delayed s))
+unfolding after_submit with_delayed
+notes_wait front rows d c s h = h
+
+pub blocks_wait : (area : List (Option (List ℕ))) (d : DeviceState) (lists : List Taken) (c : CommandData) (s : ℕ) → BlocksStand area d lists → BlocksStand area (after_submit d c (submit.Delayed s)) lists
+unfolding after_submit with_delayed
+blocks_wait area d lists c s h = record { all = h.all; just = h.just }
+
+pub jobs_wait : (user : UserState) (hand : List InHand) (rows : List PendingRow) (d : DeviceState) (lists : List Taken) (c : CommandData) (s : ℕ) → JobsStand user hand rows d lists → JobsStand user hand rows (after_submit d c (submit.Delayed s)) lists
+unfolding after_submit with_delayed
+jobs_wait user hand rows d lists c s h = record { given = h.given; out = h.out; offsets = h.offsets }
+
+pub target_waits : (t : TargetState) (d : DeviceState) (lists : List Taken) (c : CommandData) (s id : ℕ) → TargetKeeps t d lists → TargetKeeps (target_submitted t c id (submit.Delayed s)) (after_submit d c (submit.Delayed s)) lists
+unfolding after_submit with_delayed target_submitted
+target_waits t d lists c s id h =
+    record {
+      settings = h.settings;
+      now = h.now;
+      blocked = h.blocked;
+      accepted = ap (λ n. n + 1) h.accepted;
+      rows = h.rows;
+      delayed = ap (λ (ws : List Delayed). ws ++ record { serial = s; command = c; leaves = t.now + t.settings.qfull } ∷ []) h.delayed
+          ∙ ap (λ n. d.delayed ++ record { serial = s; command = c; leaves = n + t.settings.qfull } ∷ []) h.now
+          ∙ ap (λ (z : SettingsData). d.delayed ++ record { serial = s; command = c; leaves = d.now + z.qfull } ∷ []) h.settings;
+      cleaned = h.cleaned;
+      laid = h.laid;
+      cleared = h.cleared;
+      broken = h.broken;
+      log = h.log;
+    }
+
+pub side_waits : (user : UserState) (d : DeviceState) (c : CommandData) (s : ℕ) → UserKeeps user d → UserKeeps user (after_submit d c (submit.Delayed s))
+unfolding after_submit with_delayed
+side_waits user d c s h =
+    record { ring = h.ring; pages = h.pages; flags = h.flags; tail = h.tail; dispatched = h.dispatched; placed = h.placed; published = h.published; place = h.place; items = h.items }
+
+pub lists_wait : (d : DeviceState) (lists : List Taken) (c : CommandData) (s : ℕ) → ListsSound d lists → ListsSound (after_submit d c (submit.Delayed s)) lists
+unfolding after_submit with_delayed
+lists_wait d lists c s h = record { listed = h.listed; differ = h.differ; below = h.below; sizes = h.sizes; spans = h.spans }
+
+-- ==== nothing changes
+
+pub refused_same : (r : RegionState) (t : TargetState) (d : DeviceState) (c : CommandData) (id : ℕ) (a : Submit) → is_refusal a ≡ true → (after_submit d c a ≡ d) × (target_submitted t c id a ≡ t) × (region_submitted r t c id a ≡ r)
+unfolding after_submit target_submitted region_submitted
+refused_same r t d c id (submit.Queued s) h = absurd (false≢true h)
+refused_same r t d c id (submit.Delayed s) h = absurd (false≢true h)
+refused_same r t d c id submit.Busy h = (refl, refl, refl)
+refused_same r t d c id (submit.TooBig have limit) h = (refl, refl, refl)
+refused_same r t d c id (submit.FullRing need free) h = (refl, refl, refl)
+refused_same r t d c id (submit.FullBlocks need free) h = (refl, refl, refl)
+
+pub waiting_same : (r : RegionState) (t : TargetState) (d : DeviceState) (id : ℕ) (a : Enter) → is_waiting a ≡ true → (after_enter d a ≡ d) × (target_entered t id a ≡ t) × (region_entered r t id a ≡ r)
+unfolding after_enter target_entered region_entered
+waiting_same r t d id (enter.Entered s) h = absurd (false≢true h)
+waiting_same r t d id enter.Empty h = (refl, refl, refl)
+waiting_same r t d id (enter.FullRing need free) h = (refl, refl, refl)
+waiting_same r t d id (enter.FullBlocks need free) h = (refl, refl, refl)
+
+-- a command that waits writes nothing
+pub region_waits : (r : RegionState) (t : TargetState) (c : CommandData) (id s : ℕ) → region_submitted r t c id (submit.Delayed s) ≡ r
+unfolding region_submitted
+region_waits r t c id s = refl

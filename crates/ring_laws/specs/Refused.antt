@@ -1,0 +1,22 @@
+-- Answers after which nothing has changed.
+use Rattle.std.specs.Prelude.{Bool, true, false}
+use Rattle.tcmu_types.specs.declared.answer.Submit.{Submit}
+use Rattle.tcmu_types.specs.declared.answer.Submit.TheVariants as submit
+use Rattle.tcmu_types.specs.declared.answer.Enter.{Enter}
+use Rattle.tcmu_types.specs.declared.answer.Enter.TheVariants as enter
+
+-- a command that is refused is not accepted
+abbrev pub is_refusal : Submit → Bool
+is_refusal (submit.Queued s) = false
+is_refusal (submit.Delayed s) = false
+is_refusal submit.Busy = true
+is_refusal (submit.TooBig have limit) = true
+is_refusal (submit.FullRing need free) = true
+is_refusal (submit.FullBlocks need free) = true
+
+-- no command enters
+abbrev pub is_waiting : Enter → Bool
+is_waiting (enter.Entered s) = false
+is_waiting enter.Empty = true
+is_waiting (enter.FullRing need free) = true
+is_waiting (enter.FullBlocks need free) = true
