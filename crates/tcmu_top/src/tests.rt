@@ -116,7 +116,7 @@ fn fault_lines(rt: HostRuntime) -> Result<(), Fail> {
         ("dump d0", Why::NotYet, "tcmu_lab: line 2: notyet\n"),
     ] {
         let input = format!(in alloc; "{DEVICE}{line}\nstat d0\n")?;
-        let (status, out, err) = run_words(alloc, "replay", input.as_bytes())?;
+        let (status, out, err) = run_words(alloc, &["replay"], input.as_bytes())?;
         assert_eq!(rt; status, bad(2, why), "at {line}");
         assert_eq!(rt; status.code(), 4);
         assert_eq!(rt; out.written(), b"".as_slice());
@@ -148,7 +148,7 @@ fn faults_of_whole_lines(rt: HostRuntime) -> Result<(), Fail> {
             "tcmu_lab: line 1: config\n",
         ),
     ] {
-        let (status, out, err) = run_words(alloc, "replay", input.as_bytes())?;
+        let (status, out, err) = run_words(alloc, &["replay"], input.as_bytes())?;
         assert_eq!(rt; status, bad(line, why), "at {input}");
         assert_eq!(rt; out.written(), b"".as_slice());
         assert_eq!(rt; err.written(), text.as_bytes(), "at {input}");
@@ -156,15 +156,18 @@ fn faults_of_whole_lines(rt: HostRuntime) -> Result<(), Fail> {
     Ok(())
 }
 
-/// The status of the program's call with one word, what it wrote, and what it told.
+/// The status of the program's call with these words, what it wrote, and what it told.
 fn run_words(
     alloc: Global,
-    word: &str,
+    given: &[&str],
     input: &[u8],
 ) -> Result<(Status, MemSink, MemSink), NoMemory> {
     let mut words = Words::new(alloc);
-    words.reserve(1)?;
-    words.push(Bytes::from_slice(alloc, word.as_bytes())?);
+    for word in given {
+        let word = Bytes::from_slice(alloc, word.as_bytes())?;
+        words.reserve(1)?;
+        words.push(word);
+    }
     let bytes = Bytes::from_slice(alloc, input)?;
     let mut src = MemSource::new(bytes, Serials::new(alloc));
     let mut out = MemSink::new(alloc, 4096, Serials::new(alloc))?;
@@ -189,10 +192,44 @@ fn words(rt: HostRuntime) -> Result<(), Fail> {
         ),
         ("live", "", Status::BadWords, 5, "tcmu_lab: words\n"),
     ] {
-        let (status, _out, err) = run_words(alloc, word, input.as_bytes())?;
+        let (status, _out, err) = run_words(alloc, &[word], input.as_bytes())?;
         assert_eq!(rt; status, want);
         assert_eq!(rt; status.code(), code);
         assert_eq!(rt; err.written(), line.as_bytes());
+    }
+    Ok(())
+}
+
+/// A load writes one line; its seed and its count are numbers within their limits, with no zero in front.
+#[test]
+fn loads(rt: HostRuntime) -> Result<(), Fail> {
+    let alloc = rt.alloc();
+    for (seed, count, want, text) in [
+        (
+            "0",
+            "0",
+            Status::Ok,
+            "load 0 0 queued 0 good 0 bytes 0 open 0\n",
+        ),
+        (
+            "0",
+            "1",
+            Status::Ok,
+            "load 0 1 queued 1 good 1 bytes 1024 open 0\n",
+        ),
+        (
+            "18446744073709551615",
+            "0",
+            Status::Ok,
+            "load 18446744073709551615 0 queued 0 good 0 bytes 0 open 0\n",
+        ),
+        ("18446744073709551616", "0", Status::BadWords, ""),
+        ("01", "1", Status::BadWords, ""),
+        ("0", "10001", Status::BadWords, ""),
+    ] {
+        let (status, out, _err) = run_words(alloc, &["load", seed, count], b"".as_slice())?;
+        assert_eq!(rt; status, want, "at {seed} {count}");
+        assert_eq!(rt; out.written(), text.as_bytes(), "at {seed} {count}");
     }
     Ok(())
 }
