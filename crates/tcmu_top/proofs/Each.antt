@@ -1,5 +1,5 @@
 -- A replay over several devices, as far as it has come.
-use Rattle.std.proofs.Common.{◌≡◌, ℕ, ◌+◌, ◌<◌, ◌≤◌, List, [], ◌∷◌, ◌++◌, length, map, take, drop, slice_get, slice_set, Option, Some, refl, sym, ap, ◌∙◌, arith, subst, append_assoc}
+use Rattle.std.proofs.Common.{◌≡◌, ℕ, List, [], ◌++◌, length, slice_get, slice_set, Option, Some, refl, sym, ap, ◌∙◌, subst, append_assoc}
 use Rattle.std.specs.List.{flat_map}
 use Rattle.std.proofs.lemmas.List.{append-nil, map-append, length-set, set-set}
 use Rattle.std.proofs.lemmas.List.Concat.{flat_map-append}
@@ -9,11 +9,11 @@ use Rattle.tcmu_model.specs.Device.{Device}
 use Rattle.tcmu_model.specs.Steps.{HandlerRelation, Run}
 use Rattle.tcmu_model.specs.Sound.{IsSound, Every}
 use Rattle.tcmu_model.specs.ScenarioData.{DeviceLineData}
-use Rattle.tcmu_model.specs.Several.{Journaled, RunLogs, IsLegalEach, journaled_text}
+use Rattle.tcmu_model.specs.Several.{Journaled, IsLegalEach, journaled_text}
 use Rattle.tcmu_model.proofs.Everies.{every-front, every-back}
 use Rattle.tcmu_model.proofs.Runs.{sound_run}
-use Rattle.tcmu_top.specs.Playing.{run_text, Wrote, WroteFront, WroteOn, WroteOnFront, WroteEach, WroteEachFront}
-use Rattle.tcmu_top.proofs.Legal.{entries, AreOf, Piece, piece_of, piece_text, legal_none, legal_one, legal_append}
+use Rattle.tcmu_top.specs.Playing.{WroteOn, WroteOnFront, WroteEach, WroteEachFront}
+use Rattle.tcmu_top.proofs.Legal.{entries, AreOf, piece_of, piece_text, legal_none, legal_one, legal_append}
 use Rattle.tcmu_top.proofs.Places.{get_set_same, every_get, every_set}
 use Rattle.tcmu_top.proofs.RunTexts.{run_append}
 use Rattle.tcmu_top.proofs.Telling.{gained_none, gained_more, gained_as, front_behind}

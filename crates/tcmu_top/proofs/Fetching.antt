@@ -6,7 +6,7 @@ use Rattle.std.proofs.lemmas.Bool.{cases_Bool, cases_lt, le-ltb, or_parts}
 use Rattle.std.proofs.lemmas.List.{append-nil, map-append, take_more, drop_more, take-append-drop}
 use Rattle.std.proofs.lemmas.Option.{slice_get_within, slice_get_read, get_or_from_slice_get}
 use Rattle.std.proofs.lemmas.Slice.Eq.{bytes_eq-Decides}
-use Rattle.edge.specs.Stores.{StoreState, Content, store_of, Place, missing, out, at_home, FilesState, with_place, fetch_fails, one_more_fetch, after_fetch, Opened}
+use Rattle.edge.specs.Stores.{StoreState, Content, store_of, out, at_home, FilesState, fetch_fails, one_more_fetch, after_fetch, Opened}
 use Rattle.tcmu_model.specs.MediumState.{MediumState}
 use Rattle.tcmu_model.specs.Device.{Device, opening}
 use Rattle.tcmu_model.specs.Config.{ConfigData, MediumData, InMemory, InFile}
@@ -18,7 +18,7 @@ use Rattle.media.specs.Opening as made
 use Rattle.media.specs.declared.make.MakeFault.{MakeFault}
 use Rattle.media.specs.declared.make.MakeFault.TheVariants as fault
 use Rattle.tcmu_top.specs.Playing.{states_of}
-use Rattle.tcmu_top.specs.Opened.{OpensMemory, OpensFile, OpensKind, Opens, OpenEach, name_in, file_names, a_fetch_fails, is_named, SameOthers, OthersStay, after_fetches, Fetched, AreOpen, Made, Unopened, OwnFiles}
+use Rattle.tcmu_top.specs.Opened.{OpensFile, OpensKind, Opens, OpenEach, name_in, file_names, a_fetch_fails, OthersStay, after_fetches, Fetched, AreOpen, Made, Unopened, OwnFiles}
 use Rattle.tcmu_top.proofs.Telling.{rose_later}
 
 -- ==== names

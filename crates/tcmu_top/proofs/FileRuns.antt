@@ -1,5 +1,5 @@
 -- A device over a file stays one, and tells its bytes as it did before, behind every run.
-use Rattle.std.proofs.Common.{◌≡◌, ℕ, List, [], ◌∷◌, Option, is_some, refl, sym, ◌∙◌, subst}
+use Rattle.std.proofs.Common.{◌≡◌, List, [], ◌∷◌, is_some, refl, sym, ◌∙◌, subst}
 use Rattle.tcmu_types.specs.Events.{EventData, AnswerData}
 use Rattle.tcmu_types.specs.Events as ev
 use Rattle.tcmu_types.specs.declared.answer.Handle.TheVariants as handle

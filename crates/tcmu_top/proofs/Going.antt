@@ -1,5 +1,5 @@
 -- A replay over several devices goes on by the drain of one, or by a line.
-use Rattle.std.proofs.Common.{◌≡◌, ℕ, suc, ◌+◌, ◌<◌, ◌≤◌, ◌^◌, List, [], ◌∷◌, ◌++◌, length, get_or, drop, slice_get, slice_set, Option, Some, refl, sym, ap, ◌∙◌, arith, subst}
+use Rattle.std.proofs.Common.{◌≡◌, ℕ, ◌+◌, ◌<◌, ◌≤◌, List, ◌∷◌, length, get_or, drop, slice_set, Option, refl, sym, ap, ◌∙◌, arith, subst}
 use Rattle.std.proofs.lemmas.List.{length-set, drop_more}
 use Rattle.tcmu_types.specs.Events.{EntryData}
 use Rattle.tcmu_model.specs.Device.{Device}

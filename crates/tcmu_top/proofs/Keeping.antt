@@ -1,11 +1,11 @@
 -- The files are given back one after another, from the last device on.
-use Rattle.std.proofs.Common.{◌≡◌, ◌≢◌, ℕ, zero, suc, ◌+◌, ◌-◌, ◌<◌, ◌≤◌, Bool, true, false, List, [], ◌∷◌, ◌++◌, length, take, slice_get, Option, Some, None, IfSome, is_some, bytes_eq, refl, sym, ap, ◌∙◌, arith, subst, ⊎_elim}
+use Rattle.std.proofs.Common.{◌≡◌, ℕ, zero, suc, ◌+◌, ◌-◌, ◌<◌, ◌≤◌, Bool, true, false, List, [], ◌∷◌, length, take, slice_get, Option, Some, None, IfSome, is_some, bytes_eq, refl, sym, ap, ◌∙◌, arith, subst, ⊎_elim}
 use Rattle.std.specs.List.{list_any}
 use Rattle.std.specs.Option.{option_map}
 use Rattle.std.proofs.lemmas.Bool.{cases_eq, or_parts, false≢true}
 use Rattle.std.proofs.lemmas.List.{length-map, length-take-le, take-take, take-map}
 use Rattle.std.proofs.lemmas.Option.{same_Some, slice_get_within}
-use Rattle.edge.specs.Stores.{StoreState, Content, store_of, Place, missing, out, at_home, FilesState, with_place, after_fetch, given_back, after_keep}
+use Rattle.edge.specs.Stores.{StoreState, Content, store_of, out, at_home, FilesState, after_fetch, given_back, after_keep}
 use Rattle.tcmu_model.specs.MediumState.{Layer, memory, file, overlay, write_back, Below, MediumState}
 use Rattle.tcmu_model.specs.Medium.{blanked}
 use Rattle.tcmu_model.specs.Device.{Device}
@@ -16,7 +16,7 @@ use Rattle.device_set.specs.Sets.{devices}
 use Rattle.tcmu_top.specs.Playing.{states_of}
 use Rattle.tcmu_top.specs.Opened.{name_in, file_names, is_named, Holds, SameOthers, Kept, OwnFiles, TellFiles, Returns, KeepsEach, after_fetches}
 use Rattle.tcmu_top.proofs.Places.{get_within}
-use Rattle.tcmu_top.proofs.Fetching.{IsFree, bytes_same, bytes_differ, bytes_turned, place_free, place_out}
+use Rattle.tcmu_top.proofs.Fetching.{bytes_same, place_free, place_out}
 
 -- the name of a device line's file is no other name
 named_differs : (ls : List DeviceLineData) (at : ℕ) (l : DeviceLineData) (name other : List ℕ) → slice_get ls at ≡ Some l → l.config.kind ≡ InFile name → is_named ls other ≡ false → bytes_eq other name ≡ false

@@ -1,5 +1,5 @@
 -- One place of a list, read and written.
-use Rattle.std.proofs.Common.{◌≡◌, ℕ, zero, suc, ◌+◌, ◌<◌, List, [], ◌∷◌, length, take, drop, slice_get, slice_set, Option, Some, refl, sym, ap, ◌∙◌, arith, subst}
+use Rattle.std.proofs.Common.{◌≡◌, ℕ, zero, suc, ◌<◌, List, [], ◌∷◌, length, take, drop, slice_get, slice_set, Some, refl, ap, ◌∙◌, arith, subst}
 use Rattle.std.proofs.lemmas.Option.{same_Some}
 use Rattle.tcmu_model.specs.Sound.{Every}
 

@@ -1,8 +1,8 @@
 -- A drain and a replay, as far as they have come.
-use Rattle.std.proofs.Common.{◌&&◌, nat_lt, Bool, true, false, ⊎_elim, ◌≡◌, ℕ, ◌+◌, ◌<◌, ◌≤◌, List, [], ◌∷◌, ◌++◌, length, get_or, drop, Option, Some, None, refl, sym, ap, ◌∙◌, arith, subst, append_assoc, length-append, inl, inr}
+use Rattle.std.proofs.Common.{◌&&◌, nat_lt, Bool, true, false, ⊎_elim, ◌≡◌, ℕ, ◌+◌, ◌<◌, ◌≤◌, List, [], ◌∷◌, ◌++◌, length, drop, Option, Some, None, refl, sym, ap, ◌∙◌, arith, subst, length-append, inl, inr}
 use Rattle.std.specs.Option.{option_map}
 use Rattle.std.proofs.lemmas.Bool.{cases_Bool, ltb-true}
-use Rattle.std.proofs.lemmas.List.{append-nil, drop_more, drop_all}
+use Rattle.std.proofs.lemmas.List.{append-nil}
 use Rattle.tcmu_types.specs.Data.{DoneData}
 use Rattle.tcmu_types.specs.Rules.{IsCommand}
 use Rattle.tcmu_types.specs.Events.{EventData, AnswerData, EntryData}
@@ -33,7 +33,7 @@ use Rattle.tcmu_model.specs.ScenarioRules.{IsEvent}
 use Rattle.tcmu_top.specs.Tasks.{IsFit, CanBeMade}
 use Rattle.tcmu_top.proofs.Telling.{gained_none, gained_more, gained_as, front_none, front_whole, front_behind}
 use Rattle.tcmu_top.proofs.RunTexts.{run_append, text_more, text_one, drop_front}
-use Rattle.tcmu_model.proofs.Runs.{sound_step, sound_run}
+use Rattle.tcmu_model.proofs.Runs.{sound_step}
 use Rattle.tcmu_model.proofs.DrainEnds.{drain_ends, rows_commands}
 
 -- ==== runs

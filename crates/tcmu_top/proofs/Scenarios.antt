@@ -1,31 +1,29 @@
 -- How the replay of a scenario ends, from what its parts say.
-use Rattle.std.proofs.Common.{◌≡◌, ◌⊎◌, ℕ, zero, suc, ◌<◌, ◌/◌, Bool, true, false, List, [], ◌∷◌, ◌++◌, length, slice_get, Option, Some, None, Ok, Err, IfSome, is_some, refl, sym, ap, ◌∙◌, arith, subst, inl, inr}
-use Rattle.std.specs.List.{All, AllPairs}
-use Rattle.std.specs.Option.{option_map}
+use Rattle.std.proofs.Common.{◌≡◌, ◌⊎◌, ℕ, zero, suc, ◌<◌, ◌/◌, true, false, List, [], ◌∷◌, length, slice_get, Option, Some, None, Ok, Err, IfSome, is_some, refl, sym, ap, ◌∙◌, subst, inl, inr}
+use Rattle.std.specs.List.{AllPairs}
 use Rattle.std.proofs.lemmas.Bool.{lt-ltb}
-use Rattle.std.proofs.lemmas.Option.{slice_get_within, same_Some}
+use Rattle.std.proofs.lemmas.Option.{same_Some}
 use Rattle.tcmu_types.specs.Numbered.{Rose}
-use Rattle.edge.specs.Stores.{StoreState, Content, store_of, at_home, FilesState}
+use Rattle.edge.specs.Stores.{StoreState, FilesState}
 use Rattle.edge.specs.Outside.{Tells}
 use Rattle.tcmu_model.specs.MediumState.{MediumState, file}
 use Rattle.tcmu_model.specs.Medium.{opened_medium, file_below}
 use Rattle.tcmu_model.specs.Scsi.{Serves}
-use Rattle.tcmu_model.specs.Device.{Device, opening}
+use Rattle.tcmu_model.specs.Device.{Device}
 use Rattle.tcmu_model.specs.Said.{same_file}
-use Rattle.tcmu_model.specs.Config.{MediumData, InMemory, InFile}
-use Rattle.tcmu_model.specs.ScenarioData.{DeviceLineData, LineData, ScenarioData}
+use Rattle.tcmu_model.specs.Config.{MediumData, InFile}
+use Rattle.tcmu_model.specs.ScenarioData.{DeviceLineData, ScenarioData}
 use Rattle.tcmu_model.specs.Scenario.{Bad, scenario_of}
 use Rattle.tcmu_model.specs.ScenarioRules.{IsScenario}
-use Rattle.tcmu_model.specs.Several.{Journaled, is_of, RunLogs, IsLegalEach, IsReplayOf}
+use Rattle.tcmu_model.specs.Several.{Journaled, is_of, IsLegalEach}
 use Rattle.tcmu_model.specs.declared.faults.Why.TheVariants as why
 use Rattle.tcmu_top.specs.declared.status.Status.{Status}
 use Rattle.tcmu_top.specs.declared.status.Status.TheVariants as status
 use Rattle.tcmu_top.specs.Playing.{AreOpened}
-use Rattle.tcmu_top.specs.Opened.{OpensFile, OpensKind, Opens, OpenEach, file_names, a_fetch_fails, OthersStay, KeptFiles, Fetched, AreOpen, AFileLacks, OwnFiles, TellFiles, KeepsEach, after_fetches}
-use Rattle.tcmu_top.specs.Top.{Replayed, ReplayedInPart, IsTextOf, TextWritten, TextWrittenInPart, CutShort, Wanting, LacksFile, Untouched, Had, too_long, ScenarioEnds, BytesEnd, Ends}
+use Rattle.tcmu_top.specs.Opened.{OpensFile, OpensKind, Opens, OpenEach, file_names, OthersStay, KeptFiles, Fetched, AreOpen, AFileLacks, TellFiles, KeepsEach}
+use Rattle.tcmu_top.specs.Top.{Replayed, ReplayedInPart, TextWritten, TextWrittenInPart, CutShort, Wanting, LacksFile, Untouched, Had, too_long, ScenarioEnds, BytesEnd, Ends}
 use Rattle.tcmu_top.proofs.Fetching.{others_stay, own_files}
 use Rattle.tcmu_top.proofs.FileRuns.{run_stays}
-use Rattle.tcmu_top.proofs.Telling.{gained_none}
 use Rattle.std.proofs.lemmas.List.{append-nil}
 use Rattle.std.specs.List.{filter}
 

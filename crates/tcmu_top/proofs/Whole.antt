@@ -1,11 +1,10 @@
 -- The text of a whole replay of several devices, and fronts of one.
-use Rattle.std.proofs.Common.{◌≡◌, ℕ, zero, suc, ◌+◌, ◌<◌, ◌≤◌, true, false, List, [], ◌∷◌, ◌++◌, length, take, drop, slice_get, slice_set, Option, Some, refl, sym, ap, ◌∙◌, arith, subst, append_assoc, inl, inr, add-one}
+use Rattle.std.proofs.Common.{◌≡◌, ℕ, zero, suc, ◌+◌, ◌<◌, ◌≤◌, true, false, List, [], ◌∷◌, ◌++◌, length, take, drop, slice_get, Option, Some, refl, sym, ap, ◌∙◌, arith, subst, append_assoc, inl, inr, add-one}
 use Rattle.std.specs.List.{flat_map, All}
 use Rattle.std.proofs.lemmas.List.{append-nil}
 use Rattle.std.proofs.lemmas.List.Concat.{flat_map-append}
 use Rattle.std.proofs.lemmas.List.Elements.{All-tail}
 use Rattle.edge.specs.Outside.{Gained, GainedFront}
-use Rattle.tcmu_types.specs.Events.{EntryData}
 use Rattle.tcmu_model.specs.Device.{Device, DeviceState}
 use Rattle.tcmu_model.specs.Steps.{HandlerRelation}
 use Rattle.tcmu_model.specs.Sound.{IsSound, Every}
@@ -23,8 +22,7 @@ use Rattle.tcmu_top.specs.Tasks.{IsFit, IsFitFor}
 use Rattle.tcmu_top.specs.Top.{Replayed, ReplayedInPart}
 use Rattle.tcmu_top.proofs.Endings.{ending_lines}
 use Rattle.tcmu_top.proofs.Legal.{entries, legal_none}
-use Rattle.tcmu_top.proofs.Places.{get_within}
-use Rattle.tcmu_top.proofs.Telling.{gained_more, front_first, front_whole, front_more, front_behind}
+use Rattle.tcmu_top.proofs.Telling.{gained_more, front_first, front_more, front_behind}
 
 -- ==== the parts of the text
 

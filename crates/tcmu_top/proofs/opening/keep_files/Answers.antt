@@ -1,7 +1,6 @@
-use Rattle.std.proofs.Common.{◌≡◌, ◌+◌, ◌<◌, ◌≤◌, length, refl, sym, ap, subst, arith, slice_get, Some}
+use Rattle.std.proofs.Common.{◌≡◌, length, refl, sym, subst, arith, slice_get, Some}
 use Rattle.std.proofs.lemmas.List.{length-map, take_all}
 use Rattle.std.proofs.lemmas.Option.{slice_get_read, slice_get_within}
-use Rattle.tcmu_model.specs.Device.{Device}
 use Rattle.tcmu_top.specs.Playing.{states_of}
 use Rattle.tcmu_top.proofs.Keeping.{KeptFrom, kept_first, kept_more, kept_done, popped, popped_none}
 use Rattle.tcmu_top.proofs.opening.keep_files.Goals as goal

@@ -1,11 +1,11 @@
-use Rattle.std.proofs.Common.{◌≡◌, ◌∙◌, ℕ, ◌+◌, ◌<◌, ◌≤◌, ◌^◌, List, length, sym, ap, subst, arith}
+use Rattle.std.proofs.Common.{◌∙◌, ◌+◌, ◌<◌, ◌≤◌, ◌^◌, List, length, sym, ap, subst, arith}
 use Rattle.std.specs.List.{flat_map}
 use Rattle.std.proofs.lemmas.Result.{on_ok_weaker, on_err_weaker}
 use Rattle.edge.specs.Outside.{Gained, GainedFront}
 use Rattle.tcmu_model.specs.Device.{Device}
 use Rattle.tcmu_model.specs.ScenarioData.{ScenarioData, DeviceLineData, LineData}
 use Rattle.tcmu_model.specs.Several.{ReplaysEach, ends_text}
-use Rattle.tcmu_model.specs.Sound.{IsSound, Every}
+use Rattle.tcmu_model.specs.Sound.{Every}
 use Rattle.tcmu_model.specs.Text.{device_text}
 use Rattle.tcmu_model.proofs.Everies.{every-weaker}
 use Rattle.tcmu_top.specs.Playing.{states_of, WroteEach, WroteEachFront}

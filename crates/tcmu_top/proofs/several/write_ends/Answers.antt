@@ -1,12 +1,11 @@
-use Rattle.std.proofs.Common.{◌+◌, ◌<◌, ◌≤◌, ◌^◌, suc, length, take, drop, refl, sym, ap, subst, arith}
-use Rattle.std.proofs.lemmas.List.{take_all}
+use Rattle.std.proofs.Common.{◌<◌, ◌^◌, suc, length, take, drop, refl, sym, arith}
 use Rattle.std.proofs.lemmas.Option.{slice_get_read}
 use Rattle.tcmu_model.specs.Device.{Device}
 use Rattle.tcmu_model.specs.Sound.{IsSound}
 use Rattle.tcmu_model.specs.Several.{ends_text}
 use Rattle.tcmu_top.specs.Playing.{states_of}
 use Rattle.tcmu_top.proofs.Places.{every_get}
-use Rattle.tcmu_top.proofs.Sets.{states_get, states_count}
+use Rattle.tcmu_top.proofs.Sets.{states_get}
 use Rattle.tcmu_top.proofs.Telling.{on_err, front_more, gained_more, gained_as}
 use Rattle.tcmu_top.proofs.Whole.{last_text, ends_more, ends_at}
 use Rattle.tcmu_top.proofs.several.write_ends.Goals as goal

@@ -1,4 +1,4 @@
-use Rattle.std.proofs.Common.{◌≡◌, ◌∙◌, ap, sym, subst, List, length, Err}
+use Rattle.std.proofs.Common.{◌∙◌, ap, sym, subst, List, length, Err}
 use Rattle.tcmu_model.specs.ScenarioData.{ScenarioData, DeviceLineData}
 use Rattle.tcmu_top.specs.Opened.{KeepsEach}
 use Rattle.tcmu_top.specs.Playing.{states_of}

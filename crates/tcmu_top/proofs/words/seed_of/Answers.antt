@@ -1,4 +1,4 @@
-use Rattle.std.proofs.Common.{◌≡◌, ◌+◌, ◌-◌, ◌^◌, ℕ, take, ◌∙◌, sym, ap, Some, arith}
+use Rattle.std.proofs.Common.{◌≡◌, ◌+◌, ℕ, take, ◌∙◌, sym, ap, Some, arith}
 use Rattle.std.specs.Str.Parse.{digits_value}
 use Rattle.std.proofs.lemmas.List.{take_all}
 use Rattle.std.proofs.lemmas.Str.Parse.{digits_value-take-le}
