@@ -71,7 +71,7 @@ side_waits user d c s h =
 
 pub lists_wait : (d : DeviceState) (lists : List Taken) (c : CommandData) (s : ℕ) → ListsSound d lists → ListsSound (after_submit d c (submit.Delayed s)) lists
 unfolding after_submit with_delayed
-lists_wait d lists c s h = record { listed = h.listed; differ = h.differ; below = h.below; sizes = h.sizes; spans = h.spans }
+lists_wait d lists c s h = record { listed = h.listed; differ = h.differ; below = h.below; sizes = h.sizes; spans = h.spans; statuses = h.statuses }
 
 -- ==== nothing changes
 

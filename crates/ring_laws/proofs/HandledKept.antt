@@ -1,6 +1,7 @@
 -- A handler answers: the command has its reply, which no entry has yet.
 use Rattle.std.proofs.Common.{◌≡◌, ◌≢◌, ℕ, ◌<◌, ◌&&◌, ◌||◌, Bool, true, false, not, cond, List, [], ◌∷◌, ◌++◌, length, map, filter, refl, sym, ap, ◌∙◌, Option, Some, None, slice_get, subst, ⊎_elim, eqb, suc, zero}
 use Rattle.std.specs.Bool.{MatchBool}
+use Rattle.std.specs.Prelude.{IfSome}
 use Rattle.std.specs.Option.{is_some}
 use Rattle.std.proofs.lemmas.Bool.{cases_Bool, eqb-true, eqb-false, ne_eqb, false≢true, and_parts, or_parts, or_left}
 use Rattle.tcmu_types.specs.Data.{CommandData, ReplyData}
@@ -139,13 +140,14 @@ unfolding after_handle
 side_handled user d s reply h =
     record { ring = h.ring; pages = h.pages; flags = h.flags; tail = h.tail; dispatched = h.dispatched; placed = h.placed; published = h.published; place = h.place; items = h.items }
 
-pub lists_handled : (d : DeviceState) (lists : List Taken) (s : ℕ) (reply : ReplyData) → ListsSound d lists → ListsSound (after_handle d s reply) lists
+pub lists_handled : (d : DeviceState) (lists : List Taken) (s : ℕ) (reply : ReplyData) → reply.status < 256 → ListsSound d lists → ListsSound (after_handle d s reply) lists
 unfolding after_handle
-lists_handled d lists s reply h =
+lists_handled d lists s reply small h =
     record {
       listed = h.listed;
       differ = subst Differ (sym (held_handled lists s reply d.unfinished)) h.differ;
       below = subst (Every (λ (k : ℕ). k < d.settings.blocks)) (sym (held_handled lists s reply d.unfinished)) h.below;
       sizes = every-with_first (is_at s Out) (with_reply reply) (λ (u : Unfinished). length (list_of lists u.serial) ≡ blocks_of d.settings.pages u.command) d.unfinished (λ u k p. p) h.sizes;
       spans = h.spans;
+      statuses = every-with_first (is_at s Out) (with_reply reply) (λ (u : Unfinished). IfSome u.reply (λ r. r.status < 256)) d.unfinished (λ u k p. small) h.statuses;
     }

@@ -179,4 +179,5 @@ lists_kept d lists h =
           (λ u q. ap length (list_kept d lists u.serial q.0) ∙ q.1)
           (every-both (λ (u : Unfinished). StillListed d u.serial) (λ (u : Unfinished). length (list_of lists u.serial) ≡ blocks_of d.settings.pages u.command) d.unfinished (own_listed d) h.sizes);
       spans = λ i n s c l g. ap length (list_kept d lists s (item_listed d i n s c l g)) ∙ h.spans i n s c l g;
+      statuses = h.statuses;
     }

@@ -1,4 +1,5 @@
 -- A command is laid: the block lists stay sound.
+use Rattle.std.specs.Prelude.{IfSome}
 use Rattle.std.proofs.Common.{◌≡◌, ℕ, ◌+◌, ◌≤◌, ◌<◌, ◌||◌, true, false, List, [], ◌∷◌, ◌++◌, length, refl, sym, ap, ◌∙◌, arith, append_assoc, append-nil, subst, eqb}
 use Rattle.std.proofs.lemmas.Bool.{eqb-false, eq-eqb, ne_eqb, false≢true, or_parts}
 use Rattle.tcmu_types.specs.Data.{CommandData}
@@ -88,6 +89,7 @@ lists_sound_laid d lists s c sound owned room above =
       sizes = every-append (λ (v : Unfinished). length (list_of lists' v.serial) ≡ blocks_of d.settings.pages v.command) d.unfinished (u ∷ [])
           (sizes_same d.settings.pages lists lists' s d.unfinished old rows owned.sizes) (ap length mine ∙ ln, tt);
       spans = λ i n' q c' cl g. spans_case i n' q c' cl (laid_case d.ring it i (record { len = n'; laid = ring.Cmd q c' }) g) old (ap length mine ∙ ln);
+      statuses = every-append (λ (u : Unfinished). IfSome u.reply (λ r. r.status < 256)) d.unfinished (u ∷ []) owned.statuses (tt, tt);
     }
   where
     spans_case : (i n' q : ℕ) (c' : CommandData) → d.ring.cleared ≤ i → LaidCase d.ring (cmd_item d s c) i (record { len = n'; laid = ring.Cmd q c' }) →

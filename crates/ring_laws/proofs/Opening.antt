@@ -46,7 +46,7 @@ pub flags-again : (f : Flags) → flags_in (device_mailbox f 0 0 0).flags ≡ f
 flags-again f = flags_of_bits f.ooo f.read_len f.tmr
 
 pub lists_sound_opening : (s : SettingsData) → ListsSound (opening_state s) []
-lists_sound_opening s = record { listed = tt; differ = tt; below = tt; sizes = tt; spans = λ i n q c l g. absurd (cc) }
+lists_sound_opening s = record { listed = tt; differ = tt; below = tt; sizes = tt; spans = λ i n q c l g. absurd (cc); statuses = tt }
 
 pub represents_opening : (s : SettingsData) → IsSettings s → Represents (opening_region s) (opening_target s) (opening_user s) [] (opening_state s) []
 unfolding opening_target opening_user

@@ -140,4 +140,4 @@ unfolding after_submit with_command
 lists_submitted d lists s c sound owned h =
     let q = queued_room d c s sound h in
     let k : ListsSound (with_command d s c) (with_taken d lists s c) = lists_sound_laid d lists s c sound owned q.0 (above_accepted d s sound q.1) in
-    record { listed = k.listed; differ = k.differ; below = k.below; sizes = k.sizes; spans = k.spans }
+    record { listed = k.listed; differ = k.differ; below = k.below; sizes = k.sizes; spans = k.spans; statuses = k.statuses }

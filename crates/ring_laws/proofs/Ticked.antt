@@ -1,4 +1,5 @@
 -- A tick, a block and an unblock: the region stays as it is, and the target's records follow the device.
+use Rattle.std.specs.Prelude.{IfSome}
 use Rattle.std.proofs.Common.{◌≡◌, ℕ, ◌<◌, ◌⊎◌, Bool, true, false, not, cond, List, [], ◌∷◌, ◌++◌, length, take, drop, map, filter, refl, sym, ap, ◌∙◌, Option, Some, None, slice_get, subst, ⊎_elim, eqb}
 use Rattle.std.specs.Bool.{MatchBool}
 use Rattle.std.proofs.lemmas.Bool.{cases_Bool}
@@ -101,7 +102,7 @@ side_blocked user d b h =
 
 pub lists_blocked : (d : DeviceState) (lists : List Taken) (b : Bool) → ListsSound d lists → ListsSound (after_block d b) lists
 unfolding after_block
-lists_blocked d lists b h = record { listed = h.listed; differ = h.differ; below = h.below; sizes = h.sizes; spans = h.spans }
+lists_blocked d lists b h = record { listed = h.listed; differ = h.differ; below = h.below; sizes = h.sizes; spans = h.spans; statuses = h.statuses }
 
 -- ==== tick: the commands
 
@@ -368,4 +369,5 @@ lists_ticked d lists n h =
       sizes = every-map (expire now) (λ (u : Unfinished). length (list_of lists u.serial) ≡ blocks_of d.settings.pages u.command) (λ (u : Unfinished). length (list_of lists u.serial) ≡ blocks_of d.settings.pages u.command) d.unfinished
           (λ u p. blind (λ (v : Unfinished). length (list_of lists v.serial) ≡ blocks_of d.settings.pages v.command) now u (λ v b q. q) p) h.sizes;
       spans = h.spans;
+      statuses = every-map (expire now) (λ (u : Unfinished). IfSome u.reply (λ r. r.status < 256)) (λ (u : Unfinished). IfSome u.reply (λ r. r.status < 256)) d.unfinished (λ u p. blind (λ (u : Unfinished). IfSome u.reply (λ r. r.status < 256)) now u (λ v b q. q) p) h.statuses;
     }

@@ -1,5 +1,5 @@
 //! What the answer of a handler keeps: the region and both sides' records stay as they are.
-ghost use Rattle.std.specs.Prelude.{◌≡◌, ℕ, List, Option, Some};
+ghost use Rattle.std.specs.Prelude.{◌≡◌, ◌<◌, ℕ, List, Option, Some};
 ghost use Rattle.tcmu_types.specs.Data.{ReplyData};
 ghost use Rattle.tcmu_model.specs.Device.{Unfinished, DeviceState};
 ghost use Rattle.tcmu_model.specs.Events.{after_handle, command_out};
@@ -19,5 +19,5 @@ pub fn handle_law()
         BlocksStand area d lists → BlocksStand area (after_handle d s reply) lists }
     ensures target { (t : TargetState) (d : DeviceState) (lists : List Taken) (s : ℕ) (reply : ReplyData) → TargetKeeps t d lists → TargetKeeps t (after_handle d s reply) lists }
     ensures side { (user : UserState) (d : DeviceState) (s : ℕ) (reply : ReplyData) → UserKeeps user d → UserKeeps user (after_handle d s reply) }
-    ensures lists { (d : DeviceState) (lists : List Taken) (s : ℕ) (reply : ReplyData) → ListsSound d lists → ListsSound (after_handle d s reply) lists }
+    ensures lists { (d : DeviceState) (lists : List Taken) (s : ℕ) (reply : ReplyData) → reply.status < 256 → ListsSound d lists → ListsSound (after_handle d s reply) lists }
 {}
