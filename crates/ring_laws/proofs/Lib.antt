@@ -29,3 +29,9 @@ pub mod Completing
 pub mod KeptLists
 pub mod DelayedKept
 pub mod HandledKept
+pub mod TakenOut
+pub mod CleanedOne
+pub mod CleanedAll
+pub mod CleanedKept
+pub mod CleanedRing
+pub mod CleanedJobs

@@ -13,7 +13,7 @@ mod ticking;
 mod waiting;
 mod worked;
 
-pub use cleaning::completion_law;
+pub use cleaning::{clean_law, completion_law};
 pub use handling::handle_law;
 pub use kept_lists::kept_law;
 pub use laws::{answering_law, enter_law, laying_law, opening_law, submit_law};

@@ -1,0 +1,243 @@
+-- What a clean keeps of the blocks, of the jobs and of the block lists.
+use Rattle.std.proofs.Common.{◌≡◌, ◌≢◌, ℕ, ◌+◌, ◌≤◌, ◌<◌, ◌||◌, ◌&&◌, Bool, true, false, cond, List, [], ◌∷◌, ◌++◌, length, take, map, filter, refl, sym, ap, ◌∙◌, arith, suc, zero, Option, Some, None, slice_get, subst, ⊎_elim, eqb, append_assoc}
+use Rattle.std.specs.Prelude.{IfSome}
+use Rattle.std.specs.Bool.{MatchBool}
+use Rattle.std.specs.Option.{is_some}
+use Rattle.std.proofs.lemmas.Bool.{cases_Bool, true≢false, false≢true, or_parts, or_left, or_right}
+use Rattle.tcmu_types.specs.Data.{ReplyData, SettingsData}
+use Rattle.tcmu_model.specs.declared.state.CommandState.TheVariants.{Placed}
+use Rattle.tcmu_model.specs.declared.state.CommandState.TheVariants as state
+use Rattle.tcmu_model.specs.Lists.{first_of, without_first, above_all}
+use Rattle.tcmu_model.specs.Lengths.{blocks_of, block_size}
+use Rattle.tcmu_model.specs.RingState.{serials_in}
+use Rattle.tcmu_model.specs.Device.{Unfinished, DeviceState, has_state, is_at}
+use Rattle.tcmu_model.specs.Events.{is_among, is_in_hand, after_clean, answered, cleaned_books, books, Books, finish, finish_all}
+use Rattle.tcmu_model.specs.Sound.{IsSound, Every, Differ}
+use Rattle.tcmu_model.specs.BlockLists.{Taken, list_of, held_by}
+use Rattle.tcmu_model.specs.Regions.{RegionState, shrunk_to}
+use Rattle.tcmu_model.proofs.Counts.{state_at}
+use Rattle.tcmu_model.proofs.Firsts.{without_first_missing}
+use Rattle.tcmu_model.proofs.Everies.{every-weaker, every-both, every-filter, every-passes, every-without_first, every-front, every-back, every-append}
+use Rattle.tcmu_model.proofs.Rises.{among-append, among_every}
+use Rattle.tcmu_model.proofs.SoundClean.{answered_placed}
+use Rattle.ring_laws.specs.Areas.{IsLent}
+use Rattle.ring_laws.specs.Sides.{GivenJob, InHand, JobState, PendingRow, TargetState, UserState}
+use Rattle.ring_laws.specs.Represents.{AreGiven, AreOut, BlocksOf, BlocksStand, IsJobOf, JobsStand, id_of, is_out}
+use Rattle.ring_laws.specs.TargetSteps.{blocks_held}
+use Rattle.ring_laws.specs.TargetCleans.{region_cleaned, target_cleaned}
+use Rattle.ring_laws.specs.Owned.{ListsSound}
+use Rattle.ring_laws.specs.Cleaned.{CanClean}
+use Rattle.ring_laws.proofs.Agree.{held-same}
+use Rattle.ring_laws.proofs.LaidBlocks as laid
+use Rattle.ring_laws.proofs.LaidBlocks.{own-among, covered, stand-other}
+use Rattle.ring_laws.proofs.CleanedAll.{cleaned-at}
+use Rattle.ring_laws.proofs.CleanedKept.{target_cleaned_keeps}
+
+-- ==== the commands that are left
+
+abbrev taken_all : List Unfinished → List ℕ → List Unfinished
+taken_all us [] = us
+taken_all us (s ∷ ss) = taken_all (without_first (is_at s Placed) us) ss
+
+finish-taken : (rl : Bool) (b : Books) (s : ℕ) (o : Option Unfinished) → first_of (is_at s Placed) b.unfinished ≡ o → (finish rl b s).unfinished ≡ without_first (is_at s Placed) b.unfinished
+finish-taken rl b s None h = rw (finish, h) (sym (without_first_missing (is_at s Placed) b.unfinished h))
+finish-taken rl b s (Some u) h = rw (finish, h) refl
+
+all-taken : (rl : Bool) (b : Books) (ss : List ℕ) → (finish_all rl b ss).unfinished ≡ taken_all b.unfinished ss
+all-taken rl b [] = refl
+all-taken rl b (s ∷ ss) = all-taken rl (finish rl b s) ss ∙ ap (λ us. taken_all us ss) (finish-taken rl b s (first_of (is_at s Placed) b.unfinished) refl)
+
+left_are : (d : DeviceState) → (cleaned_books d).unfinished ≡ taken_all d.unfinished (answered d)
+left_are d = all-taken d.settings.flags.read_len (books d) (answered d)
+
+every-left : (P : Unfinished → Type 0) (us : List Unfinished) (ss : List ℕ) → Every P us → Every P (taken_all us ss)
+every-left P us [] e = e
+every-left P us (s ∷ ss) e = every-left P (without_first (is_at s Placed) us) ss (every-without_first (is_at s Placed) P us e)
+
+-- what holds of no placed command picks out the same commands as before
+filter-taken : (p : Unfinished → Bool) (s : ℕ) (us : List Unfinished) → ((u : Unfinished) → u.state ≡ Placed → p u ≡ false) → filter p (without_first (is_at s Placed) us) ≡ filter p us
+filter-taken p s [] h = refl
+filter-taken p s (u ∷ us) h =
+    ⊎_elim
+    (λ (e : is_at s Placed u ≡ true). let n : p u ≡ false = h u (state_at s Placed u e) in rw (e, n) refl)
+    (λ (e : is_at s Placed u ≡ false).
+    ⊎_elim
+    (λ (n : p u ≡ true). rw (e, n) (ap (λ xs. u ∷ xs) (filter-taken p s us h)))
+    (λ (n : p u ≡ false). rw (e, n) (filter-taken p s us h))
+    (cases_Bool (p u)))
+    (cases_Bool (is_at s Placed u))
+
+filter-left : (p : Unfinished → Bool) (us : List Unfinished) (ss : List ℕ) → ((u : Unfinished) → u.state ≡ Placed → p u ≡ false) → filter p (taken_all us ss) ≡ filter p us
+filter-left p us [] h = refl
+filter-left p us (s ∷ ss) h = filter-left p (without_first (is_at s Placed) us) ss h ∙ filter-taken p s us h
+
+placed_not_in_hand : (u : Unfinished) → u.state ≡ Placed → is_in_hand u ≡ false
+placed_not_in_hand u h = rw h refl
+
+placed_not_out : (u : Unfinished) → u.state ≡ Placed → is_out u ≡ false
+placed_not_out u h = rw h refl
+
+-- ==== the block lists
+
+not-held : (lists : List Taken) (p : Unfinished → Bool) (us : List Unfinished) (b : ℕ) → is_among (held_by lists us) b ≡ false → is_among (held_by lists (without_first p us)) b ≡ false
+not-held lists p [] b h = refl
+not-held lists p (u ∷ us) b h =
+    let t = or_parts (is_among (list_of lists u.serial) b) (is_among (held_by lists us) b) (sym (among-append (list_of lists u.serial) (held_by lists us) b) ∙ h) in
+    ⊎_elim
+    (λ (k : p u ≡ true). rw k t.1)
+    (λ (k : p u ≡ false). let z : is_among (list_of lists u.serial ++ held_by lists (without_first p us)) b ≡ false = among-append (list_of lists u.serial) (held_by lists (without_first p us)) b ∙ rw t.0 (not-held lists p us b t.1) in rw k z)
+    (cases_Bool (p u))
+
+differ-back : (xs ys : List ℕ) → Differ (xs ++ ys) → Differ ys
+differ-back [] ys d = d
+differ-back (x ∷ xs) ys d = differ-back xs ys d.1
+
+differ-fewer : (xs ys zs : List ℕ) → Differ (xs ++ ys) → Differ zs → ((b : ℕ) → is_among ys b ≡ false → is_among zs b ≡ false) → Differ (xs ++ zs)
+differ-fewer [] ys zs d e f = e
+differ-fewer (x ∷ xs) ys zs d e f =
+    let t = or_parts (is_among xs x) (is_among ys x) (sym (among-append xs ys x) ∙ d.0) in
+    let z : is_among (xs ++ zs) x ≡ false = among-append xs zs x ∙ rw t.0 (f x t.1) in
+    (z, differ-fewer xs ys zs d.1 e f)
+
+differ-held : (lists : List Taken) (p : Unfinished → Bool) (us : List Unfinished) → Differ (held_by lists us) → Differ (held_by lists (without_first p us))
+differ-held lists p [] d = tt
+differ-held lists p (u ∷ us) d =
+    let back : Differ (held_by lists us) = differ-back (list_of lists u.serial) (held_by lists us) d in
+    ⊎_elim
+    (λ (k : p u ≡ true). rw k back)
+    (λ (k : p u ≡ false).
+    let z : Differ (list_of lists u.serial ++ held_by lists (without_first p us)) = differ-fewer (list_of lists u.serial) (held_by lists us) (held_by lists (without_first p us)) d (differ-held lists p us back) (λ b h. not-held lists p us b h) in
+    rw k z)
+    (cases_Bool (p u))
+
+every-held : (P : ℕ → Type 0) (lists : List Taken) (p : Unfinished → Bool) (us : List Unfinished) → Every P (held_by lists us) → Every P (held_by lists (without_first p us))
+every-held P lists p [] e = tt
+every-held P lists p (u ∷ us) e =
+    let front : Every P (list_of lists u.serial) = every-front P (list_of lists u.serial) (held_by lists us) e in
+    let back : Every P (held_by lists us) = every-back P (list_of lists u.serial) (held_by lists us) e in
+    ⊎_elim
+    (λ (k : p u ≡ true). rw k back)
+    (λ (k : p u ≡ false).
+    let z : Every P (list_of lists u.serial ++ held_by lists (without_first p us)) = every-append P (list_of lists u.serial) (held_by lists (without_first p us)) front (every-held P lists p us back) in
+    rw k z)
+    (cases_Bool (p u))
+
+differ-held_left : (lists : List Taken) (us : List Unfinished) (ss : List ℕ) → Differ (held_by lists us) → Differ (held_by lists (taken_all us ss))
+differ-held_left lists us [] d = d
+differ-held_left lists us (s ∷ ss) d = differ-held_left lists (without_first (is_at s Placed) us) ss (differ-held lists (is_at s Placed) us d)
+
+every-held_left : (P : ℕ → Type 0) (lists : List Taken) (us : List Unfinished) (ss : List ℕ) → Every P (held_by lists us) → Every P (held_by lists (taken_all us ss))
+every-held_left P lists us [] e = e
+every-held_left P lists us (s ∷ ss) e = every-held_left P lists (without_first (is_at s Placed) us) ss (every-held P lists (is_at s Placed) us e)
+
+pub lists_cleaned : (d : DeviceState) (lists : List Taken) → IsSound d → ListsSound d lists → ListsSound (after_clean d) lists
+unfolding after_clean
+lists_cleaned d lists sound h =
+    let e : (cleaned_books d).unfinished ≡ taken_all d.unfinished (answered d) = left_are d in
+    let cp : d.ring.cleared ≤ d.ring.published = sound.ring.cleared in
+    record {
+      listed = h.listed;
+      differ = subst (λ (us : List Unfinished). Differ (held_by lists us)) (sym e) (differ-held_left lists d.unfinished (answered d) h.differ);
+      below = subst (λ (us : List Unfinished). Every (λ n. n < d.settings.blocks) (held_by lists us)) (sym e) (every-held_left (λ n. n < d.settings.blocks) lists d.unfinished (answered d) h.below);
+      sizes = subst (Every (λ (u : Unfinished). length (list_of lists u.serial) ≡ blocks_of d.settings.pages u.command)) (sym e) (every-left (λ (u : Unfinished). length (list_of lists u.serial) ≡ blocks_of d.settings.pages u.command) d.unfinished (answered d) h.sizes);
+      spans = λ i n s c l g. let m : d.ring.published ≤ i = l in h.spans i n s c (omega arith) g;
+      statuses = subst (Every (λ (u : Unfinished). IfSome u.reply (λ r. r.status < 256))) (sym e) (every-left (λ (u : Unfinished). IfSome u.reply (λ r. r.status < 256)) d.unfinished (answered d) h.statuses);
+    }
+
+-- ==== the blocks
+
+get-front : {X : Type 0} (xs : List X) (n b : ℕ) → b < n → slice_get (take n xs) b ≡ slice_get xs b
+get-front xs zero b h = absurd (omega arith)
+get-front [] (suc n) b h = refl
+get-front (x ∷ xs) (suc n) zero h = refl
+get-front (x ∷ xs) (suc n) (suc b) h = get-front xs n b (omega arith)
+
+front-within : {X : Type 0} (xs : List X) (n b : ℕ) (x : X) → slice_get (take n xs) b ≡ Some x → slice_get xs b ≡ Some x
+front-within xs zero b x h = absurd (cc)
+front-within [] (suc n) b x h = absurd (cc)
+front-within (y ∷ ys) (suc n) zero x h = h
+front-within (y ∷ ys) (suc n) (suc b) x h = front-within ys n b x h
+
+-- all commands that are left keep their blocks in an area that ends behind the highest of them
+shrunk-stand : (size : ℕ) (area : List (Option (List ℕ))) (lists : List Taken) (n : ℕ) (us : List Unfinished) → ((b : ℕ) → is_among (held_by lists us) b ≡ true → b < n) → Every (BlocksOf size area lists) us → Every (BlocksOf size (take n area) lists) us
+shrunk-stand size area lists n [] low e = tt
+shrunk-stand size area lists n (u ∷ us) low e = (
+  stand-other size area (take n area) lists lists u refl
+      (laid.every-both (λ b. is_among (list_of lists u.serial) b ≡ true) (λ b. (o : Option (List ℕ)) → slice_get area b ≡ Some o → slice_get (take n area) b ≡ Some o) (list_of lists u.serial)
+      (λ b h o g. get-front area n b (low b (among-append (list_of lists u.serial) (held_by lists us) b ∙ or_left (is_among (list_of lists u.serial) b) (is_among (held_by lists us) b) h)) ∙ g) (own-among (list_of lists u.serial))) e.0,
+  shrunk-stand size area lists n us (λ b h. low b (among-append (list_of lists u.serial) (held_by lists us) b ∙ or_right (is_among (list_of lists u.serial) b) (is_among (held_by lists us) b) h)) e.1,
+)
+
+pub blocks_cleaned : (r : RegionState) (t : TargetState) (d : DeviceState) (lists : List Taken) → CanClean r t d lists → BlocksStand (region_cleaned r t).blocks (after_clean d) lists
+unfolding after_clean region_cleaned
+blocks_cleaned r t d lists h =
+    let us : List Unfinished = (cleaned_books d).unfinished in
+    let e : us ≡ taken_all d.unfinished (answered d) = left_are d in
+    let size : ℕ = block_size d.settings.pages in
+    let all : Every (BlocksOf size r.blocks lists) us = subst (Every (BlocksOf size r.blocks lists)) (sym e) (every-left (BlocksOf size r.blocks lists) d.unfinished (answered d) h.blocks.all) in
+    let f : filter is_in_hand us ≡ filter is_in_hand d.unfinished = ap (filter is_in_hand) e ∙ filter-left is_in_hand d.unfinished (answered d) placed_not_in_hand in
+    let just : (b : ℕ) → IsLent r.blocks b → is_among (held_by lists (filter is_in_hand us)) b ≡ true = λ b l. ap (λ vs. is_among (held_by lists vs) b) f ∙ h.blocks.just b l in
+    let n : ℕ = above_all (blocks_held (target_cleaned r t).rows) in
+    let held : blocks_held (target_cleaned r t).rows ≡ held_by lists us = held-same (target_cleaned r t) (after_clean d) lists (target_cleaned_keeps r t d lists h) in
+    let low : (b : ℕ) → is_among (held_by lists us) b ≡ true → b < n = λ b k. subst (λ (z : ℕ). b < z) (ap above_all (sym held)) (among_every (λ x. x < above_all (held_by lists us)) (held_by lists us) b (covered (held_by lists us)) k) in
+    let whole : BlocksStand r.blocks (after_clean d) lists = record { all = all; just = just } in
+    let less : BlocksStand (take n r.blocks) (after_clean d) lists = record { all = shrunk-stand size r.blocks lists n us low all; just = λ b l. just b (front-within r.blocks n b None l) } in
+    ⊎_elim
+    (λ (k : eqb (length (target_cleaned r t).rows) (length t.rows) ≡ true). rw k whole)
+    (λ (k : eqb (length (target_cleaned r t).rows) (length t.rows) ≡ false). rw k less)
+    (cases_Bool (eqb (length (target_cleaned r t).rows) (length t.rows)))
+
+-- ==== the jobs
+
+-- rows that give these commands the same ids
+abbrev HaveSameIds : List PendingRow → List PendingRow → List Unfinished → Type 0
+HaveSameIds rows rows' us = Every (λ (u : Unfinished). id_of rows' u.serial ≡ id_of rows u.serial) us
+
+job_same : (s : SettingsData) (rows rows' : List PendingRow) (lists : List Taken) (u : Unfinished) (job : JobState) (parts : List (List ℕ)) → id_of rows' u.serial ≡ id_of rows u.serial → IsJobOf s rows lists u job parts → IsJobOf s rows' lists u job parts
+job_same s rows rows' lists u job parts m h = record { id = m ∙ h.id; cdb = h.cdb; iovs = h.iovs; in_len = h.in_len; carried = h.carried; count = h.count; size = h.size; payload = h.payload }
+
+match-first : (b : Bool) (P Q R : Type 0) → (P → R) → MatchBool b P Q → MatchBool b R Q
+match-first true P Q R f h = f h
+match-first false P Q R f h = h
+
+given_same : (s : SettingsData) (rows rows' : List PendingRow) (lists : List Taken) (gs : List GivenJob) (us : List Unfinished) → HaveSameIds rows rows' us → AreGiven s rows lists gs us → AreGiven s rows' lists gs us
+given_same s rows rows' lists [] [] m h = h
+given_same s rows rows' lists [] (u ∷ us) m h = absurd h
+given_same s rows rows' lists (g ∷ gs) [] m h = absurd h
+given_same s rows rows' lists (g ∷ gs) (u ∷ us) m h =
+    ((m.0 ∙ h.0.0, match-first (has_state state.Parked u) _ _ _ (λ p. (p.0, p.1, p.2, p.3, job_same s rows rows' lists u p.0.job p.3 m.0 p.4)) h.0.1), given_same s rows rows' lists gs us m.1 h.1)
+
+outs_same : (s : SettingsData) (rows rows' : List PendingRow) (lists : List Taken) (hs : List InHand) (us : List Unfinished) → HaveSameIds rows rows' us → AreOut s rows lists hs us → AreOut s rows' lists hs us
+outs_same s rows rows' lists [] [] m h = h
+outs_same s rows rows' lists [] (u ∷ us) m h = absurd h
+outs_same s rows rows' lists (x ∷ hs) [] m h = absurd h
+outs_same s rows rows' lists (x ∷ hs) (u ∷ us) m h = ((h.0.0, h.0.1, (h.0.2.0, job_same s rows rows' lists u x.job h.0.2.0 m.0 h.0.2.1)), outs_same s rows rows' lists hs us m.1 h.1)
+
+-- a command that is picked out by what holds of no placed one keeps its id
+ids_kept : (r : RegionState) (t : TargetState) (d : DeviceState) (lists : List Taken) (p : Unfinished → Bool) → CanClean r t d lists → ((u : Unfinished) → u.state ≡ Placed → p u ≡ false) →
+    HaveSameIds t.rows (target_cleaned r t).rows (filter p d.unfinished)
+ids_kept r t d lists p h never =
+    let at = cleaned-at r t d lists h in
+    let P : Unfinished → Type 0 = λ u. is_among (answered d) u.serial ≡ true → (u.state ≡ Placed) × (is_some u.reply ≡ true) in
+    let Q : Unfinished → Type 0 = λ u. p u ≡ true in
+    every-weaker (λ (u : Unfinished). P u × Q u) (λ (u : Unfinished). id_of (target_cleaned r t).rows u.serial ≡ id_of t.rows u.serial) (filter p d.unfinished)
+    (λ u k.
+    ⊎_elim
+    (λ (a : is_among (answered d) u.serial ≡ true). absurd (true≢false (sym k.1 ∙ never u (k.0 a).0)))
+    (λ (a : is_among (answered d) u.serial ≡ false). at.kept u.serial a)
+    (cases_Bool (is_among (answered d) u.serial)))
+    (every-both P Q (filter p d.unfinished) (every-filter p P d.unfinished (answered_placed d h.sound.answers)) (every-passes p d.unfinished))
+
+pub jobs_cleaned : (r : RegionState) (t : TargetState) (user : UserState) (hand : List InHand) (d : DeviceState) (lists : List Taken) → CanClean r t d lists → JobsStand user hand t.rows d lists →
+    JobsStand user hand (target_cleaned r t).rows (after_clean d) lists
+unfolding after_clean
+jobs_cleaned r t user hand d lists h jobs =
+    let e : (cleaned_books d).unfinished ≡ taken_all d.unfinished (answered d) = left_are d in
+    let f : filter is_in_hand (cleaned_books d).unfinished ≡ filter is_in_hand d.unfinished = ap (filter is_in_hand) e ∙ filter-left is_in_hand d.unfinished (answered d) placed_not_in_hand in
+    let o : filter is_out (cleaned_books d).unfinished ≡ filter is_out d.unfinished = ap (filter is_out) e ∙ filter-left is_out d.unfinished (answered d) placed_not_out in
+    let rows' : List PendingRow = (target_cleaned r t).rows in
+    record {
+      given = subst (AreGiven d.settings rows' lists user.jobs) (sym f) (given_same d.settings t.rows rows' lists user.jobs (filter is_in_hand d.unfinished) (ids_kept r t d lists is_in_hand h placed_not_in_hand) jobs.given);
+      out = subst (AreOut d.settings rows' lists hand) (sym o) (outs_same d.settings t.rows rows' lists hand (filter is_out d.unfinished) (ids_kept r t d lists is_out h placed_not_out) jobs.out);
+      offsets = jobs.offsets;
+    }

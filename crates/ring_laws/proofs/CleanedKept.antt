@@ -1,0 +1,34 @@
+-- What a clean keeps, point by point.
+use Rattle.std.proofs.Common.{◌≡◌, ℕ, ◌≤◌, ◌⊎◌, inl, inr, List, [], ◌∷◌, refl, sym, ◌∙◌, arith}
+use Rattle.tcmu_model.specs.Device.{DeviceState}
+use Rattle.tcmu_model.specs.Events.{after_clean}
+use Rattle.tcmu_model.specs.BlockLists.{Taken}
+use Rattle.tcmu_model.specs.Regions.{RegionState}
+use Rattle.ring_laws.specs.Sides.{TargetState, UserState}
+use Rattle.ring_laws.specs.Represents.{TargetKeeps, UserKeeps}
+use Rattle.ring_laws.specs.TargetCleans.{target_cleaned}
+use Rattle.ring_laws.specs.Cleaned.{CanClean}
+use Rattle.ring_laws.proofs.CleanedAll.{cleaned-at}
+
+pub target_cleaned_keeps : (r : RegionState) (t : TargetState) (d : DeviceState) (lists : List Taken) → CanClean r t d lists → TargetKeeps (target_cleaned r t) (after_clean d) lists
+unfolding after_clean
+target_cleaned_keeps r t d lists h =
+    let at = cleaned-at r t d lists h in
+    record {
+      settings = at.settings;
+      now = at.now;
+      blocked = at.blocked;
+      accepted = at.accepted;
+      rows = at.pending;
+      delayed = at.delayed;
+      cleaned = at.cleaned;
+      laid = at.laid;
+      cleared = at.cleared;
+      broken = at.broken;
+      log = at.logged;
+    }
+
+pub side_cleaned : (user : UserState) (d : DeviceState) → UserKeeps user d → UserKeeps user (after_clean d)
+unfolding after_clean
+side_cleaned user d h =
+    record { ring = h.ring; pages = h.pages; flags = h.flags; tail = h.tail; dispatched = h.dispatched; placed = h.placed; published = h.published; place = h.place; items = h.items }

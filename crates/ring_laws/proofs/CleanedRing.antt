@@ -1,0 +1,142 @@
+-- What a clean keeps of the ring, of the ids and of the notes.
+use Rattle.std.proofs.Common.{◌≡◌, ◌≢◌, ℕ, ◌+◌, ◌-◌, ◌≤◌, ◌<◌, ◌⊎◌, ◌||◌, inl, inr, Bool, true, false, List, [], ◌∷◌, ◌++◌, length, take, drop, map, refl, sym, ap, ◌∙◌, arith, suc, zero, Option, Some, None, slice_get, subst, ⊎_elim, eqb}
+use Rattle.std.proofs.lemmas.Bool.{cases_Bool, eqb-true, ne_eqb, true≢false, false≢true, or_parts, or_right}
+use Rattle.std.proofs.lemmas.List.{take-append-drop}
+use Rattle.tcmu_types.specs.Data.{CommandData}
+use Rattle.tcmu_model.specs.Lists.{first_of}
+use Rattle.tcmu_model.specs.RingState.{Item, Laid, commands_in, serials_in}
+use Rattle.tcmu_model.specs.RingState as ring
+use Rattle.tcmu_model.specs.Device.{DeviceState, has_serial}
+use Rattle.tcmu_model.specs.Events.{is_among, after_clean, answered, cleaned_books}
+use Rattle.tcmu_model.specs.Sound.{IsSound, Every, Differ, Rise, dispatched_serials}
+use Rattle.tcmu_model.specs.BlockLists.{Taken, list_of}
+use Rattle.tcmu_model.specs.Regions.{RegionState}
+use Rattle.tcmu_model.proofs.Basics.{laid_rise, serials_split}
+use Rattle.tcmu_model.proofs.Rises.{not_above, among-append, among-take, among_every, every-among}
+use Rattle.tcmu_model.proofs.Fronts.{commands_more}
+use Rattle.ring_laws.specs.Picture.{place_of, item_bytes, request_of, ids_named}
+use Rattle.ring_laws.specs.Sides.{PendingRow, Recorded, TargetState}
+use Rattle.ring_laws.specs.Represents.{RingStands, IdsStand, NotesStand, AreNoteIds, IsNoteId, entry_at, id_in, ids_in, serial_with}
+use Rattle.ring_laws.specs.TargetCleans.{region_cleaned, target_cleaned}
+use Rattle.ring_laws.specs.Cleaned.{CanClean}
+use Rattle.ring_laws.proofs.RingLaid.{entry_same}
+use Rattle.ring_laws.proofs.Submit.{serial_at}
+use Rattle.ring_laws.proofs.CleanedOne.{CleanAt}
+use Rattle.ring_laws.proofs.CleanedAll.{cleaned-at, not-before}
+
+-- the area may end earlier, and nothing else of the region changes
+pub front_cleaned : (r : RegionState) (t : TargetState) → (region_cleaned r t).front ≡ r.front
+unfolding region_cleaned
+front_cleaned r t =
+    ⊎_elim
+    (λ (k : eqb (length (target_cleaned r t).rows) (length t.rows) ≡ true). rw k refl)
+    (λ (k : eqb (length (target_cleaned r t).rows) (length t.rows) ≡ false). rw k refl)
+    (cases_Bool (eqb (length (target_cleaned r t).rows) (length t.rows)))
+
+-- ==== the ring
+
+-- an answer that stands behind the published items is of none that was finished
+unanswered : (d : DeviceState) (i s : ℕ) → IsSound d → d.ring.published ≤ i → slice_get d.placed (commands_in (take i d.ring.laid)) ≡ Some s → is_among (answered d) s ≡ false
+unanswered d i s sound l g =
+    not-before d.placed (commands_in (take d.ring.published d.ring.laid)) (commands_in (take i d.ring.laid)) s sound.answers.differ g (commands_more d.ring.published i d.ring.laid l)
+
+item_cleaned : (rows : List PendingRow) (k : TargetState) (d : DeviceState) (lists : List Taken) (i n : ℕ) (l : Laid) (id : ℕ) (ids : List ℕ) → IsSound d → d.ring.published ≤ i →
+    CleanAt rows d lists d.ring.published (cleaned_books d).unfinished (cleaned_books d).log k →
+    item_bytes (after_clean d) lists i id ids (record { len = n; laid = l }) ≡ item_bytes d lists i id ids (record { len = n; laid = l })
+unfolding after_clean
+item_cleaned rows k d lists i n ring.Pad id ids sound h at = refl
+item_cleaned rows k d lists i n (ring.Tmr kind ss) id ids sound h at = refl
+item_cleaned rows k d lists i n (ring.Cmd q c) id ids sound h at =
+    entry_same d (after_clean d) id (request_of d.settings (list_of lists q) (place_of d.ring i) id c) (slice_get d.placed (commands_in (take i d.ring.laid))) refl
+    (λ s g. at.found s (unanswered d i s sound h g))
+
+pub ring_cleaned : (r : RegionState) (t : TargetState) (d : DeviceState) (lists : List Taken) → CanClean r t d lists → RingStands (region_cleaned r t).front (target_cleaned r t).items (after_clean d) lists
+unfolding after_clean
+ring_cleaned r t d lists h =
+    let at = cleaned-at r t d lists h in
+    let cp : d.ring.cleared ≤ d.ring.published = h.sound.ring.cleared in
+    let k : RingStands r.front (target_cleaned r t).items (after_clean d) lists = record {
+      long = h.ring.long;
+      mailbox = h.ring.mailbox;
+      stands = λ i x c g.
+          let l : d.ring.published ≤ i = c in
+          let e : List ℕ = entry_at r.front (place_of d.ring i) x.len in
+          h.ring.stands i x (omega arith) g ∙ sym (item_cleaned t.rows (target_cleaned r t) d lists i x.len x.laid (id_in e) (ids_in (ids_named x) 32 e) h.sound l at);
+      recorded = at.items;
+    } in
+    subst (λ (f : List ℕ). RingStands f (target_cleaned r t).items (after_clean d) lists) (sym (front_cleaned r t)) k
+
+-- ==== the ids
+
+rises_differ : (low : ℕ) (xs : List ℕ) (high : ℕ) → Rise low xs high → Differ xs
+rises_differ low [] high h = tt
+rises_differ low (x ∷ xs) high h = (not_above x xs high x h.1 (omega arith), rises_differ x xs high h.1)
+
+-- of numbers that differ, none of the back stands in the front
+differ-apart : (xs ys : List ℕ) (s : ℕ) → Differ (xs ++ ys) → is_among ys s ≡ true → is_among xs s ≡ false
+differ-apart [] ys s d h = refl
+differ-apart (x ∷ xs) ys s d h =
+    let there : is_among (xs ++ ys) s ≡ true = among-append xs ys s ∙ or_right (is_among xs s) (is_among ys s) h in
+    let z : eqb x s ≡ false = ne_eqb x s (λ q. true≢false (sym there ∙ subst (λ (y : ℕ). is_among (xs ++ ys) y ≡ false) q d.0)) in
+    rw z (differ-apart xs ys s d.1 h)
+
+get-drop : {X : Type 0} (xs : List X) (n i : ℕ) → slice_get (drop n xs) i ≡ slice_get xs (n + i)
+get-drop xs zero i = ap (slice_get xs) (let z : i ≡ 0 + i = omega arith in z)
+get-drop [] (suc n) i = refl
+get-drop (x ∷ xs) (suc n) i = get-drop xs n i ∙ ap (slice_get (x ∷ xs)) (let z : suc (n + i) ≡ suc n + i = omega arith in z)
+
+-- a command that is not dispatched has no answer
+undispatched : (d : DeviceState) (i n s : ℕ) (c : CommandData) → IsSound d → d.ring.dispatched ≤ i → slice_get d.ring.laid i ≡ Some (record { len = n; laid = ring.Cmd s c }) → is_among (answered d) s ≡ false
+undispatched d i n s c sound l g =
+    let front : List ℕ = dispatched_serials d.ring in
+    let back : List ℕ = serials_in (drop d.ring.dispatched d.ring.laid) in
+    let place : d.ring.dispatched + (i - d.ring.dispatched) ≡ i = omega arith in
+    let g' : slice_get (drop d.ring.dispatched d.ring.laid) (i - d.ring.dispatched) ≡ Some (record { len = n; laid = ring.Cmd s c }) =
+    get-drop d.ring.laid d.ring.dispatched (i - d.ring.dispatched) ∙ ap (slice_get d.ring.laid) place ∙ g in
+    let here : is_among back s ≡ true = serial_at (λ k. is_among back k ≡ true) (drop d.ring.dispatched d.ring.laid) (i - d.ring.dispatched) n s c (every-among back) g' in
+    let df : Differ (front ++ back) = subst Differ (sym (serials_split d.ring.dispatched d.ring.laid)) (rises_differ 0 (serials_in d.ring.laid) d.accepted (laid_rise d sound.serials)) in
+    let no : is_among front s ≡ false = differ-apart front back s df here in
+    let none : is_among d.placed s ≡ false =
+    ⊎_elim
+    (λ (k : is_among d.placed s ≡ true). absurd (true≢false (sym (among_every (λ q. is_among front q ≡ true) d.placed s sound.answers.dispatched k) ∙ no)))
+    (λ (k : is_among d.placed s ≡ false). k)
+    (cases_Bool (is_among d.placed s)) in
+    among-take (commands_in (take d.ring.published d.ring.laid)) d.placed s none
+
+pub ids_cleaned : (r : RegionState) (t : TargetState) (d : DeviceState) (lists : List Taken) → CanClean r t d lists → IdsStand (region_cleaned r t).front (target_cleaned r t).rows (after_clean d)
+unfolding after_clean
+ids_cleaned r t d lists h =
+    let at = cleaned-at r t d lists h in
+    let cp : d.ring.cleared ≤ d.ring.published = h.sound.ring.cleared in
+    let k : IdsStand r.front (target_cleaned r t).rows (after_clean d) = record {
+      range = at.range;
+      differ = at.ids;
+      answered = λ i x s l g c p. let m : d.ring.published ≤ i = l in at.kept s (unanswered d i s h.sound m p) ∙ h.ids.answered i x s (omega arith) g c p;
+      own = λ i n s c l g. at.kept s (undispatched d i n s c h.sound l g) ∙ h.ids.own i n s c l g;
+    } in
+    subst (λ (f : List ℕ). IdsStand f (target_cleaned r t).rows (after_clean d)) (sym (front_cleaned r t)) k
+
+-- ==== the notes
+
+abbrev FewerSerials : List PendingRow → List PendingRow → Type 0
+FewerSerials rows rows' = (id : ℕ) → (serial_with rows' id ≡ None) ⊎ (serial_with rows' id ≡ serial_with rows id)
+
+notes_fewer : (rows rows' : List PendingRow) (behind ss ids : List ℕ) → FewerSerials rows rows' → AreNoteIds rows behind ss ids → AreNoteIds rows' behind ss ids
+notes_fewer rows rows' behind [] [] m h = h
+notes_fewer rows rows' behind [] (id ∷ ids) m h = absurd h
+notes_fewer rows rows' behind (s ∷ ss) [] m h = absurd h
+notes_fewer rows rows' behind (s ∷ ss) (id ∷ ids) m h =
+    let one : IsNoteId rows' behind s id =
+    ⊎_elim
+    (λ (z : serial_with rows' id ≡ None). inl z)
+    (λ (z : serial_with rows' id ≡ serial_with rows id). subst (λ (o : Option ℕ). (o ≡ None) ⊎ ((t : ℕ) × (o ≡ Some t) × ((t ≡ s) ⊎ (is_among behind t ≡ true)))) (sym z) h.0)
+    (m id) in
+    (one, notes_fewer rows rows' behind ss ids m h.1)
+
+pub notes_cleaned : (r : RegionState) (t : TargetState) (d : DeviceState) (lists : List Taken) → CanClean r t d lists → NotesStand r.front t.rows d → NotesStand (region_cleaned r t).front (target_cleaned r t).rows (after_clean d)
+unfolding after_clean
+notes_cleaned r t d lists h notes =
+    let at = cleaned-at r t d lists h in
+    let k : NotesStand r.front (target_cleaned r t).rows (after_clean d) = λ i n kind ss l g.
+    notes_fewer t.rows (target_cleaned r t).rows (serials_in (drop i d.ring.laid)) ss (ids_in (length ss) 32 (entry_at r.front (place_of d.ring i) n)) at.notes (notes i n kind ss l g) in
+    subst (λ (f : List ℕ). NotesStand f (target_cleaned r t).rows (after_clean d)) (sym (front_cleaned r t)) k
