@@ -35,3 +35,5 @@ pub mod CleanedAll
 pub mod CleanedKept
 pub mod CleanedRing
 pub mod CleanedJobs
+pub mod HandledJobs
+pub mod ParkedKept

@@ -9,6 +9,7 @@ pub mod UserNext
 pub mod Owned
 pub mod Placed
 pub mod Cleaned
+pub mod HandSteps
 pub mod Refused
 pub mod Hostile
 pub mod Shown

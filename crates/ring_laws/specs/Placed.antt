@@ -1,6 +1,6 @@
 -- An answer that is placed: what it rests on, whatever the states of the other commands, and the device behind it.
 use Rattle.std.specs.Prelude.{◌≡◌, ℕ, ◌+◌, ◌%◌, ◌≤◌, ◌<◌, true, List, [], ◌∷◌, ◌++◌, length, take, drop, map, slice_get, Some, IfSome}
-use Rattle.tcmu_model.specs.declared.state.CommandState.TheVariants.{Parked, Placed}
+use Rattle.tcmu_model.specs.declared.state.CommandState.TheVariants.{Handled, Parked, Placed}
 use Rattle.tcmu_types.specs.Rules.{IsCommand}
 use Rattle.tcmu_model.specs.Lengths.{blocks_of}
 use Rattle.tcmu_model.specs.Lists.{first_of}
@@ -38,6 +38,10 @@ pub record CanAnswer (d : DeviceState) : Type 0 where
 -- the parked command of a serial is placed behind the others
 abbrev pub placed_in : DeviceState → ℕ → DeviceState
 placed_in d s = record d { placed = d.placed ++ s ∷ []; unfinished = turned s Parked Placed d.unfinished }
+
+-- the handled command of a serial is parked
+abbrev pub parked_in : DeviceState → ℕ → DeviceState
+parked_in d s = record d { unfinished = turned s Handled Parked d.unfinished }
 
 -- the user side has the job and the reply of a parked command, and an entry that is not yet used
 pub record CanPlace (user : UserState) (rows : List PendingRow) (d : DeviceState) (lists : List Taken) (s : ℕ) (u : Unfinished) (p : sides.Parked) (parts : List (List ℕ)) : Type 0 where
