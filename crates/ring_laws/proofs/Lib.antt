@@ -37,3 +37,4 @@ pub mod CleanedRing
 pub mod CleanedJobs
 pub mod HandledJobs
 pub mod ParkedKept
+pub mod RespondedKept

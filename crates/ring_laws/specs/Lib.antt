@@ -8,6 +8,7 @@ pub mod UserSteps
 pub mod UserNext
 pub mod Owned
 pub mod Placed
+pub mod Responded
 pub mod Cleaned
 pub mod HandSteps
 pub mod Refused

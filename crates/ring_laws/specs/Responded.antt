@@ -1,0 +1,21 @@
+-- A respond out of order: what it rests on.
+use Rattle.std.specs.Prelude.{◌≡◌, ℕ, true, List, length, take, drop, Some}
+use Rattle.tcmu_model.specs.declared.state.CommandState.TheVariants.{Handled}
+use Rattle.tcmu_model.specs.Lists.{first_of}
+use Rattle.tcmu_model.specs.Device.{Unfinished, DeviceState, is_at}
+use Rattle.tcmu_model.specs.Sound.{IsSound}
+use Rattle.tcmu_model.specs.BlockLists.{Taken}
+use Rattle.ring_laws.specs.Sides.{Parked, PendingRow, UserState}
+use Rattle.ring_laws.specs.Represents.{IsJobOf, command_places}
+use Rattle.ring_laws.specs.Owned.{ListsSound}
+
+-- a handled command, whose job comes with its reply to a user side that places answers out of order
+pub record CanRespond (user : UserState) (rows : List PendingRow) (d : DeviceState) (lists : List Taken) (s : ℕ) (u : Unfinished) (p : Parked) (parts : List (List ℕ)) : Type 0 where
+  pub sound : IsSound d
+  pub owned : ListsSound d lists
+  pub found : first_of (is_at s Handled) d.unfinished ≡ Some u
+  pub replied : u.reply ≡ Some p.reply
+  pub job : IsJobOf d.settings rows lists u p.job parts
+  pub flags : user.flags ≡ d.settings.flags
+  pub offsets : user.offsets ≡ drop (length d.placed) (command_places d.ring.size 0 (take d.ring.dispatched d.ring.laid))
+  pub ooo : d.settings.flags.ooo ≡ true

@@ -1,0 +1,29 @@
+//! What a respond keeps where answers are placed out of order: the command is parked and placed at once.
+ghost use Rattle.std.specs.Prelude.{◌≡◌, ℕ, List};
+ghost use Rattle.tcmu_model.specs.Device.{DeviceState, Unfinished};
+ghost use Rattle.tcmu_model.specs.Events.{after_respond};
+ghost use Rattle.tcmu_model.specs.BlockLists.{Taken};
+ghost use Rattle.tcmu_model.specs.Regions.{RegionState};
+ghost use Rattle.ring_laws.specs.Sides.{Parked, PendingRow, Recorded, TargetState, UserState};
+ghost use Rattle.ring_laws.specs.Represents.{BlocksStand, IdsStand, RingStands, TargetKeeps, UserKeeps};
+ghost use Rattle.ring_laws.specs.UserSteps.{user_responded};
+ghost use Rattle.ring_laws.specs.Responded.{CanRespond};
+
+/// The user side of a device that places answers out of order writes the answer into the first entry that is not yet used, as the device
+/// places it. An entry is left for it, since more commands are dispatched than answers are placed. Ring, ids and blocks stand, and both
+/// sides keep their records.
+pub fn respond_law()
+    ensures ring { (r : RegionState) (user : UserState) (items : List Recorded) (rows : List PendingRow) (d : DeviceState) (lists : List Taken) (s : ℕ) (u : Unfinished) (p : Parked) (parts : List (List ℕ)) →
+        CanRespond user rows d lists s u p parts → RingStands r.front items d lists → IdsStand r.front rows d →
+        RingStands (user_responded r user p).region.front items (after_respond d s) lists }
+    ensures ids { (r : RegionState) (user : UserState) (items : List Recorded) (rows : List PendingRow) (d : DeviceState) (lists : List Taken) (s : ℕ) (u : Unfinished) (p : Parked) (parts : List (List ℕ)) →
+        CanRespond user rows d lists s u p parts → RingStands r.front items d lists → IdsStand r.front rows d →
+        IdsStand (user_responded r user p).region.front rows (after_respond d s) }
+    ensures blocks { (r : RegionState) (user : UserState) (items : List Recorded) (rows : List PendingRow) (d : DeviceState) (lists : List Taken) (s : ℕ) (u : Unfinished) (p : Parked) (parts : List (List ℕ)) →
+        CanRespond user rows d lists s u p parts → RingStands r.front items d lists → r.pages ≡ d.settings.pages → BlocksStand r.blocks d lists →
+        BlocksStand (user_responded r user p).region.blocks (after_respond d s) lists }
+    ensures target { (user : UserState) (t : TargetState) (rows : List PendingRow) (d : DeviceState) (lists : List Taken) (s : ℕ) (u : Unfinished) (p : Parked) (parts : List (List ℕ)) →
+        CanRespond user rows d lists s u p parts → TargetKeeps t d lists → TargetKeeps t (after_respond d s) lists }
+    ensures side { (r : RegionState) (user : UserState) (rows : List PendingRow) (d : DeviceState) (lists : List Taken) (s : ℕ) (u : Unfinished) (p : Parked) (parts : List (List ℕ)) →
+        CanRespond user rows d lists s u p parts → UserKeeps user d → UserKeeps (user_responded r user p).user (after_respond d s) }
+{}
