@@ -38,3 +38,4 @@ pub mod CleanedJobs
 pub mod HandledJobs
 pub mod ParkedKept
 pub mod RespondedKept
+pub mod RespondedJobs

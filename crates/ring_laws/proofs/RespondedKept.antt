@@ -38,7 +38,7 @@ use Rattle.ring_laws.proofs.TakenOut.{none_at}
 
 -- ==== both sides place the one answer
 
-found-any : {X : Type 0} (p : X → Bool) (xs : List X) (x : X) → first_of p xs ≡ Some x → list_any p xs ≡ true
+pub found-any : {X : Type 0} (p : X → Bool) (xs : List X) (x : X) → first_of p xs ≡ Some x → list_any p xs ≡ true
 found-any p [] x f = absurd (cc)
 found-any p (y ∷ xs) x f =
     ⊎_elim
@@ -77,7 +77,7 @@ still_behind d s u sound f =
     let one : 1 ≤ count_by awaits_answer d.unfinished = counted (is_at s Handled) awaits_answer d.unfinished u f (handled_awaits s) in
     omega (arith, one, awaiting d sound)
 
-found-state : (s : ℕ) (t : CommandState) (us : List Unfinished) (u : Unfinished) → first_of (is_at s t) us ≡ Some u → is_at s t u ≡ true
+pub found-state : (s : ℕ) (t : CommandState) (us : List Unfinished) (u : Unfinished) → first_of (is_at s t) us ≡ Some u → is_at s t u ≡ true
 found-state s t [] u f = absurd (cc)
 found-state s t (v ∷ us) u f =
     ⊎_elim
@@ -96,7 +96,7 @@ job_parked s rows lists u job parts st h =
         by_reply n None = refl
         by_reply n (Some reply) = refl
 
-can_place : (user : UserState) (rows : List PendingRow) (d : DeviceState) (lists : List Taken) (s : ℕ) (u : Unfinished) (p : sides.Parked) (parts : List (List ℕ)) →
+pub can_place : (user : UserState) (rows : List PendingRow) (d : DeviceState) (lists : List Taken) (s : ℕ) (u : Unfinished) (p : sides.Parked) (parts : List (List ℕ)) →
     CanRespond user rows d lists s u p parts → CanPlace user rows (parked_in d s) lists s (in_state Parked u) p parts
 can_place user rows d lists s u p parts h =
     let st : u.state ≡ Handled = state_at s Handled u (found-state s Handled d.unfinished u h.found) in
@@ -112,11 +112,11 @@ can_place user rows d lists s u p parts h =
 -- ==== the points
 
 -- what both sides come to
-record Responds (r : RegionState) (user : UserState) (d : DeviceState) (s : ℕ) (p : sides.Parked) : Type 0 where
-  device : after_respond d s ≡ placed_in (parked_in d s) s
-  side : user_responded r user p ≡ answer_placed r user p (without_first (is_open_job p.job.id) user.jobs)
+pub record Responds (r : RegionState) (user : UserState) (d : DeviceState) (s : ℕ) (p : sides.Parked) : Type 0 where
+  pub device : after_respond d s ≡ placed_in (parked_in d s) s
+  pub side : user_responded r user p ≡ answer_placed r user p (without_first (is_open_job p.job.id) user.jobs)
 
-responds : (r : RegionState) (user : UserState) (rows : List PendingRow) (d : DeviceState) (lists : List Taken) (s : ℕ) (u : Unfinished) (p : sides.Parked) (parts : List (List ℕ)) → CanRespond user rows d lists s u p parts → Responds r user d s p
+pub responds : (r : RegionState) (user : UserState) (rows : List PendingRow) (d : DeviceState) (lists : List Taken) (s : ℕ) (u : Unfinished) (p : sides.Parked) (parts : List (List ℕ)) → CanRespond user rows d lists s u p parts → Responds r user d s p
 responds r user rows d lists s u p parts h =
     record {
       device = device_responds d s (found-any (is_at s Handled) d.unfinished u h.found) h.ooo;
