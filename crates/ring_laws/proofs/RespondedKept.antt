@@ -24,16 +24,16 @@ use Rattle.tcmu_types.specs.Rules.{takes_payload}
 use Rattle.ring_laws.specs.Picture.{data_in, payload_of}
 use Rattle.ring_laws.specs.Sides.{GivenJob, InHand, PendingRow, Recorded, TargetState, UserState}
 use Rattle.ring_laws.specs.Sides as sides
-use Rattle.ring_laws.specs.Represents.{AreGiven, AreOut, BlocksStand, IdsStand, IsJobOf, JobsStand, RingStands, TargetKeeps, UserKeeps, id_of, is_out, row_has}
+use Rattle.ring_laws.specs.Represents.{AreGiven, AreOut, BlocksStand, IdsStand, IsJobOf, JobsStand, NotesStand, RingStands, TargetKeeps, UserKeeps, id_of, is_out, row_has}
 use Rattle.ring_laws.specs.UserSteps.{is_open_job, placing_by, user_responded}
 use Rattle.ring_laws.specs.UserSteps as steps
 use Rattle.ring_laws.specs.HandSteps.{hand_has, hand_responded}
 use Rattle.ring_laws.specs.Placed.{CanAnswer, CanPlace, answer_placed, parked_in, placed_in}
 use Rattle.ring_laws.specs.Responded.{CanRespond}
 use Rattle.ring_laws.proofs.Numbered.{can_answer}
-use Rattle.ring_laws.proofs.PlacedAnswers.{ring_placed, ids_placed, target_placed, user_placed, offsets_placed}
+use Rattle.ring_laws.proofs.PlacedAnswers.{ring_placed, ids_placed, notes_placed, target_placed, user_placed, offsets_placed}
 use Rattle.ring_laws.proofs.AnswerBlocks.{blocks_placed}
-use Rattle.ring_laws.proofs.ParkedKept.{ring_parked, ids_parked, blocks_parked, target_parked, side_parked, can_answer_parked, can_fill_parked, found_parked}
+use Rattle.ring_laws.proofs.ParkedKept.{ring_parked, ids_parked, notes_parked, blocks_parked, target_parked, side_parked, can_answer_parked, can_fill_parked, found_parked}
 use Rattle.ring_laws.proofs.TakenOut.{none_at}
 
 -- ==== both sides place the one answer
@@ -138,6 +138,14 @@ ids_responded r user items rows d lists s u p parts h ring ids =
     let k = ids_placed r user items rows (parked_in d s) lists s (in_state Parked u) p parts (without_first (is_open_job p.job.id) user.jobs) (can_answer_parked d s h.sound) (ring_parked r.front items d lists s ring) (ids_parked r.front rows d s ids) (can_place user rows d lists s u p parts h) in
     subst (λ (z : DeviceState). IdsStand (user_responded r user p).region.front rows z) (sym e.device)
     (subst (λ (z : steps.Placing). IdsStand z.region.front rows (placed_in (parked_in d s) s)) (sym e.side) k)
+
+pub notes_responded : (r : RegionState) (user : UserState) (items : List Recorded) (rows : List PendingRow) (d : DeviceState) (lists : List Taken) (s : ℕ) (u : Unfinished) (p : sides.Parked) (parts : List (List ℕ)) →
+    CanRespond user rows d lists s u p parts → RingStands r.front items d lists → NotesStand r.front rows d → NotesStand (user_responded r user p).region.front rows (after_respond d s)
+notes_responded r user items rows d lists s u p parts h ring notes =
+    let e = responds r user rows d lists s u p parts h in
+    let k = notes_placed r user items rows (parked_in d s) lists s (in_state Parked u) p parts (without_first (is_open_job p.job.id) user.jobs) (can_answer_parked d s h.sound) (ring_parked r.front items d lists s ring) (can_place user rows d lists s u p parts h) (notes_parked r.front rows d s notes) in
+    subst (λ (z : DeviceState). NotesStand (user_responded r user p).region.front rows z) (sym e.device)
+    (subst (λ (z : steps.Placing). NotesStand z.region.front rows (placed_in (parked_in d s) s)) (sym e.side) k)
 
 pub blocks_responded : (r : RegionState) (user : UserState) (items : List Recorded) (rows : List PendingRow) (d : DeviceState) (lists : List Taken) (s : ℕ) (u : Unfinished) (p : sides.Parked) (parts : List (List ℕ)) →
     CanRespond user rows d lists s u p parts → RingStands r.front items d lists → r.pages ≡ d.settings.pages → BlocksStand r.blocks d lists → BlocksStand (user_responded r user p).region.blocks (after_respond d s) lists

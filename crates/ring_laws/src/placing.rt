@@ -5,7 +5,7 @@ ghost use Rattle.tcmu_model.specs.BlockLists.{Taken};
 ghost use Rattle.tcmu_model.specs.Regions.{RegionState};
 ghost use Rattle.tcmu_model.specs.Sound.{IsSound};
 ghost use Rattle.ring_laws.specs.Sides.{Parked, Recorded, PendingRow, GivenJob, TargetState, UserState};
-ghost use Rattle.ring_laws.specs.Represents.{RingStands, IdsStand, BlocksStand, TargetKeeps, UserKeeps, command_places};
+ghost use Rattle.ring_laws.specs.Represents.{RingStands, IdsStand, NotesStand, BlocksStand, TargetKeeps, UserKeeps, command_places};
 ghost use Rattle.ring_laws.specs.Owned.{ListsSound};
 ghost use Rattle.ring_laws.specs.Placed.{CanAnswer, CanFill, CanPlace, placed_in, answer_placed};
 
@@ -21,6 +21,9 @@ pub fn placing_law()
     ensures ids { (r : RegionState) (user : UserState) (items : List Recorded) (rows : List PendingRow) (d : DeviceState) (lists : List Taken) (s : ℕ) (u : Unfinished) (p : Parked) (parts : List (List ℕ)) (rest : List GivenJob) →
         CanAnswer d → RingStands r.front items d lists → IdsStand r.front rows d → CanPlace user rows d lists s u p parts →
         IdsStand (answer_placed r user p rest).region.front rows (placed_in d s) }
+    ensures notes { (r : RegionState) (user : UserState) (items : List Recorded) (rows : List PendingRow) (d : DeviceState) (lists : List Taken) (s : ℕ) (u : Unfinished) (p : Parked) (parts : List (List ℕ)) (rest : List GivenJob) →
+        CanAnswer d → RingStands r.front items d lists → CanPlace user rows d lists s u p parts → NotesStand r.front rows d →
+        NotesStand (answer_placed r user p rest).region.front rows (placed_in d s) }
     ensures blocks { (r : RegionState) (user : UserState) (items : List Recorded) (rows : List PendingRow) (d : DeviceState) (lists : List Taken) (s : ℕ) (u : Unfinished) (p : Parked) (parts : List (List ℕ)) (rest : List GivenJob) →
         CanAnswer d → CanFill d lists → RingStands r.front items d lists → r.pages ≡ d.settings.pages → BlocksStand r.blocks d lists → CanPlace user rows d lists s u p parts →
         BlocksStand (answer_placed r user p rest).region.blocks (placed_in d s) lists }

@@ -5,14 +5,14 @@ ghost use Rattle.tcmu_model.specs.Events.{after_respond, respond_answer};
 ghost use Rattle.tcmu_model.specs.BlockLists.{Taken};
 ghost use Rattle.tcmu_model.specs.Regions.{RegionState};
 ghost use Rattle.ring_laws.specs.Sides.{InHand, Parked, PendingRow, Recorded, TargetState, UserState};
-ghost use Rattle.ring_laws.specs.Represents.{BlocksStand, IdsStand, JobsStand, RingStands, TargetKeeps, UserKeeps};
+ghost use Rattle.ring_laws.specs.Represents.{BlocksStand, IdsStand, JobsStand, NotesStand, RingStands, TargetKeeps, UserKeeps};
 ghost use Rattle.ring_laws.specs.UserSteps.{user_respond_answer, user_responded};
 ghost use Rattle.ring_laws.specs.HandSteps.{hand_responded};
 ghost use Rattle.ring_laws.specs.Responded.{CanRespond};
 
 /// The user side of a device that places answers out of order writes the answer into the first entry that is not yet used, as the device
-/// places it. An entry is left for it, since more commands are dispatched than answers are placed. Both answer the same; ring, ids
-/// and blocks stand, the job is out of hand and the others are left, and both sides keep their records.
+/// places it. An entry is left for it, since more commands are dispatched than answers are placed. Both answer the same; ring, ids,
+/// notes and blocks stand, the job is out of hand and the others are left, and both sides keep their records.
 pub fn respond_law()
     ensures answer { (user : UserState) (rows : List PendingRow) (d : DeviceState) (lists : List Taken) (s : ℕ) (u : Unfinished) (p : Parked) (parts : List (List ℕ)) →
         CanRespond user rows d lists s u p parts → user_respond_answer user p.job.id ≡ respond_answer d s }
@@ -22,6 +22,9 @@ pub fn respond_law()
     ensures ids { (r : RegionState) (user : UserState) (items : List Recorded) (rows : List PendingRow) (d : DeviceState) (lists : List Taken) (s : ℕ) (u : Unfinished) (p : Parked) (parts : List (List ℕ)) →
         CanRespond user rows d lists s u p parts → RingStands r.front items d lists → IdsStand r.front rows d →
         IdsStand (user_responded r user p).region.front rows (after_respond d s) }
+    ensures notes { (r : RegionState) (user : UserState) (items : List Recorded) (rows : List PendingRow) (d : DeviceState) (lists : List Taken) (s : ℕ) (u : Unfinished) (p : Parked) (parts : List (List ℕ)) →
+        CanRespond user rows d lists s u p parts → RingStands r.front items d lists → NotesStand r.front rows d →
+        NotesStand (user_responded r user p).region.front rows (after_respond d s) }
     ensures blocks { (r : RegionState) (user : UserState) (items : List Recorded) (rows : List PendingRow) (d : DeviceState) (lists : List Taken) (s : ℕ) (u : Unfinished) (p : Parked) (parts : List (List ℕ)) →
         CanRespond user rows d lists s u p parts → RingStands r.front items d lists → r.pages ≡ d.settings.pages → BlocksStand r.blocks d lists →
         BlocksStand (user_responded r user p).region.blocks (after_respond d s) lists }

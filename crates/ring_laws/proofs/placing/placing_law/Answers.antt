@@ -1,7 +1,7 @@
 use Rattle.ring_laws.proofs.Numbered.{can_answer}
-use Rattle.ring_laws.proofs.PlacedAnswers.{ring_placed, ids_placed, target_placed, user_placed, offsets_placed, can_placed}
+use Rattle.ring_laws.proofs.PlacedAnswers.{notes_placed, ring_placed, ids_placed, target_placed, user_placed, offsets_placed, can_placed}
 use Rattle.ring_laws.proofs.AnswerBlocks.{blocks_placed, can_fill, fill_placed}
 use Rattle.ring_laws.proofs.placing.placing_law.Goals as goal
 
 pub returns : goal.returns
-returns c = record { ring = ring_placed; ids = ids_placed; blocks = blocks_placed; target = target_placed; side = user_placed; offsets = offsets_placed; sound = can_answer; filling = can_fill; filling_again = fill_placed; again = can_placed }
+returns c = record { ring = ring_placed; ids = ids_placed; notes = notes_placed; blocks = blocks_placed; target = target_placed; side = user_placed; offsets = offsets_placed; sound = can_answer; filling = can_fill; filling_again = fill_placed; again = can_placed }
