@@ -1,5 +1,5 @@
 -- All published items are cleaned: the target comes to the device's own books, and to no fault.
-use Rattle.std.proofs.Common.{◌≡◌, ◌≢◌, ℕ, ◌+◌, ◌-◌, ◌*◌, ◌/◌, ◌%◌, ◌^◌, ◌≤◌, ◌<◌, ◌⊎◌, ◌&&◌, ◌||◌, inl, inr, Bool, true, false, not, cond, List, [], ◌∷◌, ◌++◌, length, take, drop, map, refl, sym, ap, ◌∙◌, arith, suc, zero, Option, Some, None, slice_get, subst, ⊎_elim, eqb}
+use Rattle.std.proofs.Common.{◌≡◌, ◌≢◌, ℕ, ◌+◌, ◌-◌, ◌*◌, ◌/◌, ◌%◌, ◌^◌, ◌≤◌, ◌<◌, ◌&&◌, ◌||◌, inr, Bool, true, false, not, cond, List, [], ◌∷◌, ◌++◌, length, take, drop, map, refl, sym, ap, ◌∙◌, arith, suc, zero, Option, Some, None, slice_get, subst, ⊎_elim, eqb}
 use Rattle.std.specs.List.{list_any}
 use Rattle.std.specs.Option.{is_some}
 use Rattle.std.proofs.lemmas.Bool.{cases_Bool, eqb-true, eqb-false, cases_lt, ne_eqb, eq-eqb, false≢true, or_parts, or_left, or_right}
@@ -9,18 +9,18 @@ use Rattle.std.proofs.lemmas.List.Sums.{sum_by_push}
 use Rattle.tcmu_types.specs.Data.{ReplyData, DoneData}
 use Rattle.tcmu_model.specs.declared.state.CommandState.TheVariants.{Placed}
 use Rattle.tcmu_model.specs.Lists.{first_of, without_first}
-use Rattle.tcmu_model.specs.RingState.{RingState, Item, lengths, head, used, commands_in, is_command, serials_in, published_commands, cleared_commands}
+use Rattle.tcmu_model.specs.RingState.{Item, lengths, head, used, commands_in, is_command, serials_in, published_commands, cleared_commands}
 use Rattle.tcmu_model.specs.Device.{Unfinished, DeviceState, has_serial, is_at}
-use Rattle.tcmu_model.specs.Events.{is_among, completions, finish, finish_all, Books, books, cleaned_books, clean_answer, answered}
+use Rattle.tcmu_model.specs.Events.{is_among, completions, finish, finish_all, Books, cleaned_books, clean_answer, answered}
 use Rattle.tcmu_model.specs.Sound.{IsSound, Every, Differ, finished, dispatched_serials}
 use Rattle.tcmu_model.specs.BlockLists.{Taken}
 use Rattle.tcmu_model.specs.Layout.{le, field, zeros, ring_start, tail_place, device_mailbox, mailbox_bytes}
 use Rattle.tcmu_model.specs.Regions.{RegionState}
-use Rattle.tcmu_model.proofs.Written.{lengths as writes, field-front, field-in, length-le, length-zeros}
+use Rattle.tcmu_model.proofs.Written.{lengths as writes, field-front, field-in}
 use Rattle.tcmu_model.proofs.Everies.{every-first, every-weaker}
 use Rattle.tcmu_model.proofs.Indexed.{every_at}
 use Rattle.tcmu_model.proofs.Basics.{among_more, rows_unfinished}
-use Rattle.tcmu_model.proofs.Rises.{among-filter, every-among, among_every}
+use Rattle.tcmu_model.proofs.Rises.{among-filter, every-among}
 use Rattle.tcmu_model.proofs.Fronts.{commands_more}
 use Rattle.tcmu_model.proofs.SoundClean.{answered_placed}
 use Rattle.ring_laws.specs.Picture.{place_of, tail, kind_of, shown_mailbox}
@@ -31,7 +31,7 @@ use Rattle.ring_laws.specs.Cleaned.{CanClean}
 use Rattle.ring_laws.proofs.Held.{holds}
 use Rattle.ring_laws.proofs.Numbered.{can_answer, counted-before}
 use Rattle.ring_laws.proofs.Places.{used_is, lengths_more}
-use Rattle.ring_laws.proofs.CleanedOne.{CleanWith, CleanAt, answers_to, clean-one, clean-pass, commands-next, next-place, placed-first, take-next}
+use Rattle.ring_laws.proofs.CleanedOne.{CleanWith, CleanAt, clean-one, clean-pass, commands-next, next-place, placed-first, take-next}
 
 -- ==== small facts
 

@@ -1,5 +1,5 @@
 -- What a clean keeps, point by point.
-use Rattle.std.proofs.Common.{◌≡◌, ℕ, ◌≤◌, ◌⊎◌, inl, inr, List, [], ◌∷◌, refl, sym, ◌∙◌, arith}
+use Rattle.std.proofs.Common.{List}
 use Rattle.tcmu_model.specs.Device.{DeviceState}
 use Rattle.tcmu_model.specs.Events.{after_clean}
 use Rattle.tcmu_model.specs.BlockLists.{Taken}

@@ -1,21 +1,19 @@
 -- What a clean keeps of the ring, of the ids and of the notes.
-use Rattle.std.proofs.Common.{◌≡◌, ◌≢◌, ℕ, ◌+◌, ◌-◌, ◌≤◌, ◌<◌, ◌⊎◌, ◌||◌, inl, inr, Bool, true, false, List, [], ◌∷◌, ◌++◌, length, take, drop, map, refl, sym, ap, ◌∙◌, arith, suc, zero, Option, Some, None, slice_get, subst, ⊎_elim, eqb}
-use Rattle.std.proofs.lemmas.Bool.{cases_Bool, eqb-true, ne_eqb, true≢false, false≢true, or_parts, or_right}
-use Rattle.std.proofs.lemmas.List.{take-append-drop}
+use Rattle.std.proofs.Common.{◌≡◌, ℕ, ◌+◌, ◌-◌, ◌≤◌, ◌⊎◌, inl, true, false, List, [], ◌∷◌, ◌++◌, length, take, drop, refl, sym, ap, ◌∙◌, arith, suc, zero, Option, Some, None, slice_get, subst, ⊎_elim, eqb}
+use Rattle.std.proofs.lemmas.Bool.{cases_Bool, ne_eqb, true≢false, or_right}
 use Rattle.tcmu_types.specs.Data.{CommandData}
-use Rattle.tcmu_model.specs.Lists.{first_of}
 use Rattle.tcmu_model.specs.RingState.{Item, Laid, commands_in, serials_in}
 use Rattle.tcmu_model.specs.RingState as ring
-use Rattle.tcmu_model.specs.Device.{DeviceState, has_serial}
+use Rattle.tcmu_model.specs.Device.{DeviceState}
 use Rattle.tcmu_model.specs.Events.{is_among, after_clean, answered, cleaned_books}
-use Rattle.tcmu_model.specs.Sound.{IsSound, Every, Differ, Rise, dispatched_serials}
+use Rattle.tcmu_model.specs.Sound.{IsSound, Differ, Rise, dispatched_serials}
 use Rattle.tcmu_model.specs.BlockLists.{Taken, list_of}
 use Rattle.tcmu_model.specs.Regions.{RegionState}
 use Rattle.tcmu_model.proofs.Basics.{laid_rise, serials_split}
 use Rattle.tcmu_model.proofs.Rises.{not_above, among-append, among-take, among_every, every-among}
 use Rattle.tcmu_model.proofs.Fronts.{commands_more}
 use Rattle.ring_laws.specs.Picture.{place_of, item_bytes, request_of, ids_named}
-use Rattle.ring_laws.specs.Sides.{PendingRow, Recorded, TargetState}
+use Rattle.ring_laws.specs.Sides.{PendingRow, TargetState}
 use Rattle.ring_laws.specs.Represents.{RingStands, IdsStand, NotesStand, AreNoteIds, IsNoteId, entry_at, id_in, ids_in, serial_with}
 use Rattle.ring_laws.specs.TargetCleans.{region_cleaned, target_cleaned}
 use Rattle.ring_laws.specs.Cleaned.{CanClean}

@@ -1,7 +1,7 @@
 -- A handler answers: the jobs.
-use Rattle.std.proofs.Common.{◌≡◌, ◌≢◌, ℕ, ◌&&◌, ◌||◌, Bool, true, false, cond, List, [], ◌∷◌, ◌++◌, length, map, filter, refl, sym, ap, ◌∙◌, Option, Some, None, subst, ⊎_elim, eqb}
+use Rattle.std.proofs.Common.{◌≡◌, ◌≢◌, ℕ, Bool, true, false, cond, List, [], ◌∷◌, map, filter, refl, sym, ap, ◌∙◌, Option, Some, None, subst, ⊎_elim}
 use Rattle.std.specs.Bool.{MatchBool}
-use Rattle.std.proofs.lemmas.Bool.{cases_Bool, eqb-true, ne_eqb, eq-eqb, false≢true}
+use Rattle.std.proofs.lemmas.Bool.{cases_Bool, ne_eqb, eq-eqb, false≢true}
 use Rattle.tcmu_types.specs.Data.{ReplyData, SettingsData}
 use Rattle.tcmu_types.specs.Rules.{takes_payload}
 use Rattle.tcmu_model.specs.declared.state.CommandState.TheVariants.{Out, Handled}
@@ -15,7 +15,7 @@ use Rattle.tcmu_model.specs.Layout.{zeros}
 use Rattle.tcmu_model.proofs.Counts.{state_at, serial_at}
 use Rattle.ring_laws.specs.Picture.{data_in, payload_of}
 use Rattle.ring_laws.specs.Sides.{GivenJob, InHand, JobState, PendingRow, UserState}
-use Rattle.ring_laws.specs.Represents.{AreGiven, AreOut, IsGiven, IsJobOf, IsOut, JobsStand, id_of, is_out}
+use Rattle.ring_laws.specs.Represents.{AreGiven, AreOut, IsGiven, IsJobOf, JobsStand, is_out}
 use Rattle.ring_laws.specs.HandSteps.{hand_has, hand_answered, with_answer}
 use Rattle.ring_laws.proofs.Numbered.{can_answer}
 use Rattle.ring_laws.proofs.TakenOut.{none_at}

@@ -1,15 +1,14 @@
 -- A handler answers: the command has its reply, which no entry has yet.
-use Rattle.std.proofs.Common.{◌≡◌, ◌≢◌, ℕ, ◌<◌, ◌&&◌, ◌||◌, Bool, true, false, not, cond, List, [], ◌∷◌, ◌++◌, length, map, filter, refl, sym, ap, ◌∙◌, Option, Some, None, slice_get, subst, ⊎_elim, eqb, suc, zero}
-use Rattle.std.specs.Bool.{MatchBool}
+use Rattle.std.proofs.Common.{◌≡◌, ◌≢◌, ℕ, ◌<◌, Bool, true, false, List, [], ◌∷◌, ◌++◌, length, map, filter, refl, sym, ap, ◌∙◌, Option, Some, slice_get, subst, ⊎_elim, eqb, suc, zero}
 use Rattle.std.specs.Prelude.{IfSome}
 use Rattle.std.specs.Option.{is_some}
-use Rattle.std.proofs.lemmas.Bool.{cases_Bool, eqb-true, eqb-false, ne_eqb, false≢true, and_parts, or_parts, or_left}
-use Rattle.tcmu_types.specs.Data.{CommandData, ReplyData}
+use Rattle.std.proofs.lemmas.Bool.{cases_Bool, eqb-false, ne_eqb, false≢true, or_parts}
+use Rattle.tcmu_types.specs.Data.{ReplyData}
 use Rattle.tcmu_model.specs.declared.state.CommandState.{CommandState}
-use Rattle.tcmu_model.specs.declared.state.CommandState.TheVariants.{Out, Handled}
+use Rattle.tcmu_model.specs.declared.state.CommandState.TheVariants.{Out}
 use Rattle.tcmu_model.specs.Lists.{first_of, with_first}
 use Rattle.tcmu_model.specs.Lengths.{blocks_of, block_size}
-use Rattle.tcmu_model.specs.Device.{Unfinished, DeviceState, has_serial, has_state, is_at}
+use Rattle.tcmu_model.specs.Device.{Unfinished, DeviceState, has_serial, is_at}
 use Rattle.tcmu_model.specs.Events.{after_handle, with_reply, command_out, is_among, is_in_hand, answered}
 use Rattle.tcmu_model.specs.Sound.{IsSound, Every, Differ, is_right, state_fits, dispatched_serials}
 use Rattle.tcmu_model.specs.BlockLists.{Taken, list_of, held_by}

@@ -1,14 +1,12 @@
 -- A handled command is parked: no point looks at it otherwise than before, but for the jobs.
-use Rattle.std.proofs.Common.{◌≡◌, ◌≢◌, ℕ, ◌<◌, ◌≤◌, ◌&&◌, Bool, true, false, cond, List, [], ◌∷◌, ◌++◌, length, take, drop, map, filter, refl, sym, ap, ◌∙◌, Option, Some, None, slice_get, subst, ⊎_elim, eqb}
+use Rattle.std.proofs.Common.{◌≡◌, ℕ, ◌<◌, Bool, true, false, List, [], ◌∷◌, ◌++◌, length, take, map, filter, refl, sym, ap, ◌∙◌, Option, Some, None, slice_get, subst, ⊎_elim}
 use Rattle.std.specs.Prelude.{IfSome}
 use Rattle.std.specs.Bool.{MatchBool}
 use Rattle.std.proofs.lemmas.Bool.{cases_Bool, false≢true, and_parts}
-use Rattle.tcmu_types.specs.Data.{ReplyData}
 use Rattle.tcmu_types.specs.Rules.{IsCommand}
 use Rattle.tcmu_model.specs.declared.state.CommandState.{CommandState}
 use Rattle.tcmu_model.specs.declared.state.CommandState.TheVariants.{Handled, Parked}
-use Rattle.tcmu_model.specs.States.{same_state}
-use Rattle.tcmu_model.specs.Lists.{first_of, with_first}
+use Rattle.tcmu_model.specs.Lists.{first_of}
 use Rattle.tcmu_model.specs.Lengths.{blocks_of, block_size}
 use Rattle.tcmu_model.specs.RingState.{Item, Laid, commands_in}
 use Rattle.tcmu_model.specs.RingState as ring
@@ -18,7 +16,6 @@ use Rattle.tcmu_model.specs.Sound.{IsSound, Every, Differ, ReplyFits}
 use Rattle.tcmu_model.specs.BlockLists.{Taken, list_of, held_by}
 use Rattle.tcmu_model.proofs.Counts.{state_at, serial_at}
 use Rattle.tcmu_model.proofs.Everies.{every-with_first}
-use Rattle.ring_laws.specs.Areas.{IsLent}
 use Rattle.ring_laws.specs.Picture.{place_of, item_bytes, entry_of, request_of, ids_named}
 use Rattle.ring_laws.specs.Sides.{Recorded, PendingRow, TargetState, UserState}
 use Rattle.ring_laws.specs.Represents.{RingStands, IdsStand, NotesStand, BlocksOf, BlocksStand, TargetKeeps, UserKeeps, entry_at, id_in, ids_in, pending_of}

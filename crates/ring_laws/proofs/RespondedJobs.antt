@@ -1,5 +1,5 @@
 -- A respond out of order: the jobs that are left, and the answers of both sides.
-use Rattle.std.proofs.Common.{◌≡◌, ◌≢◌, ℕ, ◌&&◌, ◌||◌, ◌++◌, Bool, true, false, not, cond, List, [], ◌∷◌, length, take, drop, map, filter, refl, sym, ap, ◌∙◌, Option, Some, None, subst, ⊎_elim, eqb}
+use Rattle.std.proofs.Common.{◌≡◌, ◌≢◌, ℕ, ◌&&◌, Bool, true, false, not, cond, List, [], ◌∷◌, map, filter, refl, sym, ap, ◌∙◌, Some, None, subst, ⊎_elim, eqb}
 use Rattle.std.specs.Bool.{MatchBool}
 use Rattle.std.specs.Option.{is_some, option_map}
 use Rattle.std.proofs.lemmas.Bool.{cases_Bool, eqb-true, ne_eqb, eq-eqb, true≢false, false≢true, and_parts}
@@ -20,7 +20,7 @@ use Rattle.tcmu_model.specs.Regions.{RegionState}
 use Rattle.tcmu_model.proofs.Counts.{state_at, serial_at}
 use Rattle.ring_laws.specs.Sides.{GivenJob, InHand, PendingRow, UserState}
 use Rattle.ring_laws.specs.Sides as sides
-use Rattle.ring_laws.specs.Represents.{AreGiven, AreOut, IdsStand, IsGiven, JobsStand, command_places, id_of, is_out, row_has}
+use Rattle.ring_laws.specs.Represents.{AreGiven, AreOut, IdsStand, IsGiven, JobsStand, id_of, is_out, row_has}
 use Rattle.ring_laws.specs.UserSteps.{Placing, is_open_job, is_unanswered, placed_at, placed_or_parked, user_respond_answer, user_responded}
 use Rattle.ring_laws.specs.HandSteps.{hand_has, hand_responded}
 use Rattle.ring_laws.specs.Placed.{answer_placed, parked_in, placed_in}

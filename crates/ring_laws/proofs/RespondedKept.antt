@@ -1,40 +1,34 @@
 -- A respond out of order: the command is parked and placed at once.
-use Rattle.std.proofs.Common.{◌≡◌, ◌≢◌, ℕ, ◌+◌, ◌<◌, ◌≤◌, ◌&&◌, ◌||◌, Bool, true, false, not, cond, List, [], ◌∷◌, ◌++◌, length, take, drop, map, filter, refl, sym, ap, ◌∙◌, arith, Option, Some, None, subst, ⊎_elim, eqb}
-use Rattle.std.specs.Bool.{MatchBool}
+use Rattle.std.proofs.Common.{◌≡◌, ℕ, ◌+◌, ◌<◌, ◌≤◌, Bool, true, false, cond, List, [], ◌∷◌, length, refl, sym, ap, ◌∙◌, arith, Option, Some, None, subst, ⊎_elim}
 use Rattle.std.specs.List.{list_any, count_by}
-use Rattle.std.specs.Option.{is_some, option_map}
-use Rattle.std.proofs.lemmas.Bool.{cases_Bool, eqb-true, eqb-false, ne_eqb, eq-eqb, true≢false, false≢true, and_parts, or_parts}
+use Rattle.std.proofs.lemmas.Bool.{cases_Bool}
 use Rattle.std.proofs.lemmas.List.Sums.{sum_by-cons}
 use Rattle.tcmu_types.specs.Data.{ReplyData, SettingsData}
 use Rattle.tcmu_types.specs.declared.settings.Flags.{Flags}
 use Rattle.tcmu_model.specs.declared.state.CommandState.{CommandState}
-use Rattle.tcmu_model.specs.declared.state.CommandState.TheVariants.{Handled, Parked, Placed}
-use Rattle.tcmu_model.specs.declared.state.CommandState.TheVariants as state
-use Rattle.tcmu_model.specs.Lists.{first_of, with_first, without_first}
+use Rattle.tcmu_model.specs.declared.state.CommandState.TheVariants.{Handled, Parked}
+use Rattle.tcmu_model.specs.Lists.{first_of, without_first}
 use Rattle.tcmu_model.specs.RingState.{dispatched_commands, serials_in}
-use Rattle.tcmu_model.specs.Device.{Unfinished, DeviceState, has_state, has_serial, is_at}
+use Rattle.tcmu_model.specs.Device.{Unfinished, DeviceState, is_at}
 use Rattle.tcmu_model.specs.Events.{Placing, after_respond, in_state, is_among, is_handled, is_in_hand, placed_by, turned}
 use Rattle.tcmu_model.specs.Events as events
-use Rattle.tcmu_model.specs.Sound.{IsSound, Differ, awaits_answer}
-use Rattle.tcmu_model.specs.BlockLists.{Taken, list_of}
+use Rattle.tcmu_model.specs.Sound.{IsSound, awaits_answer}
+use Rattle.tcmu_model.specs.BlockLists.{Taken}
 use Rattle.tcmu_model.specs.Regions.{RegionState}
-use Rattle.tcmu_model.proofs.Counts.{state_at, serial_at}
+use Rattle.tcmu_model.proofs.Counts.{state_at}
 use Rattle.tcmu_model.proofs.Standing.{awaiting}
 use Rattle.tcmu_types.specs.Rules.{takes_payload}
 use Rattle.ring_laws.specs.Picture.{data_in, payload_of}
 use Rattle.ring_laws.specs.Sides.{GivenJob, InHand, PendingRow, Recorded, TargetState, UserState}
 use Rattle.ring_laws.specs.Sides as sides
-use Rattle.ring_laws.specs.Represents.{AreGiven, AreOut, BlocksStand, IdsStand, IsJobOf, JobsStand, NotesStand, RingStands, TargetKeeps, UserKeeps, id_of, is_out, row_has}
+use Rattle.ring_laws.specs.Represents.{BlocksStand, IdsStand, IsJobOf, NotesStand, RingStands, TargetKeeps, UserKeeps}
 use Rattle.ring_laws.specs.UserSteps.{is_open_job, placing_by, user_responded}
 use Rattle.ring_laws.specs.UserSteps as steps
-use Rattle.ring_laws.specs.HandSteps.{hand_has, hand_responded}
-use Rattle.ring_laws.specs.Placed.{CanAnswer, CanPlace, answer_placed, parked_in, placed_in}
+use Rattle.ring_laws.specs.Placed.{CanPlace, answer_placed, parked_in, placed_in}
 use Rattle.ring_laws.specs.Responded.{CanRespond}
-use Rattle.ring_laws.proofs.Numbered.{can_answer}
-use Rattle.ring_laws.proofs.PlacedAnswers.{ring_placed, ids_placed, notes_placed, target_placed, user_placed, offsets_placed}
+use Rattle.ring_laws.proofs.PlacedAnswers.{ring_placed, ids_placed, notes_placed, target_placed, user_placed}
 use Rattle.ring_laws.proofs.AnswerBlocks.{blocks_placed}
 use Rattle.ring_laws.proofs.ParkedKept.{ring_parked, ids_parked, notes_parked, blocks_parked, target_parked, side_parked, can_answer_parked, can_fill_parked, found_parked}
-use Rattle.ring_laws.proofs.TakenOut.{none_at}
 
 -- ==== both sides place the one answer
 

@@ -1,8 +1,8 @@
 -- A command is taken out of the target's rows, under the id that its answer names.
-use Rattle.std.proofs.Common.{◌≡◌, ◌≢◌, ℕ, ◌≤◌, ◌<◌, ◌⊎◌, ◌&&◌, ◌||◌, inl, inr, Bool, true, false, List, [], ◌∷◌, ◌++◌, length, take, map, refl, sym, ap, ◌∙◌, arith, suc, zero, Option, Some, None, slice_get, subst, ⊎_elim, eqb}
+use Rattle.std.proofs.Common.{◌≡◌, ℕ, ◌⊎◌, ◌&&◌, inl, inr, Bool, true, false, List, [], ◌∷◌, map, refl, sym, ap, ◌∙◌, Some, None, subst, ⊎_elim, eqb}
 use Rattle.std.specs.List.{list_any}
 use Rattle.std.specs.Option.{option_map}
-use Rattle.std.proofs.lemmas.Bool.{cases_Bool, eqb-true, eqb-false, ne_eqb, eq-eqb, false≢true, or_parts}
+use Rattle.std.proofs.lemmas.Bool.{cases_Bool, eqb-true, eqb-false, ne_eqb, eq-eqb, or_parts}
 use Rattle.tcmu_model.specs.declared.state.CommandState.{CommandState}
 use Rattle.tcmu_model.specs.declared.state.CommandState.TheVariants.{Placed}
 use Rattle.tcmu_model.specs.States.{same_state}
@@ -13,7 +13,7 @@ use Rattle.tcmu_model.specs.Sound.{Differ}
 use Rattle.tcmu_model.specs.BlockLists.{Taken}
 use Rattle.tcmu_model.specs.Pending.{PendingData}
 use Rattle.ring_laws.specs.Sides.{PendingRow}
-use Rattle.ring_laws.specs.Represents.{has_id, row_has, id_of, serial_with, pending_of}
+use Rattle.ring_laws.specs.Represents.{has_id, row_has, serial_with, pending_of}
 
 -- what is not taken out is found as before
 pub first-without : {X : Type 0} (p q : X → Bool) (xs : List X) (e : X) → first_of p xs ≡ Some e → q e ≡ false → first_of q (without_first p xs) ≡ first_of q xs
