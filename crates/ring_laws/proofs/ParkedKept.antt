@@ -138,17 +138,24 @@ pub side_parked : (user : UserState) (d : DeviceState) (s : ℕ) → UserKeeps u
 side_parked user d s h =
     record { ring = h.ring; pages = h.pages; flags = h.flags; tail = h.tail; dispatched = h.dispatched; placed = h.placed; published = h.published; place = h.place; items = h.items }
 
-pub lists_parked : (d : DeviceState) (lists : List Taken) (s : ℕ) → ListsSound d lists → ListsSound (parked_in d s) lists
-lists_parked d lists s h =
-    let held : held_by lists (turned s Handled Parked d.unfinished) ≡ held_by lists d.unfinished = held-turned lists s Handled Parked d.unfinished in
+-- the command of a serial in the one state turns to the other
+abbrev pub turned_in : DeviceState → ℕ → CommandState → CommandState → DeviceState
+turned_in d s a b = record d { unfinished = turned s a b d.unfinished }
+
+pub lists_turned : (d : DeviceState) (lists : List Taken) (s : ℕ) (a b : CommandState) → ListsSound d lists → ListsSound (turned_in d s a b) lists
+lists_turned d lists s a b h =
+    let held : held_by lists (turned s a b d.unfinished) ≡ held_by lists d.unfinished = held-turned lists s a b d.unfinished in
     record {
       listed = h.listed;
       differ = subst Differ (sym held) h.differ;
       below = subst (Every (λ (k : ℕ). k < d.settings.blocks)) (sym held) h.below;
-      sizes = every-with_first (is_at s Handled) (in_state Parked) (λ (u : Unfinished). length (list_of lists u.serial) ≡ blocks_of d.settings.pages u.command) d.unfinished (λ u k p. p) h.sizes;
+      sizes = every-with_first (is_at s a) (in_state b) (λ (u : Unfinished). length (list_of lists u.serial) ≡ blocks_of d.settings.pages u.command) d.unfinished (λ u k p. p) h.sizes;
       spans = h.spans;
-      statuses = every-with_first (is_at s Handled) (in_state Parked) (λ (u : Unfinished). IfSome u.reply (λ r. r.status < 256)) d.unfinished (λ u k p. p) h.statuses;
+      statuses = every-with_first (is_at s a) (in_state b) (λ (u : Unfinished). IfSome u.reply (λ r. r.status < 256)) d.unfinished (λ u k p. p) h.statuses;
     }
+
+pub lists_parked : (d : DeviceState) (lists : List Taken) (s : ℕ) → ListsSound d lists → ListsSound (parked_in d s) lists
+lists_parked d lists s h = lists_turned d lists s Handled Parked h
 
 -- ==== what placing rests on
 

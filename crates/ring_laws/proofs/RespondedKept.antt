@@ -6,7 +6,7 @@ use Rattle.std.proofs.lemmas.List.Sums.{sum_by-cons}
 use Rattle.tcmu_types.specs.Data.{ReplyData, SettingsData}
 use Rattle.tcmu_types.specs.declared.settings.Flags.{Flags}
 use Rattle.tcmu_model.specs.declared.state.CommandState.{CommandState}
-use Rattle.tcmu_model.specs.declared.state.CommandState.TheVariants.{Handled, Parked}
+use Rattle.tcmu_model.specs.declared.state.CommandState.TheVariants.{Handled, Parked, Placed}
 use Rattle.tcmu_model.specs.Lists.{first_of, without_first}
 use Rattle.tcmu_model.specs.RingState.{dispatched_commands, serials_in}
 use Rattle.tcmu_model.specs.Device.{Unfinished, DeviceState, is_at}
@@ -24,11 +24,12 @@ use Rattle.ring_laws.specs.Sides as sides
 use Rattle.ring_laws.specs.Represents.{BlocksStand, IdsStand, IsJobOf, NotesStand, RingStands, TargetKeeps, UserKeeps}
 use Rattle.ring_laws.specs.UserSteps.{is_open_job, placing_by, user_responded}
 use Rattle.ring_laws.specs.UserSteps as steps
+use Rattle.ring_laws.specs.Owned.{ListsSound}
 use Rattle.ring_laws.specs.Placed.{CanPlace, answer_placed, parked_in, placed_in}
 use Rattle.ring_laws.specs.Responded.{CanRespond}
 use Rattle.ring_laws.proofs.PlacedAnswers.{ring_placed, ids_placed, notes_placed, target_placed, user_placed}
 use Rattle.ring_laws.proofs.AnswerBlocks.{blocks_placed}
-use Rattle.ring_laws.proofs.ParkedKept.{ring_parked, ids_parked, notes_parked, blocks_parked, target_parked, side_parked, can_answer_parked, can_fill_parked, found_parked}
+use Rattle.ring_laws.proofs.ParkedKept.{turned_in, lists_turned, lists_parked, ring_parked, ids_parked, notes_parked, blocks_parked, target_parked, side_parked, can_answer_parked, can_fill_parked, found_parked}
 
 -- ==== both sides place the one answer
 
@@ -161,3 +162,11 @@ side_responded r user rows d lists s u p parts h keeps =
     let k = user_placed r user rows (parked_in d s) lists s (in_state Parked u) p parts (without_first (is_open_job p.job.id) user.jobs) (can_answer_parked d s h.sound) (side_parked user d s keeps) (can_place user rows d lists s u p parts h) in
     subst (λ (z : DeviceState). UserKeeps (user_responded r user p).user z) (sym e.device)
     (subst (λ (z : steps.Placing). UserKeeps z.user (placed_in (parked_in d s) s)) (sym e.side) k)
+
+pub lists_responded : (user : UserState) (rows : List PendingRow) (d : DeviceState) (lists : List Taken) (s : ℕ) (u : Unfinished) (p : sides.Parked) (parts : List (List ℕ)) →
+    CanRespond user rows d lists s u p parts → ListsSound (after_respond d s) lists
+lists_responded user rows d lists s u p parts h =
+    let a : ListsSound (parked_in d s) lists = lists_parked d lists s h.owned in
+    let b : ListsSound (turned_in (parked_in d s) s Parked Placed) lists = lists_turned (parked_in d s) lists s Parked Placed a in
+    let k : ListsSound (placed_in (parked_in d s) s) lists = record { listed = b.listed; differ = b.differ; below = b.below; sizes = b.sizes; spans = b.spans; statuses = b.statuses } in
+    subst (λ (z : DeviceState). ListsSound z lists) (sym (device_responds d s (found-any (is_at s Handled) d.unfinished u h.found) h.ooo)) k

@@ -8,6 +8,7 @@ ghost use Rattle.ring_laws.specs.Sides.{InHand, Parked, PendingRow, Recorded, Ta
 ghost use Rattle.ring_laws.specs.Represents.{BlocksStand, IdsStand, JobsStand, NotesStand, RingStands, TargetKeeps, UserKeeps};
 ghost use Rattle.ring_laws.specs.UserSteps.{user_respond_answer, user_responded};
 ghost use Rattle.ring_laws.specs.HandSteps.{hand_responded};
+ghost use Rattle.ring_laws.specs.Owned.{ListsSound};
 ghost use Rattle.ring_laws.specs.Responded.{CanRespond};
 
 /// The user side of a device that places answers out of order writes the answer into the first entry that is not yet used, as the device
@@ -35,4 +36,6 @@ pub fn respond_law()
         CanRespond user rows d lists s u p parts → TargetKeeps t d lists → TargetKeeps t (after_respond d s) lists }
     ensures side { (r : RegionState) (user : UserState) (rows : List PendingRow) (d : DeviceState) (lists : List Taken) (s : ℕ) (u : Unfinished) (p : Parked) (parts : List (List ℕ)) →
         CanRespond user rows d lists s u p parts → UserKeeps user d → UserKeeps (user_responded r user p).user (after_respond d s) }
+    ensures lists { (user : UserState) (rows : List PendingRow) (d : DeviceState) (lists : List Taken) (s : ℕ) (u : Unfinished) (p : Parked) (parts : List (List ℕ)) →
+        CanRespond user rows d lists s u p parts → ListsSound (after_respond d s) lists }
 {}
