@@ -39,3 +39,4 @@ pub mod HandledJobs
 pub mod ParkedKept
 pub mod RespondedKept
 pub mod RespondedJobs
+pub mod ParkedJobs

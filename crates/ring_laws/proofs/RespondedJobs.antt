@@ -54,7 +54,7 @@ id_among (e ∷ rows) q id h =
 not_twice : (e : PendingRow) (rows : List PendingRow) (q id : ℕ) → is_among (map (λ (x : PendingRow). x.id) rows) e.id ≡ false → e.id ≡ id → id_of rows q ≡ Some id → ⊥
 not_twice e rows q id h i g = true≢false (sym (id_among rows q id g) ∙ subst (λ (y : ℕ). is_among (map (λ (x : PendingRow). x.id) rows) y ≡ false) i h)
 
-one_serial : (rows : List PendingRow) (a b id : ℕ) → Differ (map (λ (e : PendingRow). e.id) rows) → id_of rows a ≡ Some id → id_of rows b ≡ Some id → a ≡ b
+pub one_serial : (rows : List PendingRow) (a b id : ℕ) → Differ (map (λ (e : PendingRow). e.id) rows) → id_of rows a ≡ Some id → id_of rows b ≡ Some id → a ≡ b
 one_serial [] a b id d h g = absurd (cc)
 one_serial (e ∷ rows) a b id d h g =
     ⊎_elim
@@ -88,7 +88,7 @@ unmatched false P Q e h = h
 some_same : (a b : ℕ) → Some a ≡ Some b → a ≡ b
 some_same a b h = cc
 
-opens : (s : SettingsData) (rows : List PendingRow) (lists : List Taken) (g : GivenJob) (v : Unfinished) (id : ℕ) → v.state ≡ Handled → id_of rows v.serial ≡ Some id → IsGiven s rows lists g v → is_open_job id g ≡ true
+pub opens : (s : SettingsData) (rows : List PendingRow) (lists : List Taken) (g : GivenJob) (v : Unfinished) (id : ℕ) → v.state ≡ Handled → id_of rows v.serial ≡ Some id → IsGiven s rows lists g v → is_open_job id g ≡ true
 opens s rows lists g v id st i h =
     let n : has_state state.Parked v ≡ false = rw st refl in
     let q : g.parked ≡ None = unmatched (has_state state.Parked v) _ _ n h.1 in

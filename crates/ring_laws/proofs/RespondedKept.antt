@@ -80,7 +80,7 @@ found-state s t (v ∷ us) u f =
     (λ (k : is_at s t v ≡ false). let g : first_of (is_at s t) us ≡ Some u = rw k at f in found-state s t us u g)
     (cases_Bool (is_at s t v))
 
-job_parked : (s : SettingsData) (rows : List PendingRow) (lists : List Taken) (u : Unfinished) (job : sides.JobState) (parts : List (List ℕ)) → u.state ≡ Handled → IsJobOf s rows lists u job parts → IsJobOf s rows lists (in_state Parked u) job parts
+pub job_parked : (s : SettingsData) (rows : List PendingRow) (lists : List Taken) (u : Unfinished) (job : sides.JobState) (parts : List (List ℕ)) → u.state ≡ Handled → IsJobOf s rows lists u job parts → IsJobOf s rows lists (in_state Parked u) job parts
 job_parked s rows lists u job parts st h =
     record { id = h.id; cdb = h.cdb; iovs = h.iovs; in_len = h.in_len; carried = h.carried; count = h.count; size = h.size; payload = h.payload ∙ payload_parked u st }
   where
