@@ -1,33 +1,22 @@
 -- A handled command is parked: the user side has its job with its reply, and it is out of hand.
-use Rattle.std.proofs.Common.{◌≡◌, ◌≢◌, ℕ, ◌&&◌, Bool, true, false, not, cond, List, [], ◌∷◌, map, filter, refl, sym, ap, ◌∙◌, Some, None, subst, ⊎_elim, eqb}
-use Rattle.std.specs.Bool.{MatchBool}
-use Rattle.std.specs.Option.{is_some, option_map}
-use Rattle.std.proofs.lemmas.Bool.{cases_Bool, eqb-true, ne_eqb, eq-eqb, true≢false, false≢true, and_parts}
-use Rattle.std.specs.List.{list_any}
+use Rattle.std.proofs.Common.{◌≡◌, ◌≢◌, ℕ, ◌&&◌, true, false, not, List, [], ◌∷◌, map, filter, refl, sym, ap, ◌∙◌, Some, subst, ⊎_elim, eqb}
+use Rattle.std.specs.Option.{is_some}
+use Rattle.std.proofs.lemmas.Bool.{cases_Bool, ne_eqb, eq-eqb}
 use Rattle.tcmu_types.specs.Data.{SettingsData}
-use Rattle.tcmu_types.specs.declared.settings.Flags.{Flags}
-use Rattle.tcmu_types.specs.declared.answer.Respond.TheVariants as respond
-use Rattle.tcmu_model.specs.declared.state.CommandState.TheVariants.{Handled, Parked, Placed}
-use Rattle.tcmu_model.specs.declared.state.CommandState.TheVariants as state
+use Rattle.tcmu_model.specs.declared.state.CommandState.TheVariants.{Handled, Parked}
 use Rattle.tcmu_model.specs.Lists.{first_of, with_first, without_first}
-use Rattle.tcmu_model.specs.Device.{Unfinished, DeviceState, has_serial, has_state, is_at}
-use Rattle.tcmu_model.specs.Events.{after_respond, in_state, is_among, is_handled, is_in_hand, placed_by, respond_answer, turned}
-use Rattle.tcmu_model.specs.Events as events
-use Rattle.tcmu_model.specs.RingState.{serials_in}
+use Rattle.tcmu_model.specs.Device.{Unfinished, DeviceState, is_at}
+use Rattle.tcmu_model.specs.Events.{in_state, is_among, is_in_hand, turned}
 use Rattle.tcmu_model.specs.Sound.{Differ}
 use Rattle.tcmu_model.specs.BlockLists.{Taken}
-use Rattle.tcmu_model.specs.Regions.{RegionState}
 use Rattle.tcmu_model.proofs.Counts.{state_at, serial_at}
 use Rattle.ring_laws.specs.Sides.{GivenJob, InHand, PendingRow, UserState}
 use Rattle.ring_laws.specs.Sides as sides
-use Rattle.ring_laws.specs.Represents.{AreGiven, AreOut, IdsStand, IsGiven, JobsStand, id_of, is_out, row_has}
-use Rattle.ring_laws.specs.UserSteps.{Placing, is_open_job, is_unanswered, placed_at, placed_or_parked, user_respond_answer, user_responded}
+use Rattle.ring_laws.specs.Represents.{AreGiven, AreOut, IdsStand, JobsStand, id_of, is_out}
+use Rattle.ring_laws.specs.UserSteps.{is_open_job}
 use Rattle.ring_laws.specs.HandSteps.{hand_has, hand_responded}
-use Rattle.ring_laws.specs.Placed.{answer_placed, parked_in, placed_in}
-use Rattle.ring_laws.specs.Responded.{CanRespond}
+use Rattle.ring_laws.specs.Placed.{parked_in}
 use Rattle.ring_laws.proofs.Numbered.{can_answer}
-use Rattle.ring_laws.proofs.PlacedAnswers.{Into, goes_into, offsets_placed, placing_of}
-use Rattle.ring_laws.proofs.ParkedKept.{can_answer_parked, found_parked}
 use Rattle.ring_laws.proofs.RespondedKept.{found-state, job_parked}
 use Rattle.ring_laws.proofs.TakenOut.{none_at}
 use Rattle.ring_laws.proofs.RespondedJobs.{one_serial, opens}
