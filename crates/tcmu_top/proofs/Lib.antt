@@ -14,3 +14,4 @@ pub mod Fetching
 pub mod FileRuns
 pub mod Keeping
 pub mod Scenarios
+pub mod Agreed

@@ -4,3 +4,4 @@ pub mod Opened
 pub mod Words
 pub mod Loads
 pub mod Top
+pub mod Laws

@@ -1,4 +1,5 @@
 //! The laws of texts: what holds of the text of every scenario over media in memory.
+ghost use Rattle.tcmu_top.specs.Laws.{TextsAgree};
 ghost use Rattle.text_laws.specs.InMemory.{LawOfReplay, LawOfJournals, HasOneText, HasOneJournal};
 
 /// The law of replay. The text of a replay without dumps is a scenario where it has at most 4,194,304 bytes and the replay has at
@@ -19,3 +20,8 @@ pub fn text_law()
 {
     text_laws::text_in_memory_law()
 }
+
+/// Where all media lie in memory, the texts that `run_replay` may write are those of which these laws speak, whatever the files.
+pub fn memory_law()
+    ensures { TextsAgree }
+{}

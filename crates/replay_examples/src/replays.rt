@@ -1,0 +1,58 @@
+//! Replays over what is in memory.
+use edge::{MemFiles, MemSink, MemSource, MemStore};
+use std::alloc::Global;
+use std::test::Fail;
+use tcmu_top::run_replay;
+use tcmu_types::{Bytes, NoMemory, Serials};
+
+/// The exit status of a replay, and what it wrote. The read of the first number fails, and the write of the second.
+pub fn ended(alloc: Global, input: &str, read: u64, write: u64) -> Result<(u8, Bytes), NoMemory> {
+    let bytes = Bytes::from_slice(alloc, input.as_bytes())?;
+    let mut src = MemSource::new(bytes, Serials::from_slice(alloc, &[read])?);
+    let mut out = MemSink::new(alloc, 4096, Serials::from_slice(alloc, &[write])?)?;
+    let mut files = MemFiles::new(alloc, Serials::new(alloc));
+    let code = run_replay(alloc, &mut src, &mut out, &mut files).code();
+    Ok((code, Bytes::from_slice(alloc, out.written())?))
+}
+
+/// Files with `img` alone, of two blocks of zeros. The fetch of the first number fails, and the store's call of the second.
+fn files_with(alloc: Global, fetch: u64, call: u64) -> Result<MemFiles, NoMemory> {
+    let zeros = Bytes::from_slice(alloc, &[0; 1024])?;
+    let store = MemStore::new(zeros, Serials::from_slice(alloc, &[call])?);
+    let mut files = MemFiles::new(alloc, Serials::from_slice(alloc, &[fetch])?);
+    files.add(alloc, b"img", store)?;
+    Ok(files)
+}
+
+fn replay(alloc: Global, input: &str, files: &mut MemFiles) -> Result<(u8, Bytes), NoMemory> {
+    let bytes = Bytes::from_slice(alloc, input.as_bytes())?;
+    let mut src = MemSource::new(bytes, Serials::new(alloc));
+    let mut out = MemSink::new(alloc, 4096, Serials::new(alloc))?;
+    let code = run_replay(alloc, &mut src, &mut out, files).code();
+    Ok((code, Bytes::from_slice(alloc, out.written())?))
+}
+
+/// The exit status of a replay over the file `img`, and what it wrote.
+pub fn over_file(
+    alloc: Global,
+    input: &str,
+    fetch: u64,
+    call: u64,
+) -> Result<(u8, Bytes), NoMemory> {
+    let mut files = files_with(alloc, fetch, call)?;
+    replay(alloc, input, &mut files)
+}
+
+/// The exit status of a replay over the file `img`, and what that has behind it.
+pub fn left_in_file(alloc: Global, input: &str) -> Result<(u8, Bytes), Fail> {
+    let mut files = files_with(alloc, 0, 0)?;
+    let (code, _) = replay(alloc, input, &mut files)?;
+    let store = files.get(b"img").ok_or("the file is at home")?;
+    Ok((code, Bytes::from_slice(alloc, store.bytes())?))
+}
+
+/// Whether a text has this line.
+pub fn has_line(text: &[u8], wanted: &str) -> bool {
+    text.split(|byte| *byte == b'\n')
+        .any(|line| line == wanted.as_bytes())
+}
