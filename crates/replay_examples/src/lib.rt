@@ -1,9 +1,11 @@
-//! Worked examples of a replay in which calls of its source, its sink, its files and their stores fail.
+//! Worked examples of replays and loads in which calls of the source, the sink, the files and their stores fail.
 #![tactic(auto)]
 
 #[cfg(test)]
 mod calls;
 #[cfg(test)]
 mod devices;
+#[cfg(test)]
+mod loads;
 #[cfg(test)]
 mod replays;
