@@ -85,10 +85,10 @@ record Fits (n : ℕ) (r : ReplyData) : Type 0 where
   pub bytes : length r.payload ≤ n
 
 good_fits : (n : ℕ) (payload : List ℕ) → length payload ≤ n → Fits n (good payload)
-good_fits n payload h = record { reply = record { sense = refl; key = tt; good = λ no. absurd (no refl) }; bytes = h }
+good_fits n payload h = record { reply = record { byte = omega arith; sense = refl; key = tt; good = λ no. absurd (no refl) }; bytes = h }
 
 refused_fits : (n : ℕ) (s : SenseData) → s.key < 16 → Fits n (refused s)
-refused_fits n s h = record { reply = record { sense = refl; key = h; good = λ _. refl }; bytes = omega arith }
+refused_fits n s h = record { reply = record { byte = omega arith; sense = refl; key = h; good = λ _. refl }; bytes = omega arith }
 
 record Settles (P : Type 0) (n : ℕ) (m : MediumState) (E : Outcome) : Type 0 where
   pub some : (r : ReplyData) × (a : MediumState) × E r a

@@ -20,14 +20,14 @@ use Rattle.tcmu_model.specs.Regions.{HaveSize, numbers_of, returned, RegionState
 use Rattle.tcmu_model.proofs.Counts.{state_at}
 use Rattle.tcmu_model.proofs.Everies.{every-first, every-weaker, every-with_first}
 use Rattle.tcmu_model.proofs.Written.{length-zeros}
-use Rattle.ring_laws.specs.Areas.{bytes_along, IsHome, IsLent}
-use Rattle.ring_laws.specs.Picture.{payload_of, data_in}
-use Rattle.ring_laws.specs.Sides.{PendingRow, GivenJob, UserState, Carried}
-use Rattle.ring_laws.specs.Sides as sides
-use Rattle.ring_laws.specs.Represents.{RingStands, HaveData, BlocksOf, BlocksStand, IsJobOf}
-use Rattle.ring_laws.specs.UserSteps.{placed_at, with_payload}
+use Rattle.tcmu_model.specs.Areas.{bytes_along, IsHome, IsLent}
+use Rattle.tcmu_model.specs.Picture.{payload_of, data_in}
+use Rattle.tcmu_model.specs.Sides.{PendingRow, GivenJob, UserState, Carried}
+use Rattle.tcmu_model.specs.Sides as sides
+use Rattle.tcmu_model.specs.Represents.{RingStands, HaveData, BlocksOf, BlocksStand, IsJobOf}
+use Rattle.tcmu_model.specs.UserSteps.{placed_at, with_payload}
 use Rattle.ring_laws.specs.Placed.{CanAnswer, CanPlace, CanFill, placed_in, answer_placed}
-use Rattle.ring_laws.specs.Owned.{ListsSound}
+use Rattle.tcmu_model.specs.Owned.{ListsSound}
 use Rattle.ring_laws.proofs.Layouts.{take-past}
 use Rattle.ring_laws.proofs.LaidBlocks.{among-append, own-among, every-both, stand-other, every-among}
 use Rattle.ring_laws.proofs.AnswerBytes.{first-passes}

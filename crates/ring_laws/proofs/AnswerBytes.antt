@@ -16,9 +16,9 @@ use Rattle.tcmu_model.specs.Sound.{Differ}
 use Rattle.tcmu_model.specs.BlockLists.{Taken, list_of}
 use Rattle.tcmu_model.specs.Layout.{le, put, ring_start, data_start, response_bytes, with_response}
 use Rattle.tcmu_model.proofs.Written.{length-le}
-use Rattle.ring_laws.specs.Picture.{place_of, item_bytes, entry_of, with_answer, request_of, ids_named, told_length, answered_entry}
-use Rattle.ring_laws.specs.Sides.{Recorded, PendingRow}
-use Rattle.ring_laws.specs.Represents.{RingStands, StandsAt, IdsStand, entry_at, id_in, ids_in, id_at, id_of}
+use Rattle.tcmu_model.specs.Picture.{place_of, item_bytes, entry_of, with_answer, request_of, ids_named, told_length, answered_entry}
+use Rattle.tcmu_model.specs.Sides.{Recorded, PendingRow}
+use Rattle.tcmu_model.specs.Represents.{RingStands, StandsAt, IdsStand, entry_at, id_in, ids_in, id_at, id_of}
 use Rattle.ring_laws.proofs.Bytes.{length-written, take-written}
 use Rattle.ring_laws.proofs.Places.{slice_get-left, slice_get-right}
 use Rattle.ring_laws.proofs.Answered.{response_apart, response_here, id_of_answered, answered_over, length-response}

@@ -9,7 +9,7 @@ use Rattle.tcmu_model.specs.Iovecs.{merged, iovs_along, scattered, gathered}
 use Rattle.tcmu_model.specs.Layout.{put}
 use Rattle.tcmu_model.specs.Regions.{home, HaveSize, numbers_from, first_block, block_count, numbers_of, put_home, put_where, returned}
 use Rattle.tcmu_model.specs.Sound.{Every, Differ}
-use Rattle.ring_laws.specs.Areas.{block_bytes, bytes_along, IsHome, IsLent}
+use Rattle.tcmu_model.specs.Areas.{block_bytes, bytes_along, IsHome, IsLent}
 use Rattle.ring_laws.proofs.Scatter.{get-set_other, get-set_same, here-other, along-same}
 
 -- ==== what is given back

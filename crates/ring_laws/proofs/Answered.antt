@@ -5,8 +5,8 @@ use Rattle.tcmu_types.specs.Data.{CommandData, SenseData, ReplyData, SettingsDat
 use Rattle.tcmu_types.specs.SenseBytes.{fixed_sense}
 use Rattle.tcmu_model.specs.Layout.{le, put, zeros, padded, ring_start, entry_header, command_head, command_bytes, sense_buffer, answer_bytes, response_bytes, with_response}
 use Rattle.tcmu_model.proofs.Written.{lengths as writes, length-le, length-padded, field-put, field-before, field-le}
-use Rattle.ring_laws.specs.Picture.{request_of, answered_entry}
-use Rattle.ring_laws.specs.Represents.{entry_at, id_in}
+use Rattle.tcmu_model.specs.Picture.{request_of, answered_entry}
+use Rattle.tcmu_model.specs.Represents.{entry_at, id_in}
 use Rattle.ring_laws.proofs.Bytes.{part, length-written, part-written_before, part-written_behind}
 use Rattle.ring_laws.proofs.Layouts.{take-written_inside}
 

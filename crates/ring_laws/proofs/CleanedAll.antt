@@ -23,10 +23,10 @@ use Rattle.tcmu_model.proofs.Basics.{among_more, rows_unfinished}
 use Rattle.tcmu_model.proofs.Rises.{among-filter, every-among}
 use Rattle.tcmu_model.proofs.Fronts.{commands_more}
 use Rattle.tcmu_model.proofs.SoundClean.{answered_placed}
-use Rattle.ring_laws.specs.Picture.{place_of, tail, kind_of, shown_mailbox}
-use Rattle.ring_laws.specs.Sides.{PendingRow, Recorded, TargetState}
-use Rattle.ring_laws.specs.Represents.{RingStands, recorded}
-use Rattle.ring_laws.specs.TargetCleans.{CleanAnswer, Logged, BadTail, Broken, all_cleaned, one_cleaned, unless_broken, logged_or_broken, ends_at, tail_read, tail_fits, target_cleaned, target_clean_answer}
+use Rattle.tcmu_model.specs.Picture.{place_of, tail, kind_of, shown_mailbox}
+use Rattle.tcmu_model.specs.Sides.{PendingRow, Recorded, TargetState}
+use Rattle.tcmu_model.specs.Represents.{RingStands, recorded}
+use Rattle.tcmu_model.specs.TargetCleans.{CleanAnswer, Logged, BadTail, Broken, all_cleaned, one_cleaned, unless_broken, logged_or_broken, ends_at, tail_read, tail_fits, target_cleaned, target_clean_answer}
 use Rattle.ring_laws.specs.Cleaned.{CanClean}
 use Rattle.ring_laws.proofs.Held.{holds}
 use Rattle.ring_laws.proofs.Numbered.{can_answer, counted-before}

@@ -19,12 +19,12 @@ use Rattle.tcmu_model.proofs.Firsts.{without_first_missing}
 use Rattle.tcmu_model.proofs.Everies.{every-weaker, every-both, every-filter, every-passes, every-without_first, every-front, every-back, every-append}
 use Rattle.tcmu_model.proofs.Rises.{among-append, among_every}
 use Rattle.tcmu_model.proofs.SoundClean.{answered_placed}
-use Rattle.ring_laws.specs.Areas.{IsLent}
-use Rattle.ring_laws.specs.Sides.{GivenJob, InHand, JobState, PendingRow, TargetState, UserState}
-use Rattle.ring_laws.specs.Represents.{AreGiven, AreOut, BlocksOf, BlocksStand, IsJobOf, JobsStand, id_of, is_out}
-use Rattle.ring_laws.specs.TargetSteps.{blocks_held}
-use Rattle.ring_laws.specs.TargetCleans.{region_cleaned, target_cleaned}
-use Rattle.ring_laws.specs.Owned.{ListsSound}
+use Rattle.tcmu_model.specs.Areas.{IsLent}
+use Rattle.tcmu_model.specs.Sides.{GivenJob, InHand, JobState, PendingRow, TargetState, UserState}
+use Rattle.tcmu_model.specs.Represents.{AreGiven, AreOut, BlocksOf, BlocksStand, IsJobOf, JobsStand, id_of, is_out}
+use Rattle.tcmu_model.specs.TargetSteps.{blocks_held}
+use Rattle.tcmu_model.specs.TargetCleans.{region_cleaned, target_cleaned}
+use Rattle.tcmu_model.specs.Owned.{ListsSound}
 use Rattle.ring_laws.specs.Cleaned.{CanClean}
 use Rattle.ring_laws.proofs.Agree.{held-same}
 use Rattle.ring_laws.proofs.LaidBlocks as laid
@@ -140,7 +140,6 @@ lists_cleaned d lists sound h =
       below = subst (λ (us : List Unfinished). Every (λ n. n < d.settings.blocks) (held_by lists us)) (sym e) (every-held_left (λ n. n < d.settings.blocks) lists d.unfinished (answered d) h.below);
       sizes = subst (Every (λ (u : Unfinished). length (list_of lists u.serial) ≡ blocks_of d.settings.pages u.command)) (sym e) (every-left (λ (u : Unfinished). length (list_of lists u.serial) ≡ blocks_of d.settings.pages u.command) d.unfinished (answered d) h.sizes);
       spans = λ i n s c l g. let m : d.ring.published ≤ i = l in h.spans i n s c (omega arith) g;
-      statuses = subst (Every (λ (u : Unfinished). IfSome u.reply (λ r. r.status < 256))) (sym e) (every-left (λ (u : Unfinished). IfSome u.reply (λ r. r.status < 256)) d.unfinished (answered d) h.statuses);
     }
 
 -- ==== the blocks

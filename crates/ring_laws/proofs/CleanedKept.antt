@@ -4,9 +4,9 @@ use Rattle.tcmu_model.specs.Device.{DeviceState}
 use Rattle.tcmu_model.specs.Events.{after_clean}
 use Rattle.tcmu_model.specs.BlockLists.{Taken}
 use Rattle.tcmu_model.specs.Regions.{RegionState}
-use Rattle.ring_laws.specs.Sides.{TargetState, UserState}
-use Rattle.ring_laws.specs.Represents.{TargetKeeps, UserKeeps}
-use Rattle.ring_laws.specs.TargetCleans.{target_cleaned}
+use Rattle.tcmu_model.specs.Sides.{TargetState, UserState}
+use Rattle.tcmu_model.specs.Represents.{TargetKeeps, UserKeeps}
+use Rattle.tcmu_model.specs.TargetCleans.{target_cleaned}
 use Rattle.ring_laws.specs.Cleaned.{CanClean}
 use Rattle.ring_laws.proofs.CleanedAll.{cleaned-at}
 

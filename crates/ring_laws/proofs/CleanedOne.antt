@@ -25,12 +25,12 @@ use Rattle.tcmu_model.specs.Pending.{PendingData}
 use Rattle.tcmu_model.proofs.Written.{field-front}
 use Rattle.tcmu_model.proofs.Everies.{every-first, every-without_first}
 use Rattle.tcmu_model.proofs.Rises.{among-append}
-use Rattle.ring_laws.specs.Picture.{place_of, payload_of, command_iovs, request_of, told_length, answered_entry, with_answer, with_reply, entry_of, item_bytes, ids_named, kind_of}
-use Rattle.ring_laws.specs.Sides.{PendingRow, Recorded, TargetState}
-use Rattle.ring_laws.specs.Represents.{RingStands, IdsStand, BlocksOf, BlocksStand, HaveData, IsId, recorded, entry_at, id_in, ids_in, id_at, id_of, row_has, has_id, serial_with, pending_of}
-use Rattle.ring_laws.specs.TargetCleans.{one_cleaned, answered_by, response_in, completions_read, past}
+use Rattle.tcmu_model.specs.Picture.{place_of, payload_of, command_iovs, request_of, told_length, answered_entry, with_answer, with_reply, entry_of, item_bytes, ids_named, kind_of}
+use Rattle.tcmu_model.specs.Sides.{PendingRow, Recorded, TargetState}
+use Rattle.tcmu_model.specs.Represents.{RingStands, IdsStand, BlocksOf, BlocksStand, HaveData, IsId, recorded, entry_at, id_in, ids_in, id_at, id_of, row_has, has_id, serial_with, pending_of}
+use Rattle.tcmu_model.specs.TargetCleans.{one_cleaned, answered_by, response_in, completions_read, past}
 use Rattle.ring_laws.specs.Cleaned.{response_of}
-use Rattle.ring_laws.specs.Owned.{ListsSound}
+use Rattle.tcmu_model.specs.Owned.{ListsSound}
 use Rattle.ring_laws.proofs.Held.{holds}
 use Rattle.ring_laws.proofs.Kept.{command_long}
 use Rattle.ring_laws.proofs.Layouts.{add-mod, length-request, length-iovs}
@@ -140,11 +140,11 @@ replied : (r : RegionState) (rows : List PendingRow) (d : DeviceState) (lists : 
     CleanWith r rows d lists → first_of (has_serial s) d.unfinished ≡ Some u → u.reply ≡ Some reply → Replied d u reply
 replied r rows d lists s u reply w f rep =
     let a : IfSome u.reply (ReplyFits u.command) = every-first (has_serial s) (λ (v : Unfinished). IfSome v.reply (ReplyFits v.command)) d.unfinished u w.sound.answers.replies f in
-    let b : IfSome u.reply (λ y. y.status < 256) = every-first (has_serial s) (λ (v : Unfinished). IfSome v.reply (λ y. y.status < 256)) d.unfinished u w.owned.statuses f in
+    let fit : ReplyFits u.command reply = subst (λ (o : Option ReplyData). IfSome o (ReplyFits u.command)) rep a in
     record {
       command = every-first (has_serial s) (λ (v : Unfinished). IsCommand v.command) d.unfinished u (can_fill d lists w.sound w.owned).commands f;
-      fits = subst (λ (o : Option ReplyData). IfSome o (ReplyFits u.command)) rep a;
-      status = subst (λ (o : Option ReplyData). IfSome o (λ y. y.status < 256)) rep b;
+      fits = fit;
+      status = fit.rules.byte;
     }
 
 response_there : (r : RegionState) (rows : List PendingRow) (d : DeviceState) (lists : List Taken) (j s : ℕ) (x : Item) (u : Unfinished) (reply : ReplyData) →

@@ -12,10 +12,10 @@ use Rattle.tcmu_model.specs.Regions.{RegionState}
 use Rattle.tcmu_model.proofs.Basics.{laid_rise, serials_split}
 use Rattle.tcmu_model.proofs.Rises.{not_above, among-append, among-take, among_every, every-among}
 use Rattle.tcmu_model.proofs.Fronts.{commands_more}
-use Rattle.ring_laws.specs.Picture.{place_of, item_bytes, request_of, ids_named}
-use Rattle.ring_laws.specs.Sides.{PendingRow, TargetState}
-use Rattle.ring_laws.specs.Represents.{RingStands, IdsStand, NotesStand, AreNoteIds, IsNoteId, entry_at, id_in, ids_in, serial_with}
-use Rattle.ring_laws.specs.TargetCleans.{region_cleaned, target_cleaned}
+use Rattle.tcmu_model.specs.Picture.{place_of, item_bytes, request_of, ids_named}
+use Rattle.tcmu_model.specs.Sides.{PendingRow, TargetState}
+use Rattle.tcmu_model.specs.Represents.{RingStands, IdsStand, NotesStand, AreNoteIds, IsNoteId, entry_at, id_in, ids_in, serial_with}
+use Rattle.tcmu_model.specs.TargetCleans.{region_cleaned, target_cleaned}
 use Rattle.ring_laws.specs.Cleaned.{CanClean}
 use Rattle.ring_laws.proofs.RingLaid.{entry_same}
 use Rattle.ring_laws.proofs.Submit.{serial_at}

@@ -17,10 +17,10 @@ use Rattle.tcmu_model.specs.BlockLists.{Taken, list_of}
 use Rattle.tcmu_model.specs.Layout.{le, field, put, zeros, padded, ring_start, sense_buffer, length_flag, answer_bytes, response_bytes}
 use Rattle.tcmu_model.specs.EntryReading.{response_at}
 use Rattle.tcmu_model.proofs.Written.{lengths as writes, length-le, length-zeros, length-padded, field-front, field-put, field-le, field-in, drop-put}
-use Rattle.ring_laws.specs.Areas.{bytes_along}
-use Rattle.ring_laws.specs.Picture.{payload_of, told_length, answered_entry}
-use Rattle.ring_laws.specs.Represents.{HaveData, entry_at, pending_of}
-use Rattle.ring_laws.specs.TargetCleans.{completion_read, completions_read, length_told, payload_read, sense_read}
+use Rattle.tcmu_model.specs.Areas.{bytes_along}
+use Rattle.tcmu_model.specs.Picture.{payload_of, told_length, answered_entry}
+use Rattle.tcmu_model.specs.Represents.{HaveData, entry_at, pending_of}
+use Rattle.tcmu_model.specs.TargetCleans.{completion_read, completions_read, length_told, payload_read, sense_read}
 use Rattle.ring_laws.specs.Cleaned.{response_of}
 use Rattle.ring_laws.proofs.Bytes.{part_of_front, length-written}
 use Rattle.ring_laws.proofs.Answered.{length-response, id_of_answered, sense_short}

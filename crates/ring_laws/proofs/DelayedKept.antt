@@ -10,11 +10,11 @@ use Rattle.tcmu_model.specs.Device.{Delayed, DeviceState}
 use Rattle.tcmu_model.specs.Events.{after_submit, after_enter, with_delayed}
 use Rattle.tcmu_model.specs.BlockLists.{Taken}
 use Rattle.tcmu_model.specs.Regions.{RegionState}
-use Rattle.ring_laws.specs.Sides.{Recorded, PendingRow, InHand, TargetState, UserState}
-use Rattle.ring_laws.specs.Represents.{RingStands, IdsStand, NotesStand, BlocksStand, JobsStand, TargetKeeps, UserKeeps}
-use Rattle.ring_laws.specs.TargetSteps.{target_submitted, region_submitted, target_entered, region_entered}
+use Rattle.tcmu_model.specs.Sides.{Recorded, PendingRow, InHand, TargetState, UserState}
+use Rattle.tcmu_model.specs.Represents.{RingStands, IdsStand, NotesStand, BlocksStand, JobsStand, TargetKeeps, UserKeeps}
+use Rattle.tcmu_model.specs.TargetSteps.{target_submitted, region_submitted, target_entered, region_entered}
 use Rattle.ring_laws.specs.Refused.{is_refusal, is_waiting}
-use Rattle.ring_laws.specs.Owned.{ListsSound}
+use Rattle.tcmu_model.specs.Owned.{ListsSound}
 use Rattle.ring_laws.proofs.RingLaid.{stands-by}
 
 pub ring_waits : (front : List ℕ) (items : List Recorded) (d : DeviceState) (lists : List Taken) (c : CommandData) (s : ℕ) → RingStands front items d lists → RingStands front items (after_submit d c (submit.Delayed s)) lists
@@ -71,7 +71,7 @@ side_waits user d c s h =
 
 pub lists_wait : (d : DeviceState) (lists : List Taken) (c : CommandData) (s : ℕ) → ListsSound d lists → ListsSound (after_submit d c (submit.Delayed s)) lists
 unfolding after_submit with_delayed
-lists_wait d lists c s h = record { listed = h.listed; differ = h.differ; below = h.below; sizes = h.sizes; spans = h.spans; statuses = h.statuses }
+lists_wait d lists c s h = record { listed = h.listed; differ = h.differ; below = h.below; sizes = h.sizes; spans = h.spans }
 
 -- ==== nothing changes
 

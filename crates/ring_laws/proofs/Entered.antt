@@ -6,9 +6,9 @@ use Rattle.tcmu_model.specs.RingState.{RingState, Item, Laid, lengths, head, use
 use Rattle.tcmu_model.specs.RingState as ring
 use Rattle.tcmu_model.specs.Device.{DeviceState}
 use Rattle.tcmu_model.specs.BlockLists.{Taken, with_taken}
-use Rattle.ring_laws.specs.Sides.{Recorded, TargetState}
-use Rattle.ring_laws.specs.Represents.{RingStands, TargetKeeps, IsId}
-use Rattle.ring_laws.specs.TargetSteps.{region_laid, target_laid}
+use Rattle.tcmu_model.specs.Sides.{Recorded, TargetState}
+use Rattle.tcmu_model.specs.Represents.{RingStands, TargetKeeps, IsId}
+use Rattle.tcmu_model.specs.TargetSteps.{region_laid, target_laid}
 use Rattle.std.proofs.lemmas.Bool.{leb-true}
 use Rattle.tcmu_types.specs.declared.answer.Enter.TheVariants as enter
 use Rattle.tcmu_model.specs.Device.{Delayed}
@@ -17,8 +17,8 @@ use Rattle.tcmu_model.specs.Events.{with_command, enter_answer, entered_or_full,
 use Rattle.tcmu_model.specs.Regions.{RegionState}
 use Rattle.tcmu_model.specs.Sound.{IsSound, CanWait, Every}
 use Rattle.tcmu_model.proofs.Facts.{delayed_above}
-use Rattle.ring_laws.specs.Owned.{ListsSound, HasRoom}
-use Rattle.ring_laws.specs.TargetSteps.{region_entered, target_entered, region_with_first, first_entered}
+use Rattle.tcmu_model.specs.Owned.{ListsSound, HasRoom}
+use Rattle.tcmu_model.specs.TargetSteps.{region_entered, target_entered, region_with_first, first_entered}
 use Rattle.ring_laws.proofs.RingLaid.{stands-by}
 use Rattle.ring_laws.proofs.Kept.{stands_laid, target_stands_laid}
 

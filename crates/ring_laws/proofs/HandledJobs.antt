@@ -13,10 +13,10 @@ use Rattle.tcmu_model.specs.Sound.{IsSound, Differ}
 use Rattle.tcmu_model.specs.BlockLists.{Taken}
 use Rattle.tcmu_model.specs.Layout.{zeros}
 use Rattle.tcmu_model.proofs.Counts.{state_at, serial_at}
-use Rattle.ring_laws.specs.Picture.{data_in, payload_of}
-use Rattle.ring_laws.specs.Sides.{GivenJob, InHand, JobState, PendingRow, UserState}
-use Rattle.ring_laws.specs.Represents.{AreGiven, AreOut, IsGiven, IsJobOf, JobsStand, is_out}
-use Rattle.ring_laws.specs.HandSteps.{hand_has, hand_answered, with_answer}
+use Rattle.tcmu_model.specs.Picture.{data_in, payload_of}
+use Rattle.tcmu_model.specs.Sides.{GivenJob, InHand, JobState, PendingRow, UserState}
+use Rattle.tcmu_model.specs.Represents.{AreGiven, AreOut, IsGiven, IsJobOf, JobsStand, is_out}
+use Rattle.tcmu_model.specs.HandSteps.{hand_has, hand_answered, with_answer}
 use Rattle.ring_laws.proofs.Numbered.{can_answer}
 use Rattle.ring_laws.proofs.TakenOut.{none_at}
 

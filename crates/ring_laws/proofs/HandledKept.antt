@@ -14,11 +14,11 @@ use Rattle.tcmu_model.specs.Sound.{IsSound, Every, Differ, is_right, state_fits,
 use Rattle.tcmu_model.specs.BlockLists.{Taken, list_of, held_by}
 use Rattle.tcmu_model.proofs.Counts.{state_at, serial_at}
 use Rattle.tcmu_model.proofs.Everies.{every-first, every-with_first}
-use Rattle.ring_laws.specs.Areas.{IsLent}
-use Rattle.ring_laws.specs.Sides.{Recorded, PendingRow, TargetState, UserState}
-use Rattle.ring_laws.specs.Represents.{RingStands, IdsStand, NotesStand, BlocksOf, BlocksStand, TargetKeeps, UserKeeps, pending_of}
-use Rattle.ring_laws.specs.Picture.{with_answer}
-use Rattle.ring_laws.specs.Owned.{ListsSound}
+use Rattle.tcmu_model.specs.Areas.{IsLent}
+use Rattle.tcmu_model.specs.Sides.{Recorded, PendingRow, TargetState, UserState}
+use Rattle.tcmu_model.specs.Represents.{RingStands, IdsStand, NotesStand, BlocksOf, BlocksStand, TargetKeeps, UserKeeps, pending_of}
+use Rattle.tcmu_model.specs.Picture.{with_answer}
+use Rattle.tcmu_model.specs.Owned.{ListsSound}
 use Rattle.ring_laws.proofs.AnswerBytes.{first-passes}
 use Rattle.ring_laws.proofs.Ticked.{ring_by, ids_by}
 
@@ -139,14 +139,13 @@ unfolding after_handle
 side_handled user d s reply h =
     record { ring = h.ring; pages = h.pages; flags = h.flags; tail = h.tail; dispatched = h.dispatched; placed = h.placed; published = h.published; place = h.place; items = h.items }
 
-pub lists_handled : (d : DeviceState) (lists : List Taken) (s : ℕ) (reply : ReplyData) → reply.status < 256 → ListsSound d lists → ListsSound (after_handle d s reply) lists
+pub lists_handled : (d : DeviceState) (lists : List Taken) (s : ℕ) (reply : ReplyData) → ListsSound d lists → ListsSound (after_handle d s reply) lists
 unfolding after_handle
-lists_handled d lists s reply small h =
+lists_handled d lists s reply h =
     record {
       listed = h.listed;
       differ = subst Differ (sym (held_handled lists s reply d.unfinished)) h.differ;
       below = subst (Every (λ (k : ℕ). k < d.settings.blocks)) (sym (held_handled lists s reply d.unfinished)) h.below;
       sizes = every-with_first (is_at s Out) (with_reply reply) (λ (u : Unfinished). length (list_of lists u.serial) ≡ blocks_of d.settings.pages u.command) d.unfinished (λ u k p. p) h.sizes;
       spans = h.spans;
-      statuses = every-with_first (is_at s Out) (with_reply reply) (λ (u : Unfinished). IfSome u.reply (λ r. r.status < 256)) d.unfinished (λ u k p. small) h.statuses;
     }

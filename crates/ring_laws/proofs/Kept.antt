@@ -11,10 +11,10 @@ use Rattle.tcmu_model.specs.Device.{Unfinished, DeviceState}
 use Rattle.tcmu_model.specs.BlockLists.{Taken, list_of, held_by, least_free, blocks_taken, with_taken}
 use Rattle.tcmu_model.specs.Layout.{field, zeros, ring_start}
 use Rattle.tcmu_model.specs.Pending.{PendingData}
-use Rattle.ring_laws.specs.Picture.{place_of}
-use Rattle.ring_laws.specs.Sides.{PendingRow, TargetState}
-use Rattle.ring_laws.specs.Represents.{RingStands, entry_at, id_in, TargetKeeps, pending_of, id_at, id_of, row_has, IsId, IdsStand}
-use Rattle.ring_laws.specs.TargetSteps.{blocks_given, deadline_in, region_laid, target_laid}
+use Rattle.tcmu_model.specs.Picture.{place_of}
+use Rattle.tcmu_model.specs.Sides.{PendingRow, TargetState}
+use Rattle.tcmu_model.specs.Represents.{RingStands, entry_at, id_in, TargetKeeps, pending_of, id_at, id_of, row_has, IsId, IdsStand}
+use Rattle.tcmu_model.specs.TargetSteps.{blocks_given, deadline_in, region_laid, target_laid}
 use Rattle.std.specs.Option.{option_map}
 use Rattle.tcmu_model.specs.Events.{is_among, waiting, with_command, deadline_at}
 use Rattle.tcmu_model.specs.RingState.{serials_in, serial_in, dispatched_commands, cleared_commands}
@@ -25,8 +25,8 @@ use Rattle.tcmu_model.proofs.Basics.{placed_every, rows_among}
 use Rattle.tcmu_model.proofs.Rises.{among_every, differ-push}
 use Rattle.tcmu_model.proofs.Everies.{every-weaker, every-map, every-append, every-mapped}
 use Rattle.tcmu_model.proofs.Indexed.{every_at, item_at}
-use Rattle.ring_laws.specs.TargetSteps.{row_of}
-use Rattle.ring_laws.specs.Owned.{ListsSound, HasRoom}
+use Rattle.tcmu_model.specs.TargetSteps.{row_of}
+use Rattle.tcmu_model.specs.Owned.{ListsSound, HasRoom}
 use Rattle.ring_laws.proofs.Held.{holds}
 use Rattle.ring_laws.proofs.Places.{laid_with, LaidCase, laid_case, Old, Padding, New, take-laid}
 use Rattle.ring_laws.proofs.Laying.{laid_in}

@@ -16,11 +16,11 @@ use Rattle.tcmu_model.specs.BlockLists.{Taken, list_of, held_by, blocks_taken, i
 use Rattle.tcmu_model.specs.Pending.{PendingData}
 use Rattle.tcmu_model.proofs.Everies.{every-weaker, every-filter, every-both}
 use Rattle.tcmu_model.proofs.Rises.{among-append}
-use Rattle.ring_laws.specs.Sides.{Recorded, PendingRow, GivenJob, JobState, InHand, TargetState, UserState}
-use Rattle.ring_laws.specs.Represents.{RingStands, BlocksOf, BlocksStand, HaveData, JobsStand, AreGiven, AreOut, IsJobOf, is_out, TargetKeeps, pending_of}
-use Rattle.ring_laws.specs.Areas.{IsLent}
-use Rattle.ring_laws.specs.Picture.{payload_of, command_iovs}
-use Rattle.ring_laws.specs.Owned.{ListsSound}
+use Rattle.tcmu_model.specs.Sides.{Recorded, PendingRow, GivenJob, JobState, InHand, TargetState, UserState}
+use Rattle.tcmu_model.specs.Represents.{RingStands, BlocksOf, BlocksStand, HaveData, JobsStand, AreGiven, AreOut, IsJobOf, is_out, TargetKeeps, pending_of}
+use Rattle.tcmu_model.specs.Areas.{IsLent}
+use Rattle.tcmu_model.specs.Picture.{payload_of, command_iovs}
+use Rattle.tcmu_model.specs.Owned.{ListsSound}
 use Rattle.ring_laws.proofs.RingLaid.{stands-by}
 
 -- a serial whose list is kept
@@ -179,5 +179,4 @@ lists_kept d lists h =
           (λ u q. ap length (list_kept d lists u.serial q.0) ∙ q.1)
           (every-both (λ (u : Unfinished). StillListed d u.serial) (λ (u : Unfinished). length (list_of lists u.serial) ≡ blocks_of d.settings.pages u.command) d.unfinished (own_listed d) h.sizes);
       spans = λ i n s c l g. ap length (list_kept d lists s (item_listed d i n s c l g)) ∙ h.spans i n s c l g;
-      statuses = h.statuses;
     }

@@ -14,14 +14,14 @@ use Rattle.tcmu_model.specs.Sound.{IsSound, Every, Differ}
 use Rattle.tcmu_model.specs.BlockLists.{Taken, list_of, with_taken, blocks_taken, held_by, least_free}
 use Rattle.tcmu_model.specs.Layout.{zeros}
 use Rattle.tcmu_model.specs.Regions.{AreSized, RegionState}
-use Rattle.ring_laws.specs.Areas.{bytes_along, written_along, IsHome, IsLent}
-use Rattle.ring_laws.specs.Picture.{payload_of, data_in}
-use Rattle.ring_laws.specs.Represents.{HaveData, BlocksOf, BlocksStand, TargetKeeps}
-use Rattle.ring_laws.specs.Sides.{TargetState}
+use Rattle.tcmu_model.specs.Areas.{bytes_along, written_along, IsHome, IsLent}
+use Rattle.tcmu_model.specs.Picture.{payload_of, data_in}
+use Rattle.tcmu_model.specs.Represents.{HaveData, BlocksOf, BlocksStand, TargetKeeps}
+use Rattle.tcmu_model.specs.Sides.{TargetState}
 use Rattle.tcmu_types.specs.Data.{SettingsData}
-use Rattle.ring_laws.specs.TargetSteps.{region_laid, blocks_given}
+use Rattle.tcmu_model.specs.TargetSteps.{region_laid, blocks_given}
 use Rattle.ring_laws.proofs.Agree.{blocks-same}
-use Rattle.ring_laws.specs.Owned.{ListsSound, HasRoom}
+use Rattle.tcmu_model.specs.Owned.{ListsSound, HasRoom}
 use Rattle.tcmu_model.proofs.Written.{length-zeros}
 use Rattle.ring_laws.proofs.Places.{slice_get-left, slice_get-right}
 use Rattle.ring_laws.proofs.Free.{length-least_free, least-are, IsFree, least-differ}

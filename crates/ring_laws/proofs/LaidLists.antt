@@ -15,7 +15,7 @@ use Rattle.tcmu_model.specs.Sound.{IsSound, Every, Differ}
 use Rattle.tcmu_model.proofs.Laying.{serials-append}
 use Rattle.tcmu_model.proofs.Rises.{among-append, among-here}
 use Rattle.tcmu_model.proofs.Everies.{every-append, every-weaker}
-use Rattle.ring_laws.specs.Owned.{ListsSound, HasRoom}
+use Rattle.tcmu_model.specs.Owned.{ListsSound, HasRoom}
 use Rattle.ring_laws.proofs.Places.{laid_with, LaidCase, laid_case, Old, Padding, New}
 use Rattle.ring_laws.proofs.Submit.{first-append, first-here, not_below, serial_at, unlisted, cmd_item, with_waiting}
 use Rattle.ring_laws.proofs.Kept.{rows_below, lists_below}
@@ -89,7 +89,6 @@ lists_sound_laid d lists s c sound owned room above =
       sizes = every-append (λ (v : Unfinished). length (list_of lists' v.serial) ≡ blocks_of d.settings.pages v.command) d.unfinished (u ∷ [])
           (sizes_same d.settings.pages lists lists' s d.unfinished old rows owned.sizes) (ap length mine ∙ ln, tt);
       spans = λ i n' q c' cl g. spans_case i n' q c' cl (laid_case d.ring it i (record { len = n'; laid = ring.Cmd q c' }) g) old (ap length mine ∙ ln);
-      statuses = every-append (λ (u : Unfinished). IfSome u.reply (λ r. r.status < 256)) d.unfinished (u ∷ []) owned.statuses (tt, tt);
     }
   where
     spans_case : (i n' q : ℕ) (c' : CommandData) → d.ring.cleared ≤ i → LaidCase d.ring (cmd_item d s c) i (record { len = n'; laid = ring.Cmd q c' }) →

@@ -6,7 +6,7 @@ use Rattle.tcmu_model.specs.RingState.{RingState, Item, Laid, lengths, head, use
 use Rattle.tcmu_model.specs.RingState as ring
 use Rattle.tcmu_model.specs.Device.{Unfinished, DeviceState}
 use Rattle.tcmu_model.specs.Layout.{le, put, ring_start, data_start, head_place, pad_bytes}
-use Rattle.ring_laws.specs.TargetSteps.{with_pad}
+use Rattle.tcmu_model.specs.TargetSteps.{with_pad}
 use Rattle.ring_laws.proofs.Bytes.{part, length-written, take-written, part-written, part-written_before, part-written_behind}
 use Rattle.ring_laws.proofs.Layouts.{take-written_inside, length-pad}
 use Rattle.tcmu_model.proofs.Written.{length-le}

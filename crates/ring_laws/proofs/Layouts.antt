@@ -7,7 +7,7 @@ use Rattle.tcmu_types.specs.declared.settings.Flags.{Flags}
 use Rattle.tcmu_model.specs.Lengths.{round_up}
 use Rattle.tcmu_model.specs.RingState.{head}
 use Rattle.tcmu_model.specs.Layout.{le, field, put, zeros, ring_start, head_place, pad_bytes, mailbox_bytes, device_mailbox}
-use Rattle.ring_laws.specs.Picture.{tail}
+use Rattle.tcmu_model.specs.Picture.{tail}
 use Rattle.tcmu_types.specs.declared.iovec.Iov.{Iov}
 use Rattle.tcmu_model.specs.Layout.{padded, entry_header, iovs_bytes, command_head, cdb_place, command_length, command_bytes}
 use Rattle.tcmu_model.specs.Iovecs.{piece, merged, iovs_along}

@@ -1,4 +1,3 @@
-pub mod Computed
 pub mod Opening
 pub mod Bytes
 pub mod Places
@@ -7,7 +6,6 @@ pub mod Layouts
 pub mod Laying
 pub mod RingLaid
 pub mod Agree
-pub mod Showing
 pub mod Submit
 pub mod Kept
 pub mod Answering

@@ -10,8 +10,8 @@ use Rattle.tcmu_model.specs.Sound.{IsSound, Differ, Rise}
 use Rattle.tcmu_model.proofs.Basics.{rows_rise}
 use Rattle.tcmu_model.proofs.Fronts.{commands_more}
 use Rattle.tcmu_model.proofs.Rises.{not_above}
-use Rattle.ring_laws.specs.Picture.{place_of}
-use Rattle.ring_laws.specs.Represents.{command_places}
+use Rattle.tcmu_model.specs.Picture.{place_of}
+use Rattle.tcmu_model.specs.Represents.{command_places}
 use Rattle.ring_laws.specs.Placed.{HoldsItems, CanAnswer}
 use Rattle.ring_laws.proofs.Held.{holds}
 use Rattle.ring_laws.proofs.Kept.{command_long}

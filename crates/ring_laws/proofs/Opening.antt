@@ -8,10 +8,10 @@ use Rattle.tcmu_model.specs.declared.mailbox.Mailbox.{Mailbox}
 use Rattle.tcmu_model.specs.Device.{opening_state}
 use Rattle.tcmu_model.specs.Layout.{le, zeros, padded, mailbox_bytes, device_mailbox, data_start}
 use Rattle.tcmu_model.specs.Regions.{opening_region}
-use Rattle.ring_laws.specs.TargetSteps.{opening_target}
-use Rattle.ring_laws.specs.UserSteps.{flags_in, opening_user}
-use Rattle.ring_laws.specs.Owned.{ListsSound}
-use Rattle.ring_laws.specs.Represents.{Represents}
+use Rattle.tcmu_model.specs.TargetSteps.{opening_target}
+use Rattle.tcmu_model.specs.UserSteps.{flags_in, opening_user}
+use Rattle.tcmu_model.specs.Owned.{ListsSound}
+use Rattle.tcmu_model.specs.Represents.{Represents}
 
 pub length-mailbox : (m : Mailbox) → ◌≡◌ {A = ℕ} (length (mailbox_bytes m)) 128
 unfolding le zeros mailbox_bytes
@@ -46,7 +46,7 @@ pub flags-again : (f : Flags) → flags_in (device_mailbox f 0 0 0).flags ≡ f
 flags-again f = flags_of_bits f.ooo f.read_len f.tmr
 
 pub lists_sound_opening : (s : SettingsData) → ListsSound (opening_state s) []
-lists_sound_opening s = record { listed = tt; differ = tt; below = tt; sizes = tt; spans = λ i n q c l g. absurd (cc); statuses = tt }
+lists_sound_opening s = record { listed = tt; differ = tt; below = tt; sizes = tt; spans = λ i n q c l g. absurd (cc) }
 
 pub represents_opening : (s : SettingsData) → IsSettings s → Represents (opening_region s) (opening_target s) (opening_user s) [] (opening_state s) []
 unfolding opening_target opening_user

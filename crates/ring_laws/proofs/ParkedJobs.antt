@@ -10,18 +10,18 @@ use Rattle.tcmu_model.specs.Events.{in_state, is_among, is_in_hand, turned}
 use Rattle.tcmu_model.specs.Sound.{Differ}
 use Rattle.tcmu_model.specs.BlockLists.{Taken}
 use Rattle.tcmu_model.proofs.Counts.{state_at, serial_at}
-use Rattle.ring_laws.specs.Sides.{GivenJob, InHand, PendingRow, UserState}
-use Rattle.ring_laws.specs.Sides as sides
-use Rattle.ring_laws.specs.Represents.{AreGiven, AreOut, IdsStand, JobsStand, id_of, is_out}
-use Rattle.ring_laws.specs.UserSteps.{is_open_job}
-use Rattle.ring_laws.specs.HandSteps.{hand_has, hand_responded}
+use Rattle.tcmu_model.specs.Sides.{GivenJob, InHand, PendingRow, UserState}
+use Rattle.tcmu_model.specs.Sides as sides
+use Rattle.tcmu_model.specs.Represents.{AreGiven, AreOut, IdsStand, JobsStand, id_of, is_out}
+use Rattle.tcmu_model.specs.UserSteps.{is_open_job}
+use Rattle.tcmu_model.specs.HandSteps.{hand_has, hand_responded}
 use Rattle.ring_laws.specs.Placed.{parked_in}
 use Rattle.ring_laws.proofs.Numbered.{can_answer}
 use Rattle.ring_laws.proofs.RespondedKept.{found-state, job_parked}
 use Rattle.ring_laws.proofs.TakenOut.{none_at}
 use Rattle.ring_laws.proofs.RespondedJobs.{one_serial, opens}
-use Rattle.ring_laws.specs.UserSteps.{with_jobs, with_parked}
-use Rattle.ring_laws.specs.Represents.{IsJobOf}
+use Rattle.tcmu_model.specs.UserSteps.{with_jobs, with_parked}
+use Rattle.tcmu_model.specs.Represents.{IsJobOf}
 use Rattle.tcmu_model.specs.Sound.{IsSound}
 
 -- ==== the jobs

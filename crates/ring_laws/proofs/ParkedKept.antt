@@ -16,10 +16,10 @@ use Rattle.tcmu_model.specs.Sound.{IsSound, Every, Differ, ReplyFits}
 use Rattle.tcmu_model.specs.BlockLists.{Taken, list_of, held_by}
 use Rattle.tcmu_model.proofs.Counts.{state_at, serial_at}
 use Rattle.tcmu_model.proofs.Everies.{every-with_first}
-use Rattle.ring_laws.specs.Picture.{place_of, item_bytes, entry_of, request_of, ids_named}
-use Rattle.ring_laws.specs.Sides.{Recorded, PendingRow, TargetState, UserState}
-use Rattle.ring_laws.specs.Represents.{RingStands, IdsStand, NotesStand, BlocksOf, BlocksStand, TargetKeeps, UserKeeps, entry_at, id_in, ids_in, pending_of}
-use Rattle.ring_laws.specs.Owned.{ListsSound}
+use Rattle.tcmu_model.specs.Picture.{place_of, item_bytes, entry_of, request_of, ids_named}
+use Rattle.tcmu_model.specs.Sides.{Recorded, PendingRow, TargetState, UserState}
+use Rattle.tcmu_model.specs.Represents.{RingStands, IdsStand, NotesStand, BlocksOf, BlocksStand, TargetKeeps, UserKeeps, entry_at, id_in, ids_in, pending_of}
+use Rattle.tcmu_model.specs.Owned.{ListsSound}
 use Rattle.ring_laws.specs.Placed.{CanAnswer, CanFill, parked_in}
 use Rattle.ring_laws.proofs.AnswerBytes.{turned-found}
 use Rattle.ring_laws.proofs.AnswerBlocks.{can_fill}
@@ -151,7 +151,6 @@ lists_turned d lists s a b h =
       below = subst (Every (λ (k : ℕ). k < d.settings.blocks)) (sym held) h.below;
       sizes = every-with_first (is_at s a) (in_state b) (λ (u : Unfinished). length (list_of lists u.serial) ≡ blocks_of d.settings.pages u.command) d.unfinished (λ u k p. p) h.sizes;
       spans = h.spans;
-      statuses = every-with_first (is_at s a) (in_state b) (λ (u : Unfinished). IfSome u.reply (λ r. r.status < 256)) d.unfinished (λ u k p. p) h.statuses;
     }
 
 pub lists_parked : (d : DeviceState) (lists : List Taken) (s : ℕ) → ListsSound d lists → ListsSound (parked_in d s) lists

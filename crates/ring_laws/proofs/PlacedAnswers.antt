@@ -13,11 +13,11 @@ use Rattle.tcmu_model.specs.Sound.{Every, Differ}
 use Rattle.tcmu_model.specs.BlockLists.{Taken}
 use Rattle.tcmu_model.specs.Layout.{with_response}
 use Rattle.tcmu_model.specs.Regions.{RegionState}
-use Rattle.ring_laws.specs.Picture.{place_of, told_length}
-use Rattle.ring_laws.specs.Sides.{Recorded, PendingRow, TargetState, UserState, GivenJob, Carried}
-use Rattle.ring_laws.specs.Sides as sides
-use Rattle.ring_laws.specs.Represents.{AreNoteIds, RingStands, IdsStand, NotesStand, IsId, entry_at, ids_in, TargetKeeps, UserKeeps, pending_of, id_of, row_has, command_places}
-use Rattle.ring_laws.specs.UserSteps.{Placing, placed_at, placed_one, with_payload}
+use Rattle.tcmu_model.specs.Picture.{place_of, told_length}
+use Rattle.tcmu_model.specs.Sides.{Recorded, PendingRow, TargetState, UserState, GivenJob, Carried}
+use Rattle.tcmu_model.specs.Sides as sides
+use Rattle.tcmu_model.specs.Represents.{AreNoteIds, RingStands, IdsStand, NotesStand, IsId, entry_at, ids_in, TargetKeeps, UserKeeps, pending_of, id_of, row_has, command_places}
+use Rattle.tcmu_model.specs.UserSteps.{Placing, placed_at, placed_one, with_payload}
 use Rattle.ring_laws.specs.Placed.{CanAnswer, CanPlace, placed_in}
 use Rattle.ring_laws.proofs.Numbered.{NextEntry, next-entry}
 use Rattle.ring_laws.proofs.AnswerBytes.{place-ring, place-ids, found-at, other-kept, answer_into}

@@ -18,11 +18,11 @@ use Rattle.tcmu_model.specs.Sound.{Differ}
 use Rattle.tcmu_model.specs.BlockLists.{Taken}
 use Rattle.tcmu_model.specs.Regions.{RegionState}
 use Rattle.tcmu_model.proofs.Counts.{state_at, serial_at}
-use Rattle.ring_laws.specs.Sides.{GivenJob, InHand, PendingRow, UserState}
-use Rattle.ring_laws.specs.Sides as sides
-use Rattle.ring_laws.specs.Represents.{AreGiven, AreOut, IdsStand, IsGiven, JobsStand, id_of, is_out, row_has}
-use Rattle.ring_laws.specs.UserSteps.{Placing, is_open_job, is_unanswered, placed_at, placed_or_parked, user_respond_answer, user_responded}
-use Rattle.ring_laws.specs.HandSteps.{hand_has, hand_responded}
+use Rattle.tcmu_model.specs.Sides.{GivenJob, InHand, PendingRow, UserState}
+use Rattle.tcmu_model.specs.Sides as sides
+use Rattle.tcmu_model.specs.Represents.{AreGiven, AreOut, IdsStand, IsGiven, JobsStand, id_of, is_out, row_has}
+use Rattle.tcmu_model.specs.UserSteps.{Placing, is_open_job, is_unanswered, placed_at, placed_or_parked, user_respond_answer, user_responded}
+use Rattle.tcmu_model.specs.HandSteps.{hand_has, hand_responded}
 use Rattle.ring_laws.specs.Placed.{answer_placed, parked_in, placed_in}
 use Rattle.ring_laws.specs.Responded.{CanRespond}
 use Rattle.ring_laws.proofs.Numbered.{can_answer}

@@ -18,13 +18,13 @@ use Rattle.tcmu_model.specs.Regions.{RegionState}
 use Rattle.tcmu_model.proofs.Counts.{state_at}
 use Rattle.tcmu_model.proofs.Standing.{awaiting}
 use Rattle.tcmu_types.specs.Rules.{takes_payload}
-use Rattle.ring_laws.specs.Picture.{data_in, payload_of}
-use Rattle.ring_laws.specs.Sides.{GivenJob, InHand, PendingRow, Recorded, TargetState, UserState}
-use Rattle.ring_laws.specs.Sides as sides
-use Rattle.ring_laws.specs.Represents.{BlocksStand, IdsStand, IsJobOf, NotesStand, RingStands, TargetKeeps, UserKeeps}
-use Rattle.ring_laws.specs.UserSteps.{is_open_job, placing_by, user_responded}
-use Rattle.ring_laws.specs.UserSteps as steps
-use Rattle.ring_laws.specs.Owned.{ListsSound}
+use Rattle.tcmu_model.specs.Picture.{data_in, payload_of}
+use Rattle.tcmu_model.specs.Sides.{GivenJob, InHand, PendingRow, Recorded, TargetState, UserState}
+use Rattle.tcmu_model.specs.Sides as sides
+use Rattle.tcmu_model.specs.Represents.{BlocksStand, IdsStand, IsJobOf, NotesStand, RingStands, TargetKeeps, UserKeeps}
+use Rattle.tcmu_model.specs.UserSteps.{is_open_job, placing_by, user_responded}
+use Rattle.tcmu_model.specs.UserSteps as steps
+use Rattle.tcmu_model.specs.Owned.{ListsSound}
 use Rattle.ring_laws.specs.Placed.{CanPlace, answer_placed, parked_in, placed_in}
 use Rattle.ring_laws.specs.Responded.{CanRespond}
 use Rattle.ring_laws.proofs.PlacedAnswers.{ring_placed, ids_placed, notes_placed, target_placed, user_placed}
@@ -168,5 +168,5 @@ pub lists_responded : (user : UserState) (rows : List PendingRow) (d : DeviceSta
 lists_responded user rows d lists s u p parts h =
     let a : ListsSound (parked_in d s) lists = lists_parked d lists s h.owned in
     let b : ListsSound (turned_in (parked_in d s) s Parked Placed) lists = lists_turned (parked_in d s) lists s Parked Placed a in
-    let k : ListsSound (placed_in (parked_in d s) s) lists = record { listed = b.listed; differ = b.differ; below = b.below; sizes = b.sizes; spans = b.spans; statuses = b.statuses } in
+    let k : ListsSound (placed_in (parked_in d s) s) lists = record { listed = b.listed; differ = b.differ; below = b.below; sizes = b.sizes; spans = b.spans } in
     subst (λ (z : DeviceState). ListsSound z lists) (sym (device_responds d s (found-any (is_at s Handled) d.unfinished u h.found) h.ooo)) k

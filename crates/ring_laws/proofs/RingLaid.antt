@@ -9,10 +9,10 @@ use Rattle.tcmu_model.specs.RingState as ring
 use Rattle.tcmu_model.specs.Device.{Unfinished, DeviceState, has_serial}
 use Rattle.tcmu_model.specs.BlockLists.{Taken, list_of}
 use Rattle.tcmu_model.specs.Layout.{le, put, ring_start, data_start, head_place, pad_bytes, mailbox_bytes, device_mailbox}
-use Rattle.ring_laws.specs.Picture.{place_of, tail, item_bytes, entry_of, with_answer, request_of, ids_named}
-use Rattle.ring_laws.specs.Sides.{Recorded}
-use Rattle.ring_laws.specs.Represents.{RingStands, StandsAt, recorded, entry_at, id_in, ids_in}
-use Rattle.ring_laws.specs.TargetSteps.{pads_of}
+use Rattle.tcmu_model.specs.Picture.{place_of, tail, item_bytes, entry_of, with_answer, request_of, ids_named}
+use Rattle.tcmu_model.specs.Sides.{Recorded}
+use Rattle.tcmu_model.specs.Represents.{RingStands, StandsAt, recorded, entry_at, id_in, ids_in}
+use Rattle.tcmu_model.specs.TargetSteps.{pads_of}
 use Rattle.ring_laws.proofs.Bytes.{part}
 use Rattle.ring_laws.proofs.Layouts.{mailbox_moved}
 use Rattle.ring_laws.specs.Placed.{HoldsItems}

@@ -7,7 +7,7 @@ use Rattle.tcmu_model.specs.Events.{is_among}
 use Rattle.tcmu_model.specs.Sound.{Every, Differ}
 use Rattle.tcmu_model.specs.Layout.{zeros}
 use Rattle.tcmu_model.specs.Regions.{home}
-use Rattle.ring_laws.specs.Areas.{block_bytes, bytes_along, over, written_along, IsHome}
+use Rattle.tcmu_model.specs.Areas.{block_bytes, bytes_along, over, written_along, IsHome}
 use Rattle.ring_laws.proofs.Places.{slice_get-left}
 use Rattle.ring_laws.proofs.Layouts.{take-past}
 

@@ -14,10 +14,10 @@ use Rattle.tcmu_model.specs.RingState as ring
 use Rattle.tcmu_model.specs.Device.{Unfinished, DeviceState, has_serial}
 use Rattle.tcmu_model.specs.BlockLists.{Taken, list_of, held_by, least_free, blocks_taken, with_taken}
 use Rattle.tcmu_model.specs.Layout.{data_start}
-use Rattle.ring_laws.specs.Picture.{place_of, item_bytes, entry_of, request_of, ids_named}
-use Rattle.ring_laws.specs.Sides.{Recorded, TargetState}
-use Rattle.ring_laws.specs.Represents.{RingStands, recorded, id_in, ids_in, TargetKeeps}
-use Rattle.ring_laws.specs.TargetSteps.{pads_of, head_in, pad_in, need_in, blocks_given, place_in, length_in, front_with, region_laid, target_laid}
+use Rattle.tcmu_model.specs.Picture.{place_of, item_bytes, entry_of, request_of, ids_named}
+use Rattle.tcmu_model.specs.Sides.{Recorded, TargetState}
+use Rattle.tcmu_model.specs.Represents.{RingStands, recorded, id_in, ids_in, TargetKeeps}
+use Rattle.tcmu_model.specs.TargetSteps.{pads_of, head_in, pad_in, need_in, blocks_given, place_in, length_in, front_with, region_laid, target_laid}
 use Rattle.tcmu_model.specs.Events.{waiting}
 use Rattle.tcmu_model.specs.RingState.{serials_in, serial_in, dispatched_commands}
 use Rattle.tcmu_model.specs.Iovecs.{iovs_along}
@@ -27,7 +27,7 @@ use Rattle.tcmu_model.proofs.Facts.{placed_dispatched}
 use Rattle.tcmu_model.proofs.Basics.{placed_every}
 use Rattle.tcmu_model.proofs.Everies.{every-front, every-back}
 use Rattle.tcmu_model.proofs.Indexed.{every_at}
-use Rattle.ring_laws.specs.Owned.{ListsSound, HasRoom}
+use Rattle.tcmu_model.specs.Owned.{ListsSound, HasRoom}
 use Rattle.ring_laws.proofs.Layouts.{add-mod, length-iovs, length-request, id_of_request}
 use Rattle.ring_laws.specs.Placed.{HoldsItems}
 use Rattle.ring_laws.proofs.Held.{holds}

@@ -7,9 +7,9 @@ use Rattle.tcmu_model.specs.RingState.{RingState, Item, Laid, lengths, head, use
 use Rattle.tcmu_model.specs.RingState as ring
 use Rattle.tcmu_model.specs.Device.{DeviceState}
 use Rattle.tcmu_model.specs.BlockLists.{Taken, with_taken}
-use Rattle.ring_laws.specs.Sides.{Recorded, TargetState}
-use Rattle.ring_laws.specs.Represents.{RingStands, TargetKeeps, IsId, IdsStand}
-use Rattle.ring_laws.specs.TargetSteps.{region_laid, target_laid}
+use Rattle.tcmu_model.specs.Sides.{Recorded, TargetState}
+use Rattle.tcmu_model.specs.Represents.{RingStands, TargetKeeps, IsId, IdsStand}
+use Rattle.tcmu_model.specs.TargetSteps.{region_laid, target_laid}
 use Rattle.std.proofs.lemmas.Bool.{leb-true, and_parts}
 use Rattle.tcmu_types.specs.declared.answer.Submit.TheVariants as submit
 use Rattle.tcmu_model.specs.RingState.{serials_in}
@@ -19,9 +19,9 @@ use Rattle.tcmu_model.specs.Sound.{IsSound, Every}
 use Rattle.tcmu_model.proofs.Basics.{laid_rise}
 use Rattle.tcmu_model.proofs.Rises.{rise_within}
 use Rattle.tcmu_model.proofs.Everies.{every-weaker}
-use Rattle.ring_laws.specs.Owned.{ListsSound, HasRoom}
-use Rattle.ring_laws.specs.Represents.{BlocksStand}
-use Rattle.ring_laws.specs.TargetSteps.{region_submitted, target_submitted}
+use Rattle.tcmu_model.specs.Owned.{ListsSound, HasRoom}
+use Rattle.tcmu_model.specs.Represents.{BlocksStand}
+use Rattle.tcmu_model.specs.TargetSteps.{region_submitted, target_submitted}
 use Rattle.ring_laws.proofs.RingLaid.{stands-by}
 use Rattle.ring_laws.proofs.LaidBlocks.{blocks_stand_laid}
 use Rattle.ring_laws.proofs.LaidLists.{lists_sound_laid}
@@ -140,4 +140,4 @@ unfolding after_submit with_command
 lists_submitted d lists s c sound owned h =
     let q = queued_room d c s sound h in
     let k : ListsSound (with_command d s c) (with_taken d lists s c) = lists_sound_laid d lists s c sound owned q.0 (above_accepted d s sound q.1) in
-    record { listed = k.listed; differ = k.differ; below = k.below; sizes = k.sizes; spans = k.spans; statuses = k.statuses }
+    record { listed = k.listed; differ = k.differ; below = k.below; sizes = k.sizes; spans = k.spans }

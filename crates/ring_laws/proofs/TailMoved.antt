@@ -16,10 +16,10 @@ use Rattle.tcmu_model.specs.Layout.{le, put, zeros, ring_start, data_start, tail
 use Rattle.tcmu_model.specs.Regions.{RegionState}
 use Rattle.tcmu_model.proofs.Written.{length-le}
 use Rattle.tcmu_model.proofs.Facts.{publishable_fits}
-use Rattle.ring_laws.specs.Picture.{place_of, tail}
-use Rattle.ring_laws.specs.Sides.{Recorded, PendingRow, TargetState, UserState, InHand}
-use Rattle.ring_laws.specs.Represents.{RingStands, IdsStand, NotesStand, BlocksStand, JobsStand, TargetKeeps, UserKeeps, recorded, entry_at, id_at, ids_in, AreNoteIds}
-use Rattle.ring_laws.specs.UserSteps.{is_cmd, movable, moving, moving_items, user_publish_answer, user_published, region_published}
+use Rattle.tcmu_model.specs.Picture.{place_of, tail}
+use Rattle.tcmu_model.specs.Sides.{Recorded, PendingRow, TargetState, UserState, InHand}
+use Rattle.tcmu_model.specs.Represents.{RingStands, IdsStand, NotesStand, BlocksStand, JobsStand, TargetKeeps, UserKeeps, recorded, entry_at, id_at, ids_in, AreNoteIds}
+use Rattle.tcmu_model.specs.UserSteps.{is_cmd, movable, moving, moving_items, user_publish_answer, user_published, region_published}
 use Rattle.ring_laws.proofs.Bytes.{length-written, part-written_behind}
 use Rattle.ring_laws.proofs.Layouts.{take-written_inside, add-mod}
 use Rattle.ring_laws.proofs.Places.{lengths-append}

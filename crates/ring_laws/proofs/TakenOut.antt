@@ -12,8 +12,8 @@ use Rattle.tcmu_model.specs.Events.{is_among}
 use Rattle.tcmu_model.specs.Sound.{Differ}
 use Rattle.tcmu_model.specs.BlockLists.{Taken}
 use Rattle.tcmu_model.specs.Pending.{PendingData}
-use Rattle.ring_laws.specs.Sides.{PendingRow}
-use Rattle.ring_laws.specs.Represents.{has_id, row_has, serial_with, pending_of}
+use Rattle.tcmu_model.specs.Sides.{PendingRow}
+use Rattle.tcmu_model.specs.Represents.{has_id, row_has, serial_with, pending_of}
 
 -- what is not taken out is found as before
 pub first-without : {X : Type 0} (p q : X → Bool) (xs : List X) (e : X) → first_of p xs ≡ Some e → q e ≡ false → first_of q (without_first p xs) ≡ first_of q xs

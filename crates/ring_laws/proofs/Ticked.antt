@@ -15,11 +15,11 @@ use Rattle.tcmu_model.specs.Sound.{Every, Differ}
 use Rattle.tcmu_model.specs.BlockLists.{Taken, list_of, held_by}
 use Rattle.tcmu_model.specs.Pending.{PendingData}
 use Rattle.tcmu_model.proofs.Everies.{every-map}
-use Rattle.ring_laws.specs.Picture.{place_of, item_bytes, entry_of, with_answer, request_of, ids_named}
-use Rattle.ring_laws.specs.Sides.{Recorded, PendingRow, GivenJob, JobState, InHand, TargetState, UserState}
-use Rattle.ring_laws.specs.Represents.{RingStands, IdsStand, NotesStand, BlocksOf, BlocksStand, JobsStand, AreGiven, AreOut, IsGiven, IsOut, is_out, IsJobOf, IsId, id_of, row_has, has_id, serial_with, AreNoteIds, TargetKeeps, UserKeeps, entry_at, id_in, ids_in, pending_of}
-use Rattle.ring_laws.specs.TargetSteps.{is_due_at, expired_at, checked, ticked_log, target_tick_answer, target_ticked, target_blocked}
-use Rattle.ring_laws.specs.Owned.{ListsSound}
+use Rattle.tcmu_model.specs.Picture.{place_of, item_bytes, entry_of, with_answer, request_of, ids_named}
+use Rattle.tcmu_model.specs.Sides.{Recorded, PendingRow, GivenJob, JobState, InHand, TargetState, UserState}
+use Rattle.tcmu_model.specs.Represents.{RingStands, IdsStand, NotesStand, BlocksOf, BlocksStand, JobsStand, AreGiven, AreOut, IsGiven, IsOut, is_out, IsJobOf, IsId, id_of, row_has, has_id, serial_with, AreNoteIds, TargetKeeps, UserKeeps, entry_at, id_in, ids_in, pending_of}
+use Rattle.tcmu_model.specs.TargetSteps.{is_due_at, expired_at, checked, ticked_log, target_tick_answer, target_ticked, target_blocked}
+use Rattle.tcmu_model.specs.Owned.{ListsSound}
 
 -- ==== the ring, whatever changes of the commands but their answers
 
@@ -102,7 +102,7 @@ side_blocked user d b h =
 
 pub lists_blocked : (d : DeviceState) (lists : List Taken) (b : Bool) → ListsSound d lists → ListsSound (after_block d b) lists
 unfolding after_block
-lists_blocked d lists b h = record { listed = h.listed; differ = h.differ; below = h.below; sizes = h.sizes; spans = h.spans; statuses = h.statuses }
+lists_blocked d lists b h = record { listed = h.listed; differ = h.differ; below = h.below; sizes = h.sizes; spans = h.spans }
 
 -- ==== tick: the commands
 
@@ -369,5 +369,4 @@ lists_ticked d lists n h =
       sizes = every-map (expire now) (λ (u : Unfinished). length (list_of lists u.serial) ≡ blocks_of d.settings.pages u.command) (λ (u : Unfinished). length (list_of lists u.serial) ≡ blocks_of d.settings.pages u.command) d.unfinished
           (λ u p. blind (λ (v : Unfinished). length (list_of lists v.serial) ≡ blocks_of d.settings.pages v.command) now u (λ v b q. q) p) h.sizes;
       spans = h.spans;
-      statuses = every-map (expire now) (λ (u : Unfinished). IfSome u.reply (λ r. r.status < 256)) (λ (u : Unfinished). IfSome u.reply (λ r. r.status < 256)) d.unfinished (λ u p. blind (λ (u : Unfinished). IfSome u.reply (λ r. r.status < 256)) now u (λ v b q. q) p) h.statuses;
     }

@@ -7,9 +7,9 @@ use Rattle.tcmu_model.specs.Sound.{IsSound}
 use Rattle.tcmu_model.specs.BlockLists.{Taken}
 use Rattle.tcmu_model.specs.Layout.{padded, sense_buffer, length_flag}
 use Rattle.tcmu_model.specs.Regions.{RegionState}
-use Rattle.ring_laws.specs.Sides.{TargetState}
-use Rattle.ring_laws.specs.Represents.{RingStands, IdsStand, BlocksStand, TargetKeeps}
-use Rattle.ring_laws.specs.Owned.{ListsSound}
+use Rattle.tcmu_model.specs.Sides.{TargetState}
+use Rattle.tcmu_model.specs.Represents.{RingStands, IdsStand, BlocksStand, TargetKeeps}
+use Rattle.tcmu_model.specs.Owned.{ListsSound}
 
 -- the response of a reply, with the id in its entry and the length that it tells
 abbrev pub response_of : ℕ → ReplyData → Option ℕ → Response

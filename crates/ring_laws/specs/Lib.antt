@@ -1,16 +1,4 @@
-pub mod Sides
-pub mod Areas
-pub mod Picture
-pub mod Represents
-pub mod TargetSteps
-pub mod TargetCleans
-pub mod UserSteps
-pub mod UserNext
-pub mod Owned
 pub mod Placed
 pub mod Responded
 pub mod Cleaned
-pub mod HandSteps
 pub mod Refused
-pub mod Hostile
-pub mod Shown

@@ -10,11 +10,11 @@ use Rattle.tcmu_model.specs.Events.{turned}
 use Rattle.tcmu_model.specs.Sound.{Every, Differ, ReplyFits}
 use Rattle.tcmu_model.specs.BlockLists.{Taken, list_of, held_by}
 use Rattle.tcmu_model.specs.Regions.{RegionState}
-use Rattle.ring_laws.specs.Picture.{place_of}
-use Rattle.ring_laws.specs.Sides.{PendingRow, GivenJob, UserState}
-use Rattle.ring_laws.specs.Sides as sides
-use Rattle.ring_laws.specs.Represents.{IsJobOf, command_places}
-use Rattle.ring_laws.specs.UserSteps.{Placing, placed_one}
+use Rattle.tcmu_model.specs.Picture.{place_of}
+use Rattle.tcmu_model.specs.Sides.{PendingRow, GivenJob, UserState}
+use Rattle.tcmu_model.specs.Sides as sides
+use Rattle.tcmu_model.specs.Represents.{IsJobOf, command_places}
+use Rattle.tcmu_model.specs.UserSteps.{Placing, placed_one}
 
 -- the ring holds its items whole, and keeps a byte free
 pub record HoldsItems (r : RingState) : Type 0 where

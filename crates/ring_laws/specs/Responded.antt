@@ -5,9 +5,9 @@ use Rattle.tcmu_model.specs.Lists.{first_of}
 use Rattle.tcmu_model.specs.Device.{Unfinished, DeviceState, is_at}
 use Rattle.tcmu_model.specs.Sound.{IsSound}
 use Rattle.tcmu_model.specs.BlockLists.{Taken}
-use Rattle.ring_laws.specs.Sides.{Parked, PendingRow, UserState}
-use Rattle.ring_laws.specs.Represents.{IsJobOf, command_places}
-use Rattle.ring_laws.specs.Owned.{ListsSound}
+use Rattle.tcmu_model.specs.Sides.{Parked, PendingRow, UserState}
+use Rattle.tcmu_model.specs.Represents.{IsJobOf, command_places}
+use Rattle.tcmu_model.specs.Owned.{ListsSound}
 
 -- a handled command, whose job comes with its reply to a user side that places answers out of order
 pub record CanRespond (user : UserState) (rows : List PendingRow) (d : DeviceState) (lists : List Taken) (s : ℕ) (u : Unfinished) (p : Parked) (parts : List (List ℕ)) : Type 0 where

@@ -10,12 +10,12 @@ ghost use Rattle.tcmu_model.specs.Sound.{IsSound, ReplyFits};
 ghost use Rattle.tcmu_model.specs.BlockLists.{Taken, list_of};
 ghost use Rattle.tcmu_model.specs.Layout.{ring_start};
 ghost use Rattle.tcmu_model.specs.EntryReading.{response_at};
-ghost use Rattle.ring_laws.specs.Picture.{answered_entry, payload_of, told_length};
-ghost use Rattle.ring_laws.specs.Represents.{BlocksStand, HaveData, IdsStand, JobsStand, NotesStand, RingStands, TargetKeeps, UserKeeps, entry_at, pending_of};
-ghost use Rattle.ring_laws.specs.TargetCleans.{Logged, completions_read, region_cleaned, target_clean_answer, target_cleaned};
+ghost use Rattle.tcmu_model.specs.Picture.{answered_entry, payload_of, told_length};
+ghost use Rattle.tcmu_model.specs.Represents.{BlocksStand, HaveData, IdsStand, JobsStand, NotesStand, RingStands, TargetKeeps, UserKeeps, entry_at, pending_of};
+ghost use Rattle.tcmu_model.specs.TargetCleans.{Logged, completions_read, region_cleaned, target_clean_answer, target_cleaned};
 ghost use Rattle.ring_laws.specs.Cleaned.{CanClean, response_of};
-ghost use Rattle.ring_laws.specs.Sides.{InHand, TargetState, UserState};
-ghost use Rattle.ring_laws.specs.Owned.{ListsSound};
+ghost use Rattle.tcmu_model.specs.Sides.{InHand, TargetState, UserState};
+ghost use Rattle.tcmu_model.specs.Owned.{ListsSound};
 
 /// The response in an entry is read from its first 112 bytes, and reads as it was written, where its status is a byte and its length a
 /// number of 32 bits. From it, the target's record and the blocks, the target logs the completion that the device logs.

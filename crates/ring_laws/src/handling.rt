@@ -5,10 +5,10 @@ ghost use Rattle.tcmu_model.specs.Device.{Unfinished, DeviceState};
 ghost use Rattle.tcmu_model.specs.Events.{after_handle, command_out};
 ghost use Rattle.tcmu_model.specs.BlockLists.{Taken};
 ghost use Rattle.tcmu_model.specs.Sound.{IsSound};
-ghost use Rattle.ring_laws.specs.Sides.{InHand, PendingRow, Recorded, TargetState, UserState};
-ghost use Rattle.ring_laws.specs.Represents.{RingStands, IdsStand, NotesStand, BlocksStand, JobsStand, TargetKeeps, UserKeeps};
-ghost use Rattle.ring_laws.specs.HandSteps.{hand_answered};
-ghost use Rattle.ring_laws.specs.Owned.{ListsSound};
+ghost use Rattle.tcmu_model.specs.Sides.{InHand, PendingRow, Recorded, TargetState, UserState};
+ghost use Rattle.tcmu_model.specs.Represents.{RingStands, IdsStand, NotesStand, BlocksStand, JobsStand, TargetKeeps, UserKeeps};
+ghost use Rattle.tcmu_model.specs.HandSteps.{hand_answered};
+ghost use Rattle.tcmu_model.specs.Owned.{ListsSound};
 
 /// A command that is out gets its reply, which stands in no entry yet; its blocks stay lent. The job in hand under its serial has the reply.
 pub fn handle_law()
@@ -22,5 +22,5 @@ pub fn handle_law()
         IsSound d → command_out d s ≡ Some u → JobsStand user hand rows d lists → JobsStand user (hand_answered hand s reply) rows (after_handle d s reply) lists }
     ensures target { (t : TargetState) (d : DeviceState) (lists : List Taken) (s : ℕ) (reply : ReplyData) → TargetKeeps t d lists → TargetKeeps t (after_handle d s reply) lists }
     ensures side { (user : UserState) (d : DeviceState) (s : ℕ) (reply : ReplyData) → UserKeeps user d → UserKeeps user (after_handle d s reply) }
-    ensures lists { (d : DeviceState) (lists : List Taken) (s : ℕ) (reply : ReplyData) → reply.status < 256 → ListsSound d lists → ListsSound (after_handle d s reply) lists }
+    ensures lists { (d : DeviceState) (lists : List Taken) (s : ℕ) (reply : ReplyData) → ListsSound d lists → ListsSound (after_handle d s reply) lists }
 {}

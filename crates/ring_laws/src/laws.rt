@@ -11,11 +11,11 @@ ghost use Rattle.tcmu_model.specs.Events.{after_enter, after_submit, block_answe
 ghost use Rattle.tcmu_model.specs.BlockLists.{Taken, with_taken};
 ghost use Rattle.tcmu_model.specs.Regions.{AreSized, RegionState, opening_region};
 ghost use Rattle.tcmu_model.specs.Sound.{Every, IsSound};
-ghost use Rattle.ring_laws.specs.Sides.{TargetState};
-ghost use Rattle.ring_laws.specs.TargetSteps.{opening_target, region_entered, region_laid, region_submitted, target_block_answer, target_enter_answer, target_entered, target_laid, target_submit_answer, target_submitted};
-ghost use Rattle.ring_laws.specs.UserSteps.{opening_user};
-ghost use Rattle.ring_laws.specs.Owned.{HasRoom, ListsSound};
-ghost use Rattle.ring_laws.specs.Represents.{BlocksStand, IdsStand, IsId, Represents, RingStands, TargetKeeps};
+ghost use Rattle.tcmu_model.specs.Sides.{TargetState};
+ghost use Rattle.tcmu_model.specs.TargetSteps.{opening_target, region_entered, region_laid, region_submitted, target_block_answer, target_enter_answer, target_entered, target_laid, target_submit_answer, target_submitted};
+ghost use Rattle.tcmu_model.specs.UserSteps.{opening_user};
+ghost use Rattle.tcmu_model.specs.Owned.{HasRoom, ListsSound};
+ghost use Rattle.tcmu_model.specs.Represents.{BlocksStand, IdsStand, IsId, Represents, RingStands, TargetKeeps};
 
 /// A region as it opens represents the device as it opens, with no block list.
 pub fn opening_law()

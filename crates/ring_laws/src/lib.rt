@@ -1,6 +1,5 @@
 //! The laws of a region that represents a device: what each event of the device keeps of it. They are about definitions alone, and
-//! the contracts of the two sides and of the ring path cite both. The definitions in specs/ are to stand in tcmu_model, and are here
-//! as long as nothing else cites them.
+//! the contracts of the two sides and of the ring path cite both. Those definitions stand in tcmu_model; in specs/ here is what laws rest on.
 #![tactic(auto)]
 
 mod cleaning;
@@ -13,7 +12,6 @@ mod publishing;
 mod responding;
 mod ticking;
 mod waiting;
-mod worked;
 
 pub use cleaning::{clean_law, completion_law};
 pub use handling::handle_law;
@@ -25,4 +23,3 @@ pub use publishing::publish_law;
 pub use responding::respond_law;
 pub use ticking::{block_law, tick_law};
 pub use waiting::{delayed_law, refused_law};
-pub use worked::{picture_examples, target_examples, user_examples, way_examples};

@@ -6,12 +6,12 @@ ghost use Rattle.tcmu_model.specs.Device.{DeviceState, Unfinished, is_at};
 ghost use Rattle.tcmu_model.specs.Events.{in_state};
 ghost use Rattle.tcmu_model.specs.BlockLists.{Taken};
 ghost use Rattle.tcmu_model.specs.Sound.{IsSound};
-ghost use Rattle.ring_laws.specs.Sides.{InHand, PendingRow, Recorded, TargetState, UserState};
-ghost use Rattle.ring_laws.specs.Sides as sides;
-ghost use Rattle.ring_laws.specs.HandSteps.{hand_responded};
-ghost use Rattle.ring_laws.specs.UserSteps.{is_open_job, with_jobs, with_parked};
-ghost use Rattle.ring_laws.specs.Represents.{BlocksStand, IdsStand, IsJobOf, JobsStand, NotesStand, RingStands, TargetKeeps, UserKeeps};
-ghost use Rattle.ring_laws.specs.Owned.{ListsSound};
+ghost use Rattle.tcmu_model.specs.Sides.{InHand, PendingRow, Recorded, TargetState, UserState};
+ghost use Rattle.tcmu_model.specs.Sides as sides;
+ghost use Rattle.tcmu_model.specs.HandSteps.{hand_responded};
+ghost use Rattle.tcmu_model.specs.UserSteps.{is_open_job, with_jobs, with_parked};
+ghost use Rattle.tcmu_model.specs.Represents.{BlocksStand, IdsStand, IsJobOf, JobsStand, NotesStand, RingStands, TargetKeeps, UserKeeps};
+ghost use Rattle.tcmu_model.specs.Owned.{ListsSound};
 ghost use Rattle.ring_laws.specs.Placed.{CanAnswer, CanFill, parked_in};
 
 /// A command that is handled is parked: nothing is written, and its blocks stay lent. The user side has the job with its reply, and it is out of

@@ -4,9 +4,9 @@ ghost use Rattle.tcmu_model.specs.Device.{Unfinished, DeviceState};
 ghost use Rattle.tcmu_model.specs.BlockLists.{Taken};
 ghost use Rattle.tcmu_model.specs.Regions.{RegionState};
 ghost use Rattle.tcmu_model.specs.Sound.{IsSound};
-ghost use Rattle.ring_laws.specs.Sides.{Parked, Recorded, PendingRow, GivenJob, TargetState, UserState};
-ghost use Rattle.ring_laws.specs.Represents.{RingStands, IdsStand, NotesStand, BlocksStand, TargetKeeps, UserKeeps, command_places};
-ghost use Rattle.ring_laws.specs.Owned.{ListsSound};
+ghost use Rattle.tcmu_model.specs.Sides.{Parked, Recorded, PendingRow, GivenJob, TargetState, UserState};
+ghost use Rattle.tcmu_model.specs.Represents.{RingStands, IdsStand, NotesStand, BlocksStand, TargetKeeps, UserKeeps, command_places};
+ghost use Rattle.tcmu_model.specs.Owned.{ListsSound};
 ghost use Rattle.ring_laws.specs.Placed.{CanAnswer, CanFill, CanPlace, placed_in, answer_placed};
 
 /// The answer of a parked command is placed in the first entry that is not yet used, whosever it is, before its turn or in it. The ring

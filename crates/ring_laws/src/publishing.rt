@@ -5,9 +5,9 @@ ghost use Rattle.tcmu_model.specs.Events.{after_publish, publish_answer};
 ghost use Rattle.tcmu_model.specs.BlockLists.{Taken};
 ghost use Rattle.tcmu_model.specs.Regions.{RegionState};
 ghost use Rattle.tcmu_model.specs.Sound.{IsSound};
-ghost use Rattle.ring_laws.specs.Sides.{InHand, PendingRow, Recorded, TargetState, UserState};
-ghost use Rattle.ring_laws.specs.Represents.{RingStands, IdsStand, NotesStand, BlocksStand, JobsStand, TargetKeeps, UserKeeps};
-ghost use Rattle.ring_laws.specs.UserSteps.{region_published, user_publish_answer, user_published};
+ghost use Rattle.tcmu_model.specs.Sides.{InHand, PendingRow, Recorded, TargetState, UserState};
+ghost use Rattle.tcmu_model.specs.Represents.{RingStands, IdsStand, NotesStand, BlocksStand, JobsStand, TargetKeeps, UserKeeps};
+ghost use Rattle.tcmu_model.specs.UserSteps.{region_published, user_publish_answer, user_published};
 
 /// The user side of an attached device moves the tail just as far as the device does, and answers the same. The ring stands with the new
 /// tail in its mailbox; ids, notes, blocks, jobs and both sides' records are kept.

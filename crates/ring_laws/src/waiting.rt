@@ -8,10 +8,10 @@ ghost use Rattle.tcmu_model.specs.Device.{DeviceState};
 ghost use Rattle.tcmu_model.specs.Events.{after_enter, after_submit};
 ghost use Rattle.tcmu_model.specs.BlockLists.{Taken};
 ghost use Rattle.tcmu_model.specs.Regions.{RegionState};
-ghost use Rattle.ring_laws.specs.Sides.{InHand, PendingRow, Recorded, TargetState, UserState};
-ghost use Rattle.ring_laws.specs.Represents.{RingStands, IdsStand, NotesStand, BlocksStand, JobsStand, TargetKeeps, UserKeeps};
-ghost use Rattle.ring_laws.specs.TargetSteps.{region_entered, region_submitted, target_entered, target_submitted};
-ghost use Rattle.ring_laws.specs.Owned.{ListsSound};
+ghost use Rattle.tcmu_model.specs.Sides.{InHand, PendingRow, Recorded, TargetState, UserState};
+ghost use Rattle.tcmu_model.specs.Represents.{RingStands, IdsStand, NotesStand, BlocksStand, JobsStand, TargetKeeps, UserKeeps};
+ghost use Rattle.tcmu_model.specs.TargetSteps.{region_entered, region_submitted, target_entered, target_submitted};
+ghost use Rattle.tcmu_model.specs.Owned.{ListsSound};
 ghost use Rattle.ring_laws.specs.Refused.{is_refusal, is_waiting};
 
 /// A submit that lets a command wait writes nothing into the region; the target has the command among those that wait, and every point

@@ -36,3 +36,15 @@ pub mod Regions
 pub mod Pending
 pub mod Journals
 pub mod Load
+pub mod Sides
+pub mod Areas
+pub mod Picture
+pub mod Represents
+pub mod TargetSteps
+pub mod TargetCleans
+pub mod UserSteps
+pub mod UserNext
+pub mod HandSteps
+pub mod Owned
+pub mod Hostile
+pub mod Shown

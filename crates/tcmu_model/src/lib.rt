@@ -20,6 +20,7 @@ mod state;
 mod tests;
 mod words;
 mod worked;
+mod worked_region;
 
 pub use entry::{EntryFault, EntryRef, Response};
 pub use faults::{ConfigFault, Why};
@@ -39,3 +40,4 @@ pub use worked::{
     expiry_examples, load_examples, note_examples, order_examples, reset_examples, room_examples,
     waiting_examples,
 };
+pub use worked_region::{picture_examples, target_examples, user_examples, way_examples};

@@ -53,8 +53,9 @@ payload_length c = if takes_payload c.cdb then length c.sent else c.in_len
 
 -- ==== replies
 
--- what every reply keeps: sense data exactly with CHECK CONDITION, with a key below 16, and bytes only with GOOD
+-- what every reply keeps: a status of one byte, sense data exactly with CHECK CONDITION, with a key below 16, and bytes only with GOOD
 pub record IsReply (r : ReplyData) : Type 0 where
+  pub byte : r.status < 256
   pub sense : is_some r.sense ≡ (r.status == 2)
   pub key : IfSome r.sense (λ s. s.key < 16)
   pub good : r.status ≢ 0 → length r.payload ≡ 0

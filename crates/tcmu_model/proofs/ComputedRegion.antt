@@ -6,11 +6,11 @@ use Rattle.tcmu_model.specs.EntryReading.{response_at, tmr_id_at, iov_at, first_
 use Rattle.tcmu_model.specs.MailboxReading.{mailbox_in, judged, mailbox_read}
 use Rattle.tcmu_model.specs.Regions.{overlaid}
 use Rattle.tcmu_model.specs.Examples.{flags_ooo, dev, read_one}
-use Rattle.ring_laws.specs.TargetSteps.{opening_target, front_with, region_laid, target_laid, target_submit_answer, target_submitted, region_submitted, target_blocked}
-use Rattle.ring_laws.specs.TargetCleans.{target_cleaned, target_clean_answer, target_reset}
-use Rattle.ring_laws.specs.UserSteps.{user_mailbox, user_attached, user_responded}
-use Rattle.ring_laws.specs.UserNext.{nexted}
-use Rattle.ring_laws.specs.Hostile.{with_submitted, two_reads, scrawled, with_tail, cleaned_once, serials_logged, statuses_logged, id_zero, responded_at, one_id_twice, huge_length, payloads_logged, said_unknown, next_twice, region_next, finds_twice, with_head, with_len_op, reading, iovec_inside, inside_job, good_reply, then_responds, first_next, IdOfNone, TailInside, IdTwice, LengthPastData, SaidUnknown, NoLength, HeadUnaligned, OpUnknown, IovecBefore, OtherSize, AreaGone}
+use Rattle.tcmu_model.specs.TargetSteps.{opening_target, front_with, region_laid, target_laid, target_submit_answer, target_submitted, region_submitted, target_blocked}
+use Rattle.tcmu_model.specs.TargetCleans.{target_cleaned, target_clean_answer, target_reset}
+use Rattle.tcmu_model.specs.UserSteps.{user_mailbox, user_attached, user_responded}
+use Rattle.tcmu_model.specs.UserNext.{nexted}
+use Rattle.tcmu_model.specs.Hostile.{with_submitted, two_reads, scrawled, with_tail, cleaned_once, serials_logged, statuses_logged, id_zero, responded_at, one_id_twice, huge_length, payloads_logged, said_unknown, next_twice, region_next, finds_twice, with_head, with_len_op, reading, iovec_inside, inside_job, good_reply, then_responds, first_next, IdOfNone, TailInside, IdTwice, LengthPastData, SaidUnknown, NoLength, HeadUnaligned, OpUnknown, IovecBefore, OtherSize, AreaGone}
 
 -- ==== the target
 

@@ -1,5 +1,5 @@
 -- What holds of the block lists of every device, beside the soundness of the device itself.
-use Rattle.std.specs.Prelude.{◌≡◌, ℕ, ◌+◌, ◌*◌, ◌≤◌, ◌<◌, true, List, length, slice_get, IfSome, Some}
+use Rattle.std.specs.Prelude.{◌≡◌, ℕ, ◌+◌, ◌*◌, ◌≤◌, ◌<◌, true, List, length, slice_get, Some}
 use Rattle.tcmu_types.specs.Data.{CommandData}
 use Rattle.tcmu_model.specs.Lengths.{blocks_of, entry_length}
 use Rattle.tcmu_model.specs.RingState.{Cmd, need, free, serials_in}
@@ -19,8 +19,6 @@ pub record ListsSound (d : DeviceState) (lists : List Taken) : Type 0 where
   -- so has one whose entry is not cleared, since the entry's iovecs stand there until then
   pub spans : (i n s : ℕ) (c : CommandData) → d.ring.cleared ≤ i → slice_get d.ring.laid i ≡ Some (record { len = n; laid = Cmd s c })
       → length (list_of lists s) ≡ blocks_of d.settings.pages c
-  -- the status of a reply is a byte
-  pub statuses : Every (λ u. IfSome u.reply (λ reply. reply.status < 256)) d.unfinished
 
 -- there is room for a command
 pub record HasRoom (d : DeviceState) (c : CommandData) : Type 0 where

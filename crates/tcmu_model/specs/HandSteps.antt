@@ -2,7 +2,7 @@
 use Rattle.std.specs.Prelude.{ℕ, ◌==◌, Bool, List, Some}
 use Rattle.tcmu_types.specs.Data.{ReplyData}
 use Rattle.tcmu_model.specs.Lists.{with_first, without_first}
-use Rattle.ring_laws.specs.Sides.{InHand}
+use Rattle.tcmu_model.specs.Sides.{InHand}
 
 abbrev pub hand_has : ℕ → InHand → Bool
 hand_has s h = h.serial == s

@@ -20,10 +20,10 @@ use Rattle.tcmu_model.specs.BlockLists.{least_free}
 use Rattle.tcmu_model.specs.Layout.{le, put, zeros, ring_start, head_place, pad_bytes, tmr_bytes}
 use Rattle.tcmu_model.specs.Regions.{RegionState, size_of, grown_to}
 use Rattle.tcmu_model.specs.Pending.{PendingData}
-use Rattle.ring_laws.specs.Areas.{written_along}
-use Rattle.ring_laws.specs.Picture.{request_of}
-use Rattle.ring_laws.specs.Represents.{row_has}
-use Rattle.ring_laws.specs.Sides.{PendingRow, Recorded, TargetState}
+use Rattle.tcmu_model.specs.Areas.{written_along}
+use Rattle.tcmu_model.specs.Picture.{request_of}
+use Rattle.tcmu_model.specs.Represents.{row_has}
+use Rattle.tcmu_model.specs.Sides.{PendingRow, Recorded, TargetState}
 
 -- ==== opening
 

@@ -1,6 +1,6 @@
 //! Worked examples: what the definitions give for bytes that the other side has no right to write, for dumps, and for a command on its way.
-ghost use Rattle.ring_laws.specs.Shown.{ShowsMailbox, ShowsPadding, Clears, Serves};
-ghost use Rattle.ring_laws.specs.Hostile.{IdOfNone, TailInside, IdTwice, LengthPastData, SaidUnknown, NoLength, HeadUnaligned, OpUnknown, IovecBefore, OtherSize, AreaGone};
+ghost use Rattle.tcmu_model.specs.Shown.{ShowsMailbox, ShowsPadding, Clears, Serves};
+ghost use Rattle.tcmu_model.specs.Hostile.{IdOfNone, TailInside, IdTwice, LengthPastData, SaidUnknown, NoLength, HeadUnaligned, OpUnknown, IovecBefore, OtherSize, AreaGone};
 
 /// The target over bytes that a user side wrote: a wrong id, a wrong tail, an id twice, a length past the data, an unknown entry.
 pub fn target_examples()

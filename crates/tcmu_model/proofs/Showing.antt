@@ -9,12 +9,12 @@ use Rattle.tcmu_model.specs.Iovecs.{merged, iovs_along}
 use Rattle.tcmu_model.specs.EntryReading.{response_at, tmr_id_at, iov_at, first_outside, cdb_at, command_read, tmr_read, limit_of, least_of, kind_read, sized_read, entry_read}
 use Rattle.tcmu_model.specs.MailboxReading.{mailbox_in, judged, mailbox_read}
 use Rattle.tcmu_model.specs.Regions.{overlaid}
-use Rattle.ring_laws.specs.Picture.{picture_of}
-use Rattle.ring_laws.specs.TargetSteps.{opening_target, front_with, region_laid, target_laid}
-use Rattle.ring_laws.specs.TargetCleans.{target_cleaned, target_clean_answer}
-use Rattle.ring_laws.specs.UserSteps.{user_mailbox, user_attached, user_responded, user_published, region_published}
-use Rattle.ring_laws.specs.UserNext.{nexted}
-use Rattle.ring_laws.specs.Shown.{times_zero, read_forty, after_reads, inquiry, used_region, laid_region, job_of, reply_of, served, served_region, laid_target, ShowsMailbox, ShowsPadding, Clears, Serves}
+use Rattle.tcmu_model.specs.Picture.{picture_of}
+use Rattle.tcmu_model.specs.TargetSteps.{opening_target, front_with, region_laid, target_laid}
+use Rattle.tcmu_model.specs.TargetCleans.{target_cleaned, target_clean_answer}
+use Rattle.tcmu_model.specs.UserSteps.{user_mailbox, user_attached, user_responded, user_published, region_published}
+use Rattle.tcmu_model.specs.UserNext.{nexted}
+use Rattle.tcmu_model.specs.Shown.{times_zero, read_forty, after_reads, inquiry, used_region, laid_region, job_of, reply_of, served, served_region, laid_target, ShowsMailbox, ShowsPadding, Clears, Serves}
 
 pub shows_mailbox : ShowsMailbox
 unfolding answers answer after afterwards answer_of times dev flags_ooo flags_none read_one read_of test_unit good zeros queued_or_full queued_or_delayed with_command with_delayed with_note submit_answer after_submit enter_answer after_enter dispatch_answer after_dispatch after_handle respond_answer after_respond publish_answer after_publish clean_answer after_clean tick_answer after_tick block_answer after_block reset_answer after_reset restart_answer after_restart tmr_answer after_tmr stat_answer todo_of drain_event drained drained_by asked_by submits le field layout.zeros padded put mailbox_bytes entry_header pad_bytes command_head command_bytes answer_bytes merged iovs_along picture_of times_zero read_forty after_reads

@@ -8,11 +8,11 @@ use Rattle.tcmu_model.specs.declared.entry.EntryFault.TheVariants as entry
 use Rattle.tcmu_model.specs.Layout.{le, put, ring_start, head_place, tail_place, answer_bytes, command_bytes, with_response}
 use Rattle.tcmu_model.specs.Regions.{RegionState, opening_region, grown_to, shrunk_to}
 use Rattle.tcmu_model.specs.Examples.{dev, read_one}
-use Rattle.ring_laws.specs.Sides.{TargetState, Copied, JobState, UserState}
-use Rattle.ring_laws.specs.TargetSteps.{opening_target, target_submit_answer, target_submitted, region_submitted, target_blocked}
-use Rattle.ring_laws.specs.TargetCleans.{Logged, BadTail, Broken, target_clean_answer, target_cleaned, target_reset}
-use Rattle.ring_laws.specs.UserSteps.{user_attached, user_responded}
-use Rattle.ring_laws.specs.UserNext.{NextAnswer, Job, Nothing, BadMailbox, BadEntry, nexted}
+use Rattle.tcmu_model.specs.Sides.{TargetState, Copied, JobState, UserState}
+use Rattle.tcmu_model.specs.TargetSteps.{opening_target, target_submit_answer, target_submitted, region_submitted, target_blocked}
+use Rattle.tcmu_model.specs.TargetCleans.{Logged, BadTail, Broken, target_clean_answer, target_cleaned, target_reset}
+use Rattle.tcmu_model.specs.UserSteps.{user_attached, user_responded}
+use Rattle.tcmu_model.specs.UserNext.{NextAnswer, Job, Nothing, BadMailbox, BadEntry, nexted}
 
 -- ==== the target
 

@@ -13,10 +13,10 @@ use Rattle.tcmu_model.specs.Layout.{le, put, field, ring_start, head_place, tail
 use Rattle.tcmu_model.specs.EntryReading.{response_at}
 use Rattle.tcmu_model.specs.Regions.{RegionState, size_of, shrunk_to}
 use Rattle.tcmu_model.specs.Pending.{PendingData}
-use Rattle.ring_laws.specs.Areas.{bytes_along}
-use Rattle.ring_laws.specs.Represents.{has_id}
-use Rattle.ring_laws.specs.Sides.{PendingRow, Recorded, TargetState}
-use Rattle.ring_laws.specs.TargetSteps.{blocks_held, closed, checked}
+use Rattle.tcmu_model.specs.Areas.{bytes_along}
+use Rattle.tcmu_model.specs.Represents.{has_id}
+use Rattle.tcmu_model.specs.Sides.{PendingRow, Recorded, TargetState}
+use Rattle.tcmu_model.specs.TargetSteps.{blocks_held, closed, checked}
 
 pub data CleanAnswer : Type 0 where
   Logged : ℕ → CleanAnswer

@@ -6,12 +6,12 @@ use Rattle.tcmu_model.specs.declared.mailbox.MailboxFault.{MailboxFault}
 use Rattle.tcmu_model.specs.Device.{DeviceState, opening_state}
 use Rattle.tcmu_model.specs.Regions.{RegionState, opening_region}
 use Rattle.tcmu_model.specs.Examples.{dev, read_of, submits, after, afterwards, drained}
-use Rattle.ring_laws.specs.Picture.{picture_of}
-use Rattle.ring_laws.specs.Sides.{TargetState, Copied, JobState, UserState}
-use Rattle.ring_laws.specs.TargetSteps.{opening_target, target_laid, region_laid}
-use Rattle.ring_laws.specs.TargetCleans.{target_cleaned, target_clean_answer, Logged}
-use Rattle.ring_laws.specs.UserSteps.{user_attached, user_responded, region_published}
-use Rattle.ring_laws.specs.UserNext.{NextAnswer, Job, Note, Nothing, BadMailbox, BadEntry, nexted}
+use Rattle.tcmu_model.specs.Picture.{picture_of}
+use Rattle.tcmu_model.specs.Sides.{TargetState, Copied, JobState, UserState}
+use Rattle.tcmu_model.specs.TargetSteps.{opening_target, target_laid, region_laid}
+use Rattle.tcmu_model.specs.TargetCleans.{target_cleaned, target_clean_answer, Logged}
+use Rattle.tcmu_model.specs.UserSteps.{user_attached, user_responded, region_published}
+use Rattle.tcmu_model.specs.UserNext.{NextAnswer, Job, Note, Nothing, BadMailbox, BadEntry, nexted}
 
 -- ==== dumps
 

@@ -20,8 +20,8 @@ use Rattle.tcmu_model.specs.MailboxReading.{mailbox_read}
 use Rattle.tcmu_model.specs.EntryReading.{lies_inside}
 use Rattle.tcmu_model.specs.Iovecs.{scattered}
 use Rattle.tcmu_model.specs.Regions.{RegionState, bytes_of, given_back, copied_in}
-use Rattle.ring_laws.specs.Picture.{told_length}
-use Rattle.ring_laws.specs.Sides.{Recorded, Carried, Moved, Copied, JobState, Parked, GivenJob, UserState}
+use Rattle.tcmu_model.specs.Picture.{told_length}
+use Rattle.tcmu_model.specs.Sides.{Recorded, Carried, Moved, Copied, JobState, Parked, GivenJob, UserState}
 
 -- ==== attach
 

@@ -13,8 +13,8 @@ use Rattle.tcmu_model.specs.Layout.{put, ring_start}
 use Rattle.tcmu_model.specs.EntryReading.{entry_read, iov_at, tmr_id_at}
 use Rattle.tcmu_model.specs.Iovecs.{along, total_of}
 use Rattle.tcmu_model.specs.Regions.{RegionState, size_of, bytes_of, can_lend, lent, parts_of}
-use Rattle.ring_laws.specs.Sides.{Carried, Moved, Copied, JobState, UserState}
-use Rattle.ring_laws.specs.UserSteps.{user_mailbox, is_open_job}
+use Rattle.tcmu_model.specs.Sides.{Carried, Moved, Copied, JobState, UserState}
+use Rattle.tcmu_model.specs.UserSteps.{user_mailbox, is_open_job}
 
 pub data NextAnswer : Type 0 where
   Job : JobState → NextAnswer

@@ -18,9 +18,9 @@ use Rattle.tcmu_model.specs.Layout.{field, zeros, ring_start, data_start}
 use Rattle.tcmu_model.specs.Iovecs.{gathered}
 use Rattle.tcmu_model.specs.Regions.{RegionState, HaveSize}
 use Rattle.tcmu_model.specs.Pending.{PendingData}
-use Rattle.ring_laws.specs.Areas.{bytes_along, IsHome, IsLent}
-use Rattle.ring_laws.specs.Picture.{place_of, tail, payload_of, command_iovs, item_bytes, kind_of, ids_named, shown_mailbox}
-use Rattle.ring_laws.specs.Sides.{PendingRow, Recorded, TargetState, Moved, JobState, Parked, GivenJob, UserState, InHand}
+use Rattle.tcmu_model.specs.Areas.{bytes_along, IsHome, IsLent}
+use Rattle.tcmu_model.specs.Picture.{place_of, tail, payload_of, command_iovs, item_bytes, kind_of, ids_named, shown_mailbox}
+use Rattle.tcmu_model.specs.Sides.{PendingRow, Recorded, TargetState, Moved, JobState, Parked, GivenJob, UserState, InHand}
 
 -- ==== the ring
 

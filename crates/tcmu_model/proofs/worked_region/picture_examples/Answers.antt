@@ -1,0 +1,5 @@
+use Rattle.tcmu_model.proofs.Showing.{shows_mailbox, shows_padding}
+use Rattle.tcmu_model.proofs.worked_region.picture_examples.Goals as goal
+
+pub returns : goal.returns
+returns c = record { mailbox = shows_mailbox; padding = shows_padding }
