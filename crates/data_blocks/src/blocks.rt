@@ -61,7 +61,7 @@ impl Blocks {
         })
     }
 
-    /// Sees to it that `need` blocks can be taken.
+    /// Sees to it that `need` blocks can be taken, a promise that `take` then keeps. `Lacks` where fewer are free; then nothing changes.
     pub fn reserve(&mut self, need: u32) -> Result<(), BlocksFault>
         ensures value { result ≡ (if nat_lt (free self.old) need then Err (BlocksFault.Lacks need (free self.old)) else Ok tt) }
         ensures new { self.new ≡ (if nat_lt (free self.old) need then self.old else record self.old { spare = max self.old.spare need }) }

@@ -35,7 +35,8 @@ pub trait Files {
         ensures counted { OnErr result (state self.new ≡ option_map one_more_fetch (state self.old)) }
         ensures cause { HasCause (faults self.old) (faults self.new) result };
 
-    /// Gives a file back: a name that is out stands for what the store tells. At any other name the file is dropped.
+    /// Gives a file back that `fetch` took out: from now on its name stands for what the store tells. At a name that is not out the file is
+    /// dropped, and nothing changes.
     fn keep(&mut self, name: &[u8], file: Self::File)
         ensures kept { (c : Content) → Self.File.state file ≡ store_of c → state self.new ≡ option_map (after_keep name.now c) (state self.old) }
         ensures faults { faults self.new ≡ faults self.old };

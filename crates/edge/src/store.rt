@@ -41,7 +41,7 @@ pub trait Store {
         ensures exact { ComesOut (state self.old).calls (is_err result) }
         ensures cause { HasCause (faults self.old) (faults self.new) result };
 
-    /// Brings to what is below all that was written before.
+    /// Brings all that was written before to the device below (fsync of POSIX). What the store tells stays as it is.
     fn sync(&mut self) -> Result<(), Failed>
         ensures bytes { (state self.new).bytes ≡ (state self.old).bytes }
         ensures size { (state self.new).size ≡ (state self.old).size }

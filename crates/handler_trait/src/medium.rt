@@ -52,7 +52,7 @@ pub trait Medium {
         ensures protected { (state self.new).protected ≡ (state self.old).protected }
         ensures cause { HasCause (faults self.old) (faults self.new) result };
 
-    /// Brings to what is below all that was written before.
+    /// Brings all that was written before to what is below (SYNCHRONIZE CACHE). The bytes of the medium stay as they are.
     fn sync(&mut self) -> Result<(), Failed>
         ensures syncs { Syncs (state self.old) (is_err result) (state self.new) }
         ensures blocks { (state self.new).blocks ≡ (state self.old).blocks }

@@ -2,7 +2,7 @@
 ghost use Rattle.std.specs.Prelude.{◌≡◌, ◌≤◌, ◌<◌};
 ghost use Rattle.tcmu_model.specs.Load.{next_random, load_count, load_place, load_fill, load_writes};
 
-/// The number behind a number.
+/// The next of the 64-bit pseudo-random numbers of a load: a linear congruential generator (Knuth's MMIX) modulo 2^64.
 #[tactic(auto, using(crate::proofs::Remainders::one_remainder), unfolding(tcmu_model::specs::Load::next_random))]
 pub fn next_random(x: u64) -> u64
     ensures { result ≡ next_random x }

@@ -1,4 +1,3 @@
-pub mod OpenCounts
 pub mod Tallying
 pub mod Summing
 pub mod Loads

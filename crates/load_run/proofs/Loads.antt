@@ -10,7 +10,7 @@ use Rattle.tcmu_model.specs.Load.{load_device, load_lines, load_settings, random
 use Rattle.tcmu_model.proofs.SoundEvents.{sound_opening}
 use Rattle.tcmu_model.proofs.Runs.{sound_run}
 use Rattle.load_gen.proofs.Limits.{lines_none, lines_more, lines_few, submit_line, drain_if, command_is, device_is}
-use Rattle.load_run.specs.Tasks.{IsFit, IsFitFor}
+use Rattle.tcmu_path.specs.Tasks.{IsFit, IsFitFor}
 use Rattle.load_run.specs.Tallies.{sizes_of, Played, numbers_in}
 use Rattle.load_run.specs.Loading.{opened_over, opened_load, IsLoadText}
 use Rattle.load_run.proofs.Tallying.{run_of}

@@ -26,7 +26,7 @@ use Rattle.tcmu_model.proofs.GoesOn.{goes_on_first, goes_on_more}
 use Rattle.tcmu_model.proofs.Logs.{makes_grows}
 use Rattle.tcmu_model.proofs.Runs.{sound_step, sound_run}
 use Rattle.tcmu_path.specs.Calls.{Accepts}
-use Rattle.load_run.specs.Tasks.{accepted_by, IsFit, CanBeMade}
+use Rattle.tcmu_path.specs.Tasks.{accepted_by, IsFit, CanBeMade}
 use Rattle.std.proofs.Common.{◌&&◌, not, nat_lt, ◌*◌, ◌/◌}
 use Rattle.std.specs.Option.{option_map}
 use Rattle.std.proofs.lemmas.Bool.{ltb-true}

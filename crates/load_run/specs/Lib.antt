@@ -1,3 +1,2 @@
-pub mod Tasks
 pub mod Tallies
 pub mod Loading

@@ -1,8 +1,6 @@
 //! The run of a load: its lines are played on its device, and one line sums the replay up.
 #![tactic(auto)]
 
-mod count;
-mod events;
 mod load;
 mod summary;
 mod tally;

@@ -7,10 +7,9 @@ ghost use Rattle.tcmu_model.specs.Replay.{open_count};
 ghost use Rattle.tcmu_model.specs.Load.{LoadNumbers, summary_text};
 ghost use Rattle.load_run.specs.Tallies.{is_good, good_bytes, numbers_in};
 
-use crate::count::open_count;
 use std::alloc::Global;
 use std::marker::Model;
-use tcmu_path::Path;
+use tcmu_path::{Path, open_count};
 use tcmu_types::{Done, NoMemory};
 
 /// The accepted commands, the completions that are GOOD, the bytes that those moved, and the commands without a completion.

@@ -6,13 +6,12 @@ ghost use Rattle.tcmu_model.specs.Sound.{IsSound, Every};
 ghost use Rattle.tcmu_model.specs.Replay.{Plays};
 ghost use Rattle.tcmu_model.specs.Several.{ReplaysEach};
 ghost use Rattle.tcmu_path.specs.Calls.{Accepts};
-ghost use Rattle.load_run.specs.Tasks.{CanBeMade, accepted_by, IsFit, IsFitFor};
+ghost use Rattle.tcmu_path.specs.Tasks.{CanBeMade, accepted_by, IsFit, IsFitFor};
 ghost use Rattle.load_run.specs.Tallies.{IsOf, Played, size_of, size_in};
 
-use crate::events::{make, next_event};
 use scenario_text::{Line, LineKind};
 use std::alloc::Global;
-use tcmu_path::Path;
+use tcmu_path::{Path, make_event, next_event};
 use tcmu_types::{Answer, Command, Done, Event, NoMemory, Submit, takes_payload};
 
 /// How many bytes a command sends, where its operation code takes some.
@@ -53,7 +52,7 @@ fn play<P: Path>(
     ensures made { OnOk result (Played P.relation (IsOf 0 (event_data event.now)) (P.device path.old) (P.device path.new) sizes.old.items sizes.new.items) }
     ensures accepts { Accepts (accepted_by (event_data event.now)) (P.device path.old) (P.device path.new) }
 {
-    let answer = make(alloc, path, event)?;
+    let answer = make_event(alloc, path, event)?;
     note(sizes, event, &answer)
 }
 

@@ -48,3 +48,4 @@ pub mod HandSteps
 pub mod Owned
 pub mod Hostile
 pub mod Shown
+pub mod SideExamples

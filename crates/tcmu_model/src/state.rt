@@ -7,7 +7,7 @@ ghost use Rattle.tcmu_model.specs.States.{same_state};
 pub enum CommandState {
     /// Its item is not dispatched.
     Waiting,
-    /// The user side has it, and its handler was not called.
+    /// It is out at its handler: dispatched, and not answered.
     Out,
     /// Its handler answered.
     Handled,

@@ -1,5 +1,6 @@
 //! Worked examples: what the definitions give for bytes that the other side has no right to write, for dumps, and for a command on its way.
 ghost use Rattle.tcmu_model.specs.Shown.{ShowsMailbox, ShowsPadding, Clears, Serves};
+ghost use Rattle.tcmu_model.specs.SideExamples.{WaitsFive, ExpireOnce, CleansOne, Answers};
 ghost use Rattle.tcmu_model.specs.Hostile.{IdOfNone, TailInside, IdTwice, LengthPastData, SaidUnknown, NoLength, HeadUnaligned, OpUnknown, IovecBefore, OtherSize, AreaGone};
 
 /// The target over bytes that a user side wrote: a wrong id, a wrong tail, an id twice, a length past the data, an unknown entry.
@@ -33,4 +34,13 @@ pub fn picture_examples()
 pub fn way_examples()
     ensures clears { Clears }
     ensures serves { Serves }
+{}
+
+/// What the two sides' own steps give: a command that waits, commands that expire, a clean of one of two, a job before and behind its
+/// answer.
+pub fn side_examples()
+    ensures waits { WaitsFive }
+    ensures expire { ExpireOnce }
+    ensures cleans { CleansOne }
+    ensures answers { Answers }
 {}

@@ -6,3 +6,4 @@ pub mod Bounds
 pub mod Cleared
 pub mod Plains
 pub mod Keeping
+pub mod OpenCounts

@@ -3,7 +3,9 @@
 
 mod books;
 mod closings;
+mod count;
 mod dispatching;
+mod events;
 mod path;
 mod placing;
 mod plain;
@@ -12,5 +14,7 @@ mod rows;
 mod state;
 mod waiting;
 
+pub use count::open_count;
+pub use events::{make_event, next_event};
 pub use path::Path;
 pub use plain::PlainPath;

@@ -11,7 +11,7 @@ use Rattle.tcmu_model.specs.ScenarioData.{LineData}
 use Rattle.tcmu_model.specs.Several.{Journaled, DrainsEach, ReplaysEach}
 use Rattle.tcmu_model.proofs.GoesOn.{drains_run}
 use Rattle.tcmu_model.proofs.Runs.{sound_run}
-use Rattle.tcmu_top.specs.Tasks.{IsFitFor}
+use Rattle.tcmu_path.specs.Tasks.{IsFitFor}
 use Rattle.tcmu_top.proofs.Each.{Leads, Ending}
 use Rattle.tcmu_top.proofs.Legal.{entries, AreOf, piece_of, legal_none, legal_one, legal_append, drains_own, plays_own}
 use Rattle.tcmu_top.proofs.Places.{get_within, every_get, every_set, drop_at, agrees}

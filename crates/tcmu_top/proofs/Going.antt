@@ -12,7 +12,7 @@ use Rattle.tcmu_model.specs.ScenarioData.{DeviceLineData, LineData}
 use Rattle.tcmu_model.specs.Several.{DrainsEach, ReplaysEach}
 use Rattle.tcmu_model.proofs.Everies.{every-weaker}
 use Rattle.tcmu_top.specs.Playing.{WroteOn, WroteOnFront, WroteEach, WroteEachFront}
-use Rattle.tcmu_top.specs.Tasks.{IsFitFor}
+use Rattle.tcmu_path.specs.Tasks.{IsFitFor}
 use Rattle.tcmu_top.proofs.Each.{Leads, SoFar, sofar_first, sofar_more, sofar_stopped, sofar_done}
 use Rattle.tcmu_top.proofs.Endings.{DrainsFrom, drains_step, drains_none, ending_drains, ending_lines}
 use Rattle.tcmu_top.proofs.Legal.{drains_own, plays_own}

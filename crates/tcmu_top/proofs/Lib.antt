@@ -1,7 +1,6 @@
 pub mod Telling
 pub mod RunTexts
 pub mod Outcomes
-pub mod OpenCounts
 pub mod Playing
 pub mod Places
 pub mod Legal

@@ -30,7 +30,7 @@ use Rattle.tcmu_model.proofs.GoesOn.{goes_on_first, goes_on_more, drains_run}
 use Rattle.tcmu_model.proofs.Logs.{makes_grows}
 use Rattle.tcmu_top.specs.Playing.{event_lines, run_text, MadeEvent, Told, Stopped, Wrote, WroteFront}
 use Rattle.tcmu_model.specs.ScenarioRules.{IsEvent}
-use Rattle.tcmu_top.specs.Tasks.{IsFit, CanBeMade}
+use Rattle.tcmu_path.specs.Tasks.{IsFit, CanBeMade}
 use Rattle.tcmu_top.proofs.Telling.{gained_none, gained_more, gained_as, front_none, front_whole, front_behind}
 use Rattle.tcmu_top.proofs.RunTexts.{run_append, text_more, text_one, drop_front}
 use Rattle.tcmu_model.proofs.Runs.{sound_step}

@@ -18,7 +18,7 @@ use Rattle.tcmu_model.specs.Several.{Journaled, ReplaysEach, IsLegalEach, journa
 use Rattle.tcmu_model.specs.Text.{device_text, end_text}
 use Rattle.tcmu_model.proofs.SoundEvents.{sound_opening}
 use Rattle.tcmu_top.specs.Playing.{AreOpened, WroteEach, WroteEachFront}
-use Rattle.tcmu_top.specs.Tasks.{IsFit, IsFitFor}
+use Rattle.tcmu_path.specs.Tasks.{IsFit, IsFitFor}
 use Rattle.tcmu_top.specs.Top.{Replayed, ReplayedInPart}
 use Rattle.tcmu_top.proofs.Endings.{ending_lines}
 use Rattle.tcmu_top.proofs.Legal.{entries, legal_none}

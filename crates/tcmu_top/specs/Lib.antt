@@ -1,4 +1,3 @@
-pub mod Tasks
 pub mod Playing
 pub mod Opened
 pub mod Words

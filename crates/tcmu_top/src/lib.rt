@@ -1,7 +1,6 @@
 //! The top call: words, reading, running, writing.
 #![tactic(auto)]
 
-mod count;
 mod faults;
 mod laws;
 mod lines;

@@ -9,68 +9,15 @@ ghost use Rattle.tcmu_model.specs.Sound.{IsSound};
 ghost use Rattle.tcmu_model.specs.Work.{HasOutcomes};
 ghost use Rattle.tcmu_model.specs.Replay.{Plays};
 ghost use Rattle.tcmu_path.specs.Calls.{Accepts};
-ghost use Rattle.tcmu_top.specs.Tasks.{CanBeMade, accepted_by, IsFit};
+ghost use Rattle.tcmu_path.specs.Tasks.{CanBeMade, accepted_by, IsFit};
 ghost use Rattle.tcmu_top.specs.Playing.{Told, Stopped, Wrote, WroteFront};
 
 use crate::writing::{Stop, write_entry};
 use edge::Sink;
 use scenario_text::{DeviceLine, Line, LineKind};
 use std::alloc::Global;
-use tcmu_path::Path;
-use tcmu_types::{Answer, Done, Event, NoMemory, Todo};
-
-/// Makes an event.
-fn make<P: Path>(alloc: Global, path: &mut P, event: &Event) -> Result<Answer, NoMemory>
-    requires few { (P.device path.old).state.accepted < 2 ^ 63 }
-    requires can { CanBeMade (event_data event.now) }
-    ensures makes { IfOk result (λ a. Makes P.relation (P.device path.old) (event_data event.now) (answer_data a) (P.device path.new)) }
-    ensures unchanged { OnErr result (P.device path.new ≡ P.device path.old) }
-    ensures accepts { Accepts (accepted_by (event_data event.now)) (P.device path.old) (P.device path.new) }
-{
-    match event {
-        Event::Submit(command) => Ok(Answer::Submit(path.submit(alloc, command)?)),
-        Event::Dispatch => Ok(Answer::Dispatch(path.dispatch(alloc)?)),
-        Event::Handle(serial) => Ok(Answer::Handle(path.handle(alloc, *serial)?)),
-        Event::Respond(serial) => Ok(Answer::Respond(path.respond(*serial))),
-        Event::Publish => Ok(Answer::Publish(path.publish())),
-        Event::Clean => Ok(Answer::Logged(path.clean())),
-        Event::Tick(n) => Ok(Answer::Logged(path.tick(*n))),
-        Event::Block => Ok(Answer::Changed(path.block())),
-        Event::Unblock => Ok(Answer::Changed(path.unblock())),
-        Event::Reset(level) => Ok(Answer::Reset(path.reset(*level))),
-        Event::Restart => Ok(Answer::Lost(path.restart())),
-        Event::Tmr { kind, serials } => Ok(Answer::Tmr(path.tmr(alloc, *kind, serials)?)),
-        Event::Stat => Ok(Answer::Stat(path.stat())),
-        Event::Enter => Ok(Answer::Enter(path.enter(alloc)?)),
-    }
-}
-
-/// The first event that applies, in the drain's order.
-fn next_event(todo: &Todo) -> Option<Event>
-    ensures value { option_map event_data result ≡ chosen todo.now }
-    ensures can { IfSome result (λ e. CanBeMade (event_data e)) }
-    ensures accepts { IfSome result (λ e. accepted_by (event_data e) ≡ 0) }
-{
-    if let Some(serial) = todo.handle {
-        return Some(Event::Handle(serial));
-    }
-    if let Some(serial) = todo.respond {
-        return Some(Event::Respond(serial));
-    }
-    if todo.publish {
-        return Some(Event::Publish);
-    }
-    if todo.clean {
-        return Some(Event::Clean);
-    }
-    if todo.enter {
-        return Some(Event::Enter);
-    }
-    if todo.dispatch {
-        return Some(Event::Dispatch);
-    }
-    None
-}
+use tcmu_path::{Path, make_event, next_event};
+use tcmu_types::{Done, Event};
 
 /// The completions behind the first so many.
 fn behind(log: &[Done], before: usize) -> &[Done]
@@ -97,7 +44,7 @@ fn play<P: Path, K: Sink>(
     ensures accepts { Accepts (accepted_by (event_data event.now)) (P.device path.old) (P.device path.new) }
 {
     let before = path.log().len();
-    let answer = make(alloc, path, event)?;
+    let answer = make_event(alloc, path, event)?;
     let logged = behind(path.log(), before);
     write_entry(alloc, device, event, &answer, logged, out)
 }

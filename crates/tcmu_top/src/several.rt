@@ -8,18 +8,17 @@ ghost use Rattle.tcmu_model.specs.Work.{HasOutcomes};
 ghost use Rattle.tcmu_model.specs.Replay.{Plays};
 ghost use Rattle.tcmu_model.specs.Several.{DrainsEach, ReplaysEach, ends_text};
 ghost use Rattle.tcmu_model.specs.ScenarioRules.{IsScenario, IsServed};
-ghost use Rattle.tcmu_top.specs.Tasks.{IsFitFor};
+ghost use Rattle.tcmu_path.specs.Tasks.{IsFitFor};
 ghost use Rattle.tcmu_top.specs.Playing.{states_of, AreOpened, WroteOn, WroteOnFront, WroteEach, WroteEachFront};
 ghost use Rattle.tcmu_top.specs.Top.{Replayed, ReplayedInPart};
 
-use crate::count::open_count;
 use crate::lines::{drain, play_line};
 use crate::writing::{Stop, write_end, write_readies};
 use device_set::DeviceSet;
 use edge::Sink;
 use scenario_text::{DeviceLine, Line, Scenario};
 use std::alloc::Global;
-use tcmu_path::Path;
+use tcmu_path::{Path, open_count};
 
 /// Drains the device of a number.
 fn drain_on<P: Path, K: Sink>(

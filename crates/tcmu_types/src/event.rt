@@ -3,20 +3,26 @@ use crate::answer::Answer;
 use crate::{Command, Serials};
 use std::marker::Model;
 
-/// An event of a device. Serials number the accepted commands of a device from 1; ticks are moments that are handed in.
+/// An event of a device. Serials number the accepted commands of a device from 1.
 #[derive(Debug, Drop)]
 pub enum Event {
     Submit(Command),
     Dispatch,
+    /// Of the command of this serial.
     Handle(u64),
+    /// Of the command of this serial.
     Respond(u64),
     Publish,
     Clean,
+    /// So many moments pass.
     Tick(u32),
     Block,
     Unblock,
+    /// With the level 1 (what is open ends with BUSY) or 2 (with HARDWARE ERROR).
     Reset(u8),
+    /// The daemon is gone.
     Restart,
+    /// A task management function of a type (of the kernel's `TCMU_TMR_*`), with the commands that it names.
     Tmr { kind: u8, serials: Serials },
     Stat,
     Enter,

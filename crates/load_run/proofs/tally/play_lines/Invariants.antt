@@ -1,7 +1,7 @@
 use Rattle.std.proofs.Common.{drop}
 use Rattle.tcmu_model.specs.Sound.{Every}
 use Rattle.tcmu_path.specs.Calls.{Accepts}
-use Rattle.load_run.specs.Tasks.{IsFitFor}
+use Rattle.tcmu_path.specs.Tasks.{IsFitFor}
 use Rattle.load_run.proofs.Tallying.{Playing}
 use Rattle.load_run.proofs.tally.play_lines.Given as goal
 

@@ -9,7 +9,7 @@ use Rattle.tcmu_model.specs.Sound.{Every}
 use Rattle.tcmu_model.specs.Text.{device_text}
 use Rattle.tcmu_model.proofs.Everies.{every-weaker}
 use Rattle.tcmu_top.specs.Playing.{states_of, WroteEach, WroteEachFront}
-use Rattle.tcmu_top.specs.Tasks.{IsFitFor}
+use Rattle.tcmu_path.specs.Tasks.{IsFitFor}
 use Rattle.tcmu_top.proofs.Sets.{states_count}
 use Rattle.tcmu_top.proofs.Telling.{on_err}
 use Rattle.tcmu_top.proofs.Whole.{opened_count, opened_sound, opened_none, lines_fit, front_of_ready, front_of_run, front_of_last, whole}

@@ -5,7 +5,7 @@ use Rattle.tcmu_model.specs.Device.{Device}
 use Rattle.tcmu_model.specs.Sound.{Every}
 use Rattle.tcmu_model.specs.Several.{DrainsEach, ReplaysEach}
 use Rattle.tcmu_model.proofs.Everies.{every-weaker}
-use Rattle.tcmu_top.specs.Tasks.{IsFitFor}
+use Rattle.tcmu_path.specs.Tasks.{IsFitFor}
 use Rattle.tcmu_top.specs.Playing.{states_of}
 use Rattle.tcmu_top.proofs.Each.{sofar_then, sofar_then_front}
 use Rattle.tcmu_top.proofs.Going.{PlaysLine, line_at, every_turned, count_kept, played_more, played_stopped}

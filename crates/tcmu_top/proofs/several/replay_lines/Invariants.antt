@@ -2,7 +2,7 @@ use Rattle.std.proofs.Common.{◌≡◌, ◌+◌, ◌≤◌, ◌<◌, ◌^◌, l
 use Rattle.tcmu_model.specs.Sound.{Every}
 use Rattle.tcmu_model.specs.Several.{ReplaysEach}
 use Rattle.tcmu_top.specs.Playing.{states_of}
-use Rattle.tcmu_top.specs.Tasks.{IsFitFor}
+use Rattle.tcmu_path.specs.Tasks.{IsFitFor}
 use Rattle.tcmu_top.proofs.Each.{SoFar}
 use Rattle.tcmu_top.proofs.several.replay_lines.Given as goal
 

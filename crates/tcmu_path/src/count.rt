@@ -3,7 +3,7 @@ ghost use Rattle.std.specs.Prelude.{◌≡◌, ◌+◌, ◌-◌, ◌^◌, ◌≤
 ghost use Rattle.tcmu_model.specs.Sound.{IsSound};
 ghost use Rattle.tcmu_model.specs.Replay.{open_count};
 
-use tcmu_path::Path;
+use crate::Path;
 use tcmu_types::Stat;
 
 /// The commands in the ring.

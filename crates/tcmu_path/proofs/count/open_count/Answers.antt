@@ -1,6 +1,6 @@
 use Rattle.std.proofs.Common.{arith}
-use Rattle.tcmu_top.proofs.OpenCounts.{expired_within, delayed_few, open_counted}
-use Rattle.tcmu_top.proofs.count.open_count.Goals as goal
+use Rattle.tcmu_path.proofs.OpenCounts.{expired_within, delayed_few, open_counted}
+use Rattle.tcmu_path.proofs.count.open_count.Goals as goal
 
 pub overflow_sub-result : goal.overflow_sub-result
 overflow_sub-result g c = omega (arith, expired_within (g.P.Path.device c.args.path.now).state c.stat-stat.result c.stat-stat.ensures.answer, c.in_ring.ensures.value, c.from.ensures)

@@ -1,18 +1,18 @@
-//! The events of a device, made by their names, and the one that a drain makes next.
+//! An event as a value: made on a path, and the one that a drain makes next.
 ghost use Rattle.std.specs.Prelude.{◌≡◌, ℕ, ◌^◌, ◌≤◌, ◌<◌, length, drop, IfOk, IfSome, OnOk, OnErr, IsErrOf};
 ghost use Rattle.std.specs.Option.{option_map};
 ghost use Rattle.tcmu_types.specs.Views.{event_data, answer_data};
 ghost use Rattle.tcmu_model.specs.Steps.{Makes};
 ghost use Rattle.tcmu_model.specs.Drain.{chosen};
 ghost use Rattle.tcmu_path.specs.Calls.{Accepts};
-ghost use Rattle.load_run.specs.Tasks.{CanBeMade, accepted_by};
+ghost use Rattle.tcmu_path.specs.Tasks.{CanBeMade, accepted_by};
 
 use std::alloc::Global;
-use tcmu_path::Path;
+use crate::Path;
 use tcmu_types::{Answer, Event, NoMemory, Todo};
 
-/// Makes an event.
-pub fn make<P: Path>(alloc: Global, path: &mut P, event: &Event) -> Result<Answer, NoMemory>
+/// Makes an event on a path, and gives its answer. `NoMemory` leaves the device as it was.
+pub fn make_event<P: Path>(alloc: Global, path: &mut P, event: &Event) -> Result<Answer, NoMemory>
     requires few { (P.device path.old).state.accepted < 2 ^ 63 }
     requires can { CanBeMade (event_data event.now) }
     ensures makes { IfOk result (λ a. Makes P.relation (P.device path.old) (event_data event.now) (answer_data a) (P.device path.new)) }
@@ -37,7 +37,7 @@ pub fn make<P: Path>(alloc: Global, path: &mut P, event: &Event) -> Result<Answe
     }
 }
 
-/// The first event that applies, in the drain's order.
+/// The event that a drain makes next: the first that applies in its order, and none where the device has nothing to do.
 pub fn next_event(todo: &Todo) -> Option<Event>
     ensures value { option_map event_data result ≡ chosen todo.now }
     ensures can { IfSome result (λ e. CanBeMade (event_data e)) }
