@@ -78,7 +78,6 @@ fn is_number(text: &[u8]) -> bool
 
 /// The number that a text spells, within its limits.
 pub fn number_of(low: u64, high: u64, text: &[u8]) -> Option<u64>
-    requires { high < 2 ^ 60 }
     ensures value { result ≡ number_of low high text.now }
     ensures least { IfSome result (λ n. low ≤ n) }
     ensures most { IfSome result (λ n. n ≤ high) }
@@ -86,13 +85,15 @@ pub fn number_of(low: u64, high: u64, text: &[u8]) -> Option<u64>
     if !is_number(text) {
         return None;
     }
-    let mut n: u64 = 0;
+    let most = high as u128;
+    let mut n: u128 = 0;
     for b in text {
-        n = 10 * n + (*b - b'0') as u64;
-        if high < n {
+        n = 10 * n + (*b - b'0') as u128;
+        if most < n {
             return None;
         }
     }
+    let n = n as u64;
     if n < low {
         return None;
     }

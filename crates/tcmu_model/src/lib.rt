@@ -40,4 +40,6 @@ pub use worked::{
     expiry_examples, load_examples, note_examples, order_examples, reset_examples, room_examples,
     waiting_examples,
 };
-pub use worked_region::{picture_examples, side_examples, target_examples, user_examples, way_examples};
+pub use worked_region::{
+    picture_examples, side_examples, target_examples, user_examples, way_examples,
+};

@@ -7,8 +7,8 @@ ghost use Rattle.tcmu_model.specs.Drain.{chosen};
 ghost use Rattle.tcmu_path.specs.Calls.{Accepts};
 ghost use Rattle.tcmu_path.specs.Tasks.{CanBeMade, accepted_by};
 
-use std::alloc::Global;
 use crate::Path;
+use std::alloc::Global;
 use tcmu_types::{Answer, Event, NoMemory, Todo};
 
 /// Makes an event on a path, and gives its answer. `NoMemory` leaves the device as it was.

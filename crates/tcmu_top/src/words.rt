@@ -16,47 +16,6 @@ pub enum Task {
     Load { seed: u64, count: u32 },
 }
 
-fn is_digit(b: u8) -> bool
-    ensures { result ≡ is_digit b }
-{
-    b'0' <= b && b <= b'9'
-}
-
-fn all_digits(text: &[u8]) -> bool
-    ensures { result ≡ list_all is_digit text.now }
-{
-    text.iter().all(|b| is_digit(*b))
-}
-
-fn is_number(text: &[u8]) -> bool
-    ensures { result ≡ is_number text.now }
-{
-    if text.len() < 1 {
-        return false;
-    }
-    if !all_digits(text) {
-        return false;
-    }
-    text.len() == 1 || b'0' < text[0]
-}
-
-/// The number of 64 bits that a text spells.
-fn seed_of(text: &[u8]) -> Option<u64>
-    ensures { result ≡ number_of 0 (2 ^ 64 - 1) text.now }
-{
-    if !is_number(text) {
-        return None;
-    }
-    let mut n: u128 = 0;
-    for b in text {
-        n = 10 * n + (*b - b'0') as u128;
-        if n > u64::MAX as u128 {
-            return None;
-        }
-    }
-    Some(n as u64)
-}
-
 /// The replay that a word asks for.
 #[tactic(auto, unfolding(crate::specs::Words::replay_of))]
 fn replay_of(word: &[u8]) -> Option<Task>
@@ -79,7 +38,7 @@ fn load_of(word: &[u8], seed: &[u8], count: &[u8]) -> Option<Task>
     if word != b"load".as_slice() {
         return None;
     }
-    let seed = seed_of(seed)?;
+    let seed = number_of(0, u64::MAX, seed)?;
     let count = number_of(0, 10000, count)?;
     Some(Task::Load {
         seed,
