@@ -1,7 +1,8 @@
 -- What a respond in order answers: both sides say whether the turn of the command has come.
-use Rattle.std.proofs.Common.{◌≡◌, ◌≢◌, ℕ, ◌||◌, ◌&&◌, Bool, true, false, not, cond, List, [], ◌∷◌, ◌++◌, map, filter, refl, sym, ap, ◌∙◌, Some, None, subst, arith, ⊎_elim, eqb}
+use Rattle.std.proofs.Common.{◌≡◌, ◌≢◌, ℕ, ◌||◌, ◌&&◌, Bool, true, false, not, cond, List, [], ◌∷◌, map, filter, refl, sym, ap, ◌∙◌, Some, None, subst, arith, ⊎_elim, eqb}
 use Rattle.std.specs.List.{list_any}
 use Rattle.std.specs.Option.{is_some}
+use Rattle.std.proofs.Math.Bool.{or-false, or_assoc}
 use Rattle.std.proofs.lemmas.Bool.{cases_Bool, eq-eqb, false≢true, ne_eqb}
 use Rattle.tcmu_types.specs.Data.{SettingsData}
 use Rattle.tcmu_types.specs.declared.settings.Flags.{Flags}
@@ -13,7 +14,7 @@ use Rattle.tcmu_model.specs.RingState.{serials_in}
 use Rattle.tcmu_model.specs.Device.{Unfinished, DeviceState, has_serial, has_state, is_at}
 use Rattle.tcmu_model.specs.Events.{in_state, is_among, is_handled, is_in_hand, placed_by, respond_answer, turned}
 use Rattle.tcmu_model.specs.Events as events
-use Rattle.tcmu_model.specs.Sound.{Every, Differ, Rise}
+use Rattle.tcmu_model.specs.Sound.{Differ, Rise}
 use Rattle.tcmu_model.specs.BlockLists.{Taken}
 use Rattle.tcmu_model.proofs.Counts.{serial_at, state_at, state_is}
 use Rattle.tcmu_model.proofs.Everies.{every-none, every-weaker, none-every}
@@ -27,8 +28,9 @@ use Rattle.ring_laws.specs.Responded.{CanRespond}
 use Rattle.ring_laws.proofs.InOrderKept.{Begun, begins}
 use Rattle.ring_laws.proofs.Numbered.{can_answer}
 use Rattle.ring_laws.proofs.OrderedRows.{HandFirst, InOrder, not_handled, rise_back}
-use Rattle.ring_laws.proofs.PlacedRun.{found_next, goes, in_hand_behind, matched, none-with, order_placed, ran, ran_laid, stops, unmatched}
-use Rattle.ring_laws.proofs.RespondedJobs.{one_serial}
+use Rattle.ring_laws.proofs.ParkedKept.{matched}
+use Rattle.ring_laws.proofs.PlacedRun.{first-past, found_next, goes, in_hand_behind, none-with, order_placed, ran, ran_laid, stops}
+use Rattle.ring_laws.proofs.RespondedJobs.{one_serial, some_same, unmatched}
 use Rattle.ring_laws.proofs.RespondedKept.{found-any, found-state}
 use Rattle.ring_laws.proofs.TakenOut.{none_at}
 
@@ -38,14 +40,6 @@ use Rattle.ring_laws.proofs.TakenOut.{none_at}
 abbrev reaches : ℕ → List Unfinished → Bool
 reaches s [] = false
 reaches s (u ∷ us) = has_state Parked u && (has_serial s u || reaches s us)
-
-or-false : (b : Bool) → (b || false) ≡ b
-or-false true = refl
-or-false false = refl
-
-or-assoc : (a b c : Bool) → ((a || b) || c) ≡ (a || (b || c))
-or-assoc true b c = refl
-or-assoc false b c = refl
 
 any-turned : (s q : ℕ) (us : List Unfinished) (w : Unfinished) → first_of (is_at q Parked) us ≡ Some w → list_any (is_at s Placed) (turned q Parked Placed us) ≡ (list_any (is_at s Placed) us || has_serial s w)
 any-turned s q [] w f = absurd (cc)
@@ -59,7 +53,7 @@ any-turned s q (v ∷ us) w f =
     rw k (here (has_serial s v) (list_any (is_at s Placed) us) ∙ ap (λ b. (b || list_any (is_at s Placed) us) || has_serial s v) (sym old) ∙ ap (λ (y : Unfinished). (is_at s Placed v || list_any (is_at s Placed) us) || has_serial s y) e))
     (λ (k : is_at q Parked v ≡ false).
     let g : first_of (is_at q Parked) us ≡ Some w = rw k at f in
-    rw k (ap (λ b. is_at s Placed v || b) (any-turned s q us w g) ∙ sym (or-assoc (is_at s Placed v) (list_any (is_at s Placed) us) (has_serial s w))))
+    rw k (ap (λ b. is_at s Placed v || b) (any-turned s q us w g) ∙ sym (or_assoc (is_at s Placed v) (list_any (is_at s Placed) us) (has_serial s w))))
     (cases_Bool (is_at q Parked v))
   where
     none : (b : Bool) → (b && false) ≡ false
@@ -81,7 +75,7 @@ run_reaches s d (u ∷ us) h =
     ap (λ (z : DeviceState). list_any (is_at s Placed) z.unfinished) (goes d u us h st)
     ∙ run_reaches s (placed_in d u.serial) us (order_placed d u us h st)
     ∙ ap (λ b. b || reaches s us) (any-turned s u.serial d.unfinished u (found_next d u us h st))
-    ∙ or-assoc (list_any (is_at s Placed) d.unfinished) (has_serial s u) (reaches s us)
+    ∙ or_assoc (list_any (is_at s Placed) d.unfinished) (has_serial s u) (reaches s us)
     ∙ ap (λ b. list_any (is_at s Placed) d.unfinished || (b && (has_serial s u || reaches s us))) (sym k))
     (λ (k : has_state Parked u ≡ false).
     ap (λ (z : DeviceState). list_any (is_at s Placed) z.unfinished) (stops d u us h k)
@@ -111,9 +105,6 @@ none-placed s (v ∷ us) w d f =
     none false = refl
 
 -- ==== the first job without its reply
-
-some_same : (a b : ℕ) → Some a ≡ Some b → a ≡ b
-some_same a b h = cc
 
 -- a handled command is not behind one that is not in hand
 none_behind : (s : ℕ) (v : Unfinished) (us : List Unfinished) (w : Unfinished) → HandFirst (v ∷ us) → is_in_hand v ≡ false → first_of (is_at s Handled) (v ∷ us) ≡ Some w → ⊥
@@ -171,10 +162,6 @@ first_answers st rows lists s id (g ∷ gs) low (v ∷ us) high w di i r hf f h 
         rw (k, a, t, z) refl
 
 -- ==== the law
-
-first-past : {X : Type 0} (p : X → Bool) (front back : List X) → Every (λ x. p x ≡ false) front → first_of p (front ++ back) ≡ first_of p back
-first-past p [] back e = refl
-first-past p (x ∷ front) back e = let n : p x ≡ false = e.0 in rw n (first-past p front back e.1)
 
 pub answer_in_order : (user : UserState) (rows : List PendingRow) (d : DeviceState) (lists : List Taken) (s : ℕ) (u : Unfinished) (p : sides.Parked) (parts : List (List ℕ)) →
     CanRespond user rows d lists s u p parts → d.settings.flags.ooo ≡ false → user_respond_answer user p.job.id ≡ respond_answer d s

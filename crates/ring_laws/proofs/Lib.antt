@@ -43,3 +43,4 @@ pub mod PlacedRun
 pub mod InOrderKept
 pub mod InOrderAnswer
 pub mod Responds
+pub mod HandTells

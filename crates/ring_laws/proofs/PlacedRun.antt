@@ -1,8 +1,7 @@
 -- Where answers are placed in order: the device goes along the serials laid, the user side along its jobs, and both place the same answers.
 use Rattle.std.proofs.Common.{◌≡◌, ℕ, ◌+◌, ◌≤◌, ◌||◌, ◌&&◌, Bool, true, false, List, [], ◌∷◌, ◌++◌, length, take, drop, map, filter, refl, sym, ap, ◌∙◌, arith, Some, None, subst, ⊎_elim, append_assoc, length-append}
-use Rattle.std.specs.Bool.{MatchBool}
 use Rattle.std.specs.List.{list_any}
-use Rattle.std.proofs.lemmas.Bool.{cases_Bool, false≢true, or_parts, or_right, or_left, and_from, eq-eqb}
+use Rattle.std.proofs.lemmas.Bool.{cases_Bool, or_parts, or_right, or_left, and_from, eq-eqb}
 use Rattle.std.proofs.lemmas.List.Elements.{filter-append}
 use Rattle.std.proofs.lemmas.List.Folds.{list_any-append}
 use Rattle.tcmu_model.specs.declared.state.CommandState.{CommandState}
@@ -26,13 +25,18 @@ use Rattle.tcmu_model.specs.UserSteps.{Placing, placed_at, placed_front, placed_
 use Rattle.ring_laws.specs.Placed.{CanAnswer, CanFill, CanPlace, placed_in}
 use Rattle.ring_laws.proofs.AnswerBlocks.{fill_placed}
 use Rattle.ring_laws.proofs.OrderedRows.{InOrder, not_parked, turned-behind}
+use Rattle.ring_laws.proofs.ParkedKept.{matched}
 use Rattle.ring_laws.proofs.PlacedAnswers.{Into, can_placed, goes_into, offsets_placed, placing_of}
+use Rattle.ring_laws.proofs.RespondedJobs.{unmatched}
 
 -- ==== lists
 
+pub first-past : {X : Type 0} (p : X → Bool) (front back : List X) → Every (λ x. p x ≡ false) front → first_of p (front ++ back) ≡ first_of p back
+first-past p [] back e = refl
+first-past p (x ∷ front) back e = let n : p x ≡ false = e.0 in rw n (first-past p front back e.1)
+
 first-behind : {X : Type 0} (p : X → Bool) (front : List X) (x : X) (back : List X) → Every (λ y. p y ≡ false) front → p x ≡ true → first_of p (front ++ x ∷ back) ≡ Some x
-first-behind p [] x back e h = rw h refl
-first-behind p (y ∷ front) x back e h = let n : p y ≡ false = e.0 in rw n (first-behind p front x back e.1 h)
+first-behind p front x back e h = first-past p front (x ∷ back) e ∙ (rw h refl)
 
 none-filter : {X : Type 0} (p : X → Bool) (xs : List X) → list_any p xs ≡ false → filter p xs ≡ []
 none-filter p [] h = refl
@@ -160,14 +164,6 @@ record NextJob (rows : List PendingRow) (lists : List Taken) (user : UserState) 
   answer : g.parked ≡ Some p
   place : CanPlace user rows d lists u.serial u p parts
   given : AreGiven d.settings rows lists gs (filter is_in_hand us)
-
-pub matched : (b : Bool) (P Q : Type 0) → b ≡ true → MatchBool b P Q → P
-matched true P Q e h = h
-matched false P Q e h = absurd (false≢true e)
-
-pub unmatched : (b : Bool) (P Q : Type 0) → b ≡ false → MatchBool b P Q → Q
-unmatched true P Q e h = absurd (false≢true (sym e))
-unmatched false P Q e h = h
 
 next_job : (rows : List PendingRow) (lists : List Taken) (user : UserState) (d : DeviceState) (g : GivenJob) (gs : List GivenJob) (u : Unfinished) (us : List Unfinished) →
     Between rows lists user (g ∷ gs) d (u ∷ us) → u.state ≡ Parked → NextJob rows lists user d g gs u us
