@@ -38,3 +38,9 @@ pub mod ParkedKept
 pub mod RespondedKept
 pub mod RespondedJobs
 pub mod ParkedJobs
+pub mod OrderedRows
+pub mod PlacedRun
+pub mod InOrderKept
+pub mod InOrderAnswer
+pub mod Responds
+pub mod HandTells

@@ -26,7 +26,7 @@ use Rattle.tcmu_model.specs.Sound.{IsSound}
 
 -- ==== the jobs
 
-given_parked : (st : SettingsData) (rows : List PendingRow) (lists : List Taken) (s id : ℕ) (gs : List GivenJob) (us : List Unfinished) (w : Unfinished) (p : sides.Parked) (parts : List (List ℕ)) → w.reply ≡ Some p.reply → IsJobOf st rows lists w p.job parts →
+pub given_parked : (st : SettingsData) (rows : List PendingRow) (lists : List Taken) (s id : ℕ) (gs : List GivenJob) (us : List Unfinished) (w : Unfinished) (p : sides.Parked) (parts : List (List ℕ)) → w.reply ≡ Some p.reply → IsJobOf st rows lists w p.job parts →
     Differ (map (λ (e : PendingRow). e.id) rows) → id_of rows s ≡ Some id → Differ (map (λ (u : Unfinished). u.serial) us) → first_of (is_at s Handled) us ≡ Some w → AreGiven st rows lists gs (filter is_in_hand us) →
     AreGiven st rows lists (with_first (is_open_job id) (with_parked p) gs) (filter is_in_hand (turned s Handled Parked us))
 given_parked st rows lists s id gs [] w p parts rp jb di i d f h = absurd (cc)

@@ -92,7 +92,7 @@ pending_turned lists s a b (u ∷ us) =
     (λ (k : is_at s a u ≡ false). rw k (ap (λ ps. pending_of lists u ∷ ps) (pending_turned lists s a b us)))
     (cases_Bool (is_at s a u))
 
-serials_turned : (s : ℕ) (a b : CommandState) (us : List Unfinished) → map (λ u. u.serial) (turned s a b us) ≡ map (λ u. u.serial) us
+pub serials_turned : (s : ℕ) (a b : CommandState) (us : List Unfinished) → map (λ u. u.serial) (turned s a b us) ≡ map (λ u. u.serial) us
 serials_turned s a b [] = refl
 serials_turned s a b (u ∷ us) =
     ⊎_elim

@@ -81,11 +81,11 @@ one_serial (e ∷ rows) a b id d h g =
 abbrev answered_rows : ℕ → List Unfinished → List Unfinished
 answered_rows s us = turned s Parked Placed (turned s Handled Parked us)
 
-unmatched : (b : Bool) (P Q : Type 0) → b ≡ false → MatchBool b P Q → Q
+pub unmatched : (b : Bool) (P Q : Type 0) → b ≡ false → MatchBool b P Q → Q
 unmatched true P Q e h = absurd (false≢true (sym e))
 unmatched false P Q e h = h
 
-some_same : (a b : ℕ) → Some a ≡ Some b → a ≡ b
+pub some_same : (a b : ℕ) → Some a ≡ Some b → a ≡ b
 some_same a b h = cc
 
 pub opens : (s : SettingsData) (rows : List PendingRow) (lists : List Taken) (g : GivenJob) (v : Unfinished) (id : ℕ) → v.state ≡ Handled → id_of rows v.serial ≡ Some id → IsGiven s rows lists g v → is_open_job id g ≡ true
@@ -175,10 +175,10 @@ outs_left st rows lists s hs (v ∷ us) w d f h =
     behind (x ∷ hs) again other h = let o : hand_has s x ≡ false = ne_eqb x.serial s (λ q. other (sym h.0.0 ∙ q)) in rw o (h.0, again hs h.1)
 
 pub jobs_responded : (r : RegionState) (user : UserState) (hand : List InHand) (rows : List PendingRow) (d : DeviceState) (lists : List Taken) (s : ℕ) (u : Unfinished) (p : sides.Parked) (parts : List (List ℕ)) →
-    CanRespond user rows d lists s u p parts → IdsStand r.front rows d → JobsStand user hand rows d lists → JobsStand (user_responded r user p).user (hand_responded hand s) rows (after_respond d s) lists
+    CanRespond user rows d lists s u p parts → d.settings.flags.ooo ≡ true → IdsStand r.front rows d → JobsStand user hand rows d lists → JobsStand (user_responded r user p).user (hand_responded hand s) rows (after_respond d s) lists
 unfolding hand_responded
-jobs_responded r user hand rows d lists s u p parts h ids jobs =
-    let e : Responds r user d s p = responds r user rows d lists s u p parts h in
+jobs_responded r user hand rows d lists s u p parts h o ids jobs =
+    let e : Responds r user d s p = responds r user rows d lists s u p parts h o in
     let rest : List GivenJob = without_first (is_open_job p.job.id) user.jobs in
     let differ = (can_answer d h.sound).differ in
     let q : u.serial ≡ s = serial_at s Handled u (found-state s Handled d.unfinished u h.found) in
@@ -213,16 +213,16 @@ any-placed s (v ∷ us) u f =
     (cases_Bool (is_at s Parked v))
 
 pub answer_responded : (user : UserState) (rows : List PendingRow) (d : DeviceState) (lists : List Taken) (s : ℕ) (u : Unfinished) (p : sides.Parked) (parts : List (List ℕ)) →
-    CanRespond user rows d lists s u p parts → user_respond_answer user p.job.id ≡ respond_answer d s
+    CanRespond user rows d lists s u p parts → d.settings.flags.ooo ≡ true → user_respond_answer user p.job.id ≡ respond_answer d s
 unfolding user_respond_answer respond_answer
-answer_responded user rows d lists s u p parts h =
+answer_responded user rows d lists s u p parts h o =
     let start : events.Placing = record { placed = d.placed; unfinished = events.with_parked d s } in
     let handled : is_handled d s ≡ true = found-any (is_at s Handled) d.unfinished u h.found in
     let there : list_any (is_at s Placed) (turned s Parked Placed (parked_in d s).unfinished) ≡ true = any-placed s (parked_in d s).unfinished (in_state Parked u) (found_parked d s u h.sound h.found) in
     let mine : cond user.flags.ooo respond.Placed (placed_or_parked p.job.id (first_of is_unanswered user.jobs)) ≡ respond.Placed =
-    ap (λ b. cond b respond.Placed (placed_or_parked p.job.id (first_of is_unanswered user.jobs))) (ap (λ (f : Flags). f.ooo) h.flags ∙ h.ooo) in
+    ap (λ b. cond b respond.Placed (placed_or_parked p.job.id (first_of is_unanswered user.jobs))) (ap (λ (f : Flags). f.ooo) h.flags ∙ o) in
     let its : cond (is_handled d s) (cond (list_any (is_at s Placed) (events.placing d s).unfinished) respond.Placed respond.Parked) (respond.NotHandled s) ≡ respond.Placed =
     ap (λ b. cond b (cond (list_any (is_at s Placed) (events.placing d s).unfinished) respond.Placed respond.Parked) (respond.NotHandled s)) handled
-    ∙ ap (λ b. cond (list_any (is_at s Placed) (placed_by b start s (serials_in d.ring.laid)).unfinished) respond.Placed respond.Parked) h.ooo
+    ∙ ap (λ b. cond (list_any (is_at s Placed) (placed_by b start s (serials_in d.ring.laid)).unfinished) respond.Placed respond.Parked) o
     ∙ ap (λ b. cond b respond.Placed respond.Parked) there in
     mine ∙ sym its

@@ -22,12 +22,12 @@ use Rattle.tcmu_model.specs.Picture.{data_in, payload_of}
 use Rattle.tcmu_model.specs.Sides.{GivenJob, InHand, PendingRow, Recorded, TargetState, UserState}
 use Rattle.tcmu_model.specs.Sides as sides
 use Rattle.tcmu_model.specs.Represents.{BlocksStand, IdsStand, IsJobOf, NotesStand, RingStands, TargetKeeps, UserKeeps}
-use Rattle.tcmu_model.specs.UserSteps.{is_open_job, placing_by, user_responded}
+use Rattle.tcmu_model.specs.UserSteps.{is_open_job, placed_at, placed_one, placing_by, user_responded, with_payload}
 use Rattle.tcmu_model.specs.UserSteps as steps
 use Rattle.tcmu_model.specs.Owned.{ListsSound}
-use Rattle.ring_laws.specs.Placed.{CanPlace, answer_placed, parked_in, placed_in}
+use Rattle.ring_laws.specs.Placed.{CanAnswer, CanPlace, answer_placed, parked_in, placed_in}
 use Rattle.ring_laws.specs.Responded.{CanRespond}
-use Rattle.ring_laws.proofs.PlacedAnswers.{ring_placed, ids_placed, notes_placed, target_placed, user_placed}
+use Rattle.ring_laws.proofs.PlacedAnswers.{Into, goes_into, placing_of, ring_placed, ids_placed, notes_placed, target_placed, user_placed}
 use Rattle.ring_laws.proofs.AnswerBlocks.{blocks_placed}
 use Rattle.ring_laws.proofs.ParkedKept.{turned_in, lists_turned, lists_parked, ring_parked, ids_parked, notes_parked, blocks_parked, target_parked, side_parked, can_answer_parked, can_fill_parked, found_parked}
 
@@ -111,62 +111,78 @@ pub record Responds (r : RegionState) (user : UserState) (d : DeviceState) (s : 
   pub device : after_respond d s ≡ placed_in (parked_in d s) s
   pub side : user_responded r user p ≡ answer_placed r user p (without_first (is_open_job p.job.id) user.jobs)
 
-pub responds : (r : RegionState) (user : UserState) (rows : List PendingRow) (d : DeviceState) (lists : List Taken) (s : ℕ) (u : Unfinished) (p : sides.Parked) (parts : List (List ℕ)) → CanRespond user rows d lists s u p parts → Responds r user d s p
-responds r user rows d lists s u p parts h =
+pub responds : (r : RegionState) (user : UserState) (rows : List PendingRow) (d : DeviceState) (lists : List Taken) (s : ℕ) (u : Unfinished) (p : sides.Parked) (parts : List (List ℕ)) → CanRespond user rows d lists s u p parts → d.settings.flags.ooo ≡ true → Responds r user d s p
+responds r user rows d lists s u p parts h o =
     record {
-      device = device_responds d s (found-any (is_at s Handled) d.unfinished u h.found) h.ooo;
-      side = user_responds r user p (ap (λ (f : Flags). f.ooo) h.flags ∙ h.ooo);
+      device = device_responds d s (found-any (is_at s Handled) d.unfinished u h.found) o;
+      side = user_responds r user p (ap (λ (f : Flags). f.ooo) h.flags ∙ o);
     }
 
 pub ring_responded : (r : RegionState) (user : UserState) (items : List Recorded) (rows : List PendingRow) (d : DeviceState) (lists : List Taken) (s : ℕ) (u : Unfinished) (p : sides.Parked) (parts : List (List ℕ)) →
-    CanRespond user rows d lists s u p parts → RingStands r.front items d lists → IdsStand r.front rows d → RingStands (user_responded r user p).region.front items (after_respond d s) lists
-ring_responded r user items rows d lists s u p parts h ring ids =
-    let e = responds r user rows d lists s u p parts h in
+    CanRespond user rows d lists s u p parts → d.settings.flags.ooo ≡ true → RingStands r.front items d lists → IdsStand r.front rows d → RingStands (user_responded r user p).region.front items (after_respond d s) lists
+ring_responded r user items rows d lists s u p parts h o ring ids =
+    let e = responds r user rows d lists s u p parts h o in
     let k = ring_placed r user items rows (parked_in d s) lists s (in_state Parked u) p parts (without_first (is_open_job p.job.id) user.jobs) (can_answer_parked d s h.sound) (ring_parked r.front items d lists s ring) (ids_parked r.front rows d s ids) (can_place user rows d lists s u p parts h) in
     subst (λ (z : DeviceState). RingStands (user_responded r user p).region.front items z lists) (sym e.device)
     (subst (λ (z : steps.Placing). RingStands z.region.front items (placed_in (parked_in d s) s) lists) (sym e.side) k)
 
 pub ids_responded : (r : RegionState) (user : UserState) (items : List Recorded) (rows : List PendingRow) (d : DeviceState) (lists : List Taken) (s : ℕ) (u : Unfinished) (p : sides.Parked) (parts : List (List ℕ)) →
-    CanRespond user rows d lists s u p parts → RingStands r.front items d lists → IdsStand r.front rows d → IdsStand (user_responded r user p).region.front rows (after_respond d s)
-ids_responded r user items rows d lists s u p parts h ring ids =
-    let e = responds r user rows d lists s u p parts h in
+    CanRespond user rows d lists s u p parts → d.settings.flags.ooo ≡ true → RingStands r.front items d lists → IdsStand r.front rows d → IdsStand (user_responded r user p).region.front rows (after_respond d s)
+ids_responded r user items rows d lists s u p parts h o ring ids =
+    let e = responds r user rows d lists s u p parts h o in
     let k = ids_placed r user items rows (parked_in d s) lists s (in_state Parked u) p parts (without_first (is_open_job p.job.id) user.jobs) (can_answer_parked d s h.sound) (ring_parked r.front items d lists s ring) (ids_parked r.front rows d s ids) (can_place user rows d lists s u p parts h) in
     subst (λ (z : DeviceState). IdsStand (user_responded r user p).region.front rows z) (sym e.device)
     (subst (λ (z : steps.Placing). IdsStand z.region.front rows (placed_in (parked_in d s) s)) (sym e.side) k)
 
 pub notes_responded : (r : RegionState) (user : UserState) (items : List Recorded) (rows : List PendingRow) (d : DeviceState) (lists : List Taken) (s : ℕ) (u : Unfinished) (p : sides.Parked) (parts : List (List ℕ)) →
-    CanRespond user rows d lists s u p parts → RingStands r.front items d lists → NotesStand r.front rows d → NotesStand (user_responded r user p).region.front rows (after_respond d s)
-notes_responded r user items rows d lists s u p parts h ring notes =
-    let e = responds r user rows d lists s u p parts h in
+    CanRespond user rows d lists s u p parts → d.settings.flags.ooo ≡ true → RingStands r.front items d lists → NotesStand r.front rows d → NotesStand (user_responded r user p).region.front rows (after_respond d s)
+notes_responded r user items rows d lists s u p parts h o ring notes =
+    let e = responds r user rows d lists s u p parts h o in
     let k = notes_placed r user items rows (parked_in d s) lists s (in_state Parked u) p parts (without_first (is_open_job p.job.id) user.jobs) (can_answer_parked d s h.sound) (ring_parked r.front items d lists s ring) (can_place user rows d lists s u p parts h) (notes_parked r.front rows d s notes) in
     subst (λ (z : DeviceState). NotesStand (user_responded r user p).region.front rows z) (sym e.device)
     (subst (λ (z : steps.Placing). NotesStand z.region.front rows (placed_in (parked_in d s) s)) (sym e.side) k)
 
 pub blocks_responded : (r : RegionState) (user : UserState) (items : List Recorded) (rows : List PendingRow) (d : DeviceState) (lists : List Taken) (s : ℕ) (u : Unfinished) (p : sides.Parked) (parts : List (List ℕ)) →
-    CanRespond user rows d lists s u p parts → RingStands r.front items d lists → r.pages ≡ d.settings.pages → BlocksStand r.blocks d lists → BlocksStand (user_responded r user p).region.blocks (after_respond d s) lists
-blocks_responded r user items rows d lists s u p parts h ring pages blocks =
-    let e = responds r user rows d lists s u p parts h in
+    CanRespond user rows d lists s u p parts → d.settings.flags.ooo ≡ true → RingStands r.front items d lists → r.pages ≡ d.settings.pages → BlocksStand r.blocks d lists → BlocksStand (user_responded r user p).region.blocks (after_respond d s) lists
+blocks_responded r user items rows d lists s u p parts h o ring pages blocks =
+    let e = responds r user rows d lists s u p parts h o in
     let k = blocks_placed r user items rows (parked_in d s) lists s (in_state Parked u) p parts (without_first (is_open_job p.job.id) user.jobs) (can_answer_parked d s h.sound) (can_fill_parked d lists s h.sound h.owned) (ring_parked r.front items d lists s ring) pages (blocks_parked r.blocks d lists s blocks) (can_place user rows d lists s u p parts h) in
     subst (λ (z : DeviceState). BlocksStand (user_responded r user p).region.blocks z lists) (sym e.device)
     (subst (λ (z : steps.Placing). BlocksStand z.region.blocks (placed_in (parked_in d s) s) lists) (sym e.side) k)
 
+-- the pages stay
+pub pages_placed : (r : RegionState) (user : UserState) (rows : List PendingRow) (d : DeviceState) (lists : List Taken) (s : ℕ) (u : Unfinished) (p : sides.Parked) (parts : List (List ℕ)) (rest : List GivenJob) →
+    CanAnswer d → CanPlace user rows d lists s u p parts → (placed_one (placing_of r user) p rest).region.pages ≡ r.pages
+pages_placed r user rows d lists s u p parts rest can place =
+    let into : Into user d = goes_into user rows d lists s u p parts can place in
+    ap (λ ats. (placed_at (placing_of r user) p rest ats).region.pages) into.first
+    ∙ ap (λ (c : sides.Carried). (with_payload r p.job.iovs c p.reply.payload).pages) place.job.carried
+
+pub pages_responded : (r : RegionState) (user : UserState) (rows : List PendingRow) (d : DeviceState) (lists : List Taken) (s : ℕ) (u : Unfinished) (p : sides.Parked) (parts : List (List ℕ)) →
+    CanRespond user rows d lists s u p parts → d.settings.flags.ooo ≡ true → r.pages ≡ d.settings.pages → (user_responded r user p).region.pages ≡ (after_respond d s).settings.pages
+pages_responded r user rows d lists s u p parts h o pages =
+    let e = responds r user rows d lists s u p parts h o in
+    ap (λ (z : steps.Placing). z.region.pages) e.side
+    ∙ pages_placed r user rows (parked_in d s) lists s (in_state Parked u) p parts (without_first (is_open_job p.job.id) user.jobs) (can_answer_parked d s h.sound) (can_place user rows d lists s u p parts h)
+    ∙ pages ∙ ap (λ (z : DeviceState). z.settings.pages) (sym e.device)
+
 pub target_responded : (user : UserState) (t : TargetState) (rows : List PendingRow) (d : DeviceState) (lists : List Taken) (s : ℕ) (u : Unfinished) (p : sides.Parked) (parts : List (List ℕ)) →
-    CanRespond user rows d lists s u p parts → TargetKeeps t d lists → TargetKeeps t (after_respond d s) lists
-target_responded user t rows d lists s u p parts h keeps =
-    subst (λ (z : DeviceState). TargetKeeps t z lists) (sym (device_responds d s (found-any (is_at s Handled) d.unfinished u h.found) h.ooo)) (target_placed t (parked_in d s) lists s (target_parked t d lists s keeps))
+    CanRespond user rows d lists s u p parts → d.settings.flags.ooo ≡ true → TargetKeeps t d lists → TargetKeeps t (after_respond d s) lists
+target_responded user t rows d lists s u p parts h o keeps =
+    subst (λ (z : DeviceState). TargetKeeps t z lists) (sym (device_responds d s (found-any (is_at s Handled) d.unfinished u h.found) o)) (target_placed t (parked_in d s) lists s (target_parked t d lists s keeps))
 
 pub side_responded : (r : RegionState) (user : UserState) (rows : List PendingRow) (d : DeviceState) (lists : List Taken) (s : ℕ) (u : Unfinished) (p : sides.Parked) (parts : List (List ℕ)) →
-    CanRespond user rows d lists s u p parts → UserKeeps user d → UserKeeps (user_responded r user p).user (after_respond d s)
-side_responded r user rows d lists s u p parts h keeps =
-    let e = responds r user rows d lists s u p parts h in
+    CanRespond user rows d lists s u p parts → d.settings.flags.ooo ≡ true → UserKeeps user d → UserKeeps (user_responded r user p).user (after_respond d s)
+side_responded r user rows d lists s u p parts h o keeps =
+    let e = responds r user rows d lists s u p parts h o in
     let k = user_placed r user rows (parked_in d s) lists s (in_state Parked u) p parts (without_first (is_open_job p.job.id) user.jobs) (can_answer_parked d s h.sound) (side_parked user d s keeps) (can_place user rows d lists s u p parts h) in
     subst (λ (z : DeviceState). UserKeeps (user_responded r user p).user z) (sym e.device)
     (subst (λ (z : steps.Placing). UserKeeps z.user (placed_in (parked_in d s) s)) (sym e.side) k)
 
 pub lists_responded : (user : UserState) (rows : List PendingRow) (d : DeviceState) (lists : List Taken) (s : ℕ) (u : Unfinished) (p : sides.Parked) (parts : List (List ℕ)) →
-    CanRespond user rows d lists s u p parts → ListsSound (after_respond d s) lists
-lists_responded user rows d lists s u p parts h =
+    CanRespond user rows d lists s u p parts → d.settings.flags.ooo ≡ true → ListsSound (after_respond d s) lists
+lists_responded user rows d lists s u p parts h o =
     let a : ListsSound (parked_in d s) lists = lists_parked d lists s h.owned in
     let b : ListsSound (turned_in (parked_in d s) s Parked Placed) lists = lists_turned (parked_in d s) lists s Parked Placed a in
     let k : ListsSound (placed_in (parked_in d s) s) lists = record { listed = b.listed; differ = b.differ; below = b.below; sizes = b.sizes; spans = b.spans } in
-    subst (λ (z : DeviceState). ListsSound z lists) (sym (device_responds d s (found-any (is_at s Handled) d.unfinished u h.found) h.ooo)) k
+    subst (λ (z : DeviceState). ListsSound z lists) (sym (device_responds d s (found-any (is_at s Handled) d.unfinished u h.found) o)) k

@@ -4,6 +4,7 @@
 
 mod cleaning;
 mod handling;
+mod in_hand;
 mod kept_lists;
 mod laws;
 mod parking;
@@ -15,6 +16,7 @@ mod waiting;
 
 pub use cleaning::{clean_law, completion_law};
 pub use handling::handle_law;
+pub use in_hand::hand_law;
 pub use kept_lists::kept_law;
 pub use laws::{answering_law, enter_law, laying_law, opening_law, submit_law};
 pub use parking::parking_law;

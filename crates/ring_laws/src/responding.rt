@@ -1,4 +1,4 @@
-//! What a respond keeps where answers are placed out of order: the command is parked and placed at once.
+//! What a respond keeps, whether answers are placed in order or out of it.
 ghost use Rattle.std.specs.Prelude.{◌≡◌, ℕ, List};
 ghost use Rattle.tcmu_model.specs.Device.{DeviceState, Unfinished};
 ghost use Rattle.tcmu_model.specs.Events.{after_respond, respond_answer};
@@ -11,9 +11,10 @@ ghost use Rattle.tcmu_model.specs.HandSteps.{hand_responded};
 ghost use Rattle.tcmu_model.specs.Owned.{ListsSound};
 ghost use Rattle.ring_laws.specs.Responded.{CanRespond};
 
-/// The user side of a device that places answers out of order writes the answer into the first entry that is not yet used, as the device
-/// places it. An entry is left for it, since more commands are dispatched than answers are placed. Both answer the same; ring, ids,
-/// notes and blocks stand, the job is out of hand and the others are left, and both sides keep their records.
+/// A handled command's job comes back with its reply. Out of order the user side writes the answer into the first entry that is not yet
+/// used. In order it keeps the job, and then answers the longest front of its jobs that have their replies; the device goes along the
+/// serials laid, and both place the same answers. An entry is always left, since more commands are dispatched than answers are placed.
+/// Both sides answer the same, and the job is out of hand.
 pub fn respond_law()
     ensures answer { (user : UserState) (rows : List PendingRow) (d : DeviceState) (lists : List Taken) (s : ℕ) (u : Unfinished) (p : Parked) (parts : List (List ℕ)) →
         CanRespond user rows d lists s u p parts → user_respond_answer user p.job.id ≡ respond_answer d s }
@@ -24,10 +25,10 @@ pub fn respond_law()
         CanRespond user rows d lists s u p parts → RingStands r.front items d lists → IdsStand r.front rows d →
         IdsStand (user_responded r user p).region.front rows (after_respond d s) }
     ensures notes { (r : RegionState) (user : UserState) (items : List Recorded) (rows : List PendingRow) (d : DeviceState) (lists : List Taken) (s : ℕ) (u : Unfinished) (p : Parked) (parts : List (List ℕ)) →
-        CanRespond user rows d lists s u p parts → RingStands r.front items d lists → NotesStand r.front rows d →
+        CanRespond user rows d lists s u p parts → RingStands r.front items d lists → IdsStand r.front rows d → NotesStand r.front rows d →
         NotesStand (user_responded r user p).region.front rows (after_respond d s) }
     ensures blocks { (r : RegionState) (user : UserState) (items : List Recorded) (rows : List PendingRow) (d : DeviceState) (lists : List Taken) (s : ℕ) (u : Unfinished) (p : Parked) (parts : List (List ℕ)) →
-        CanRespond user rows d lists s u p parts → RingStands r.front items d lists → r.pages ≡ d.settings.pages → BlocksStand r.blocks d lists →
+        CanRespond user rows d lists s u p parts → RingStands r.front items d lists → IdsStand r.front rows d → r.pages ≡ d.settings.pages → BlocksStand r.blocks d lists →
         BlocksStand (user_responded r user p).region.blocks (after_respond d s) lists }
     ensures jobs { (r : RegionState) (user : UserState) (hand : List InHand) (rows : List PendingRow) (d : DeviceState) (lists : List Taken) (s : ℕ) (u : Unfinished) (p : Parked) (parts : List (List ℕ)) →
         CanRespond user rows d lists s u p parts → IdsStand r.front rows d → JobsStand user hand rows d lists →
@@ -38,4 +39,6 @@ pub fn respond_law()
         CanRespond user rows d lists s u p parts → UserKeeps user d → UserKeeps (user_responded r user p).user (after_respond d s) }
     ensures lists { (user : UserState) (rows : List PendingRow) (d : DeviceState) (lists : List Taken) (s : ℕ) (u : Unfinished) (p : Parked) (parts : List (List ℕ)) →
         CanRespond user rows d lists s u p parts → ListsSound (after_respond d s) lists }
+    ensures pages { (r : RegionState) (user : UserState) (rows : List PendingRow) (d : DeviceState) (lists : List Taken) (s : ℕ) (u : Unfinished) (p : Parked) (parts : List (List ℕ)) →
+        CanRespond user rows d lists s u p parts → r.pages ≡ d.settings.pages → (user_responded r user p).region.pages ≡ (after_respond d s).settings.pages }
 {}

@@ -1,6 +1,5 @@
-use Rattle.ring_laws.proofs.RespondedJobs.{answer_responded, jobs_responded}
-use Rattle.ring_laws.proofs.RespondedKept.{ring_responded, ids_responded, notes_responded, blocks_responded, target_responded, side_responded, lists_responded}
+use Rattle.ring_laws.proofs.Responds.{answer_same, blocks_kept, ids_kept, jobs_kept, lists_kept, notes_kept, pages_kept, ring_kept, side_kept, target_kept}
 use Rattle.ring_laws.proofs.responding.respond_law.Goals as goal
 
 pub returns : goal.returns
-returns c = record { answer = answer_responded; ring = ring_responded; ids = ids_responded; notes = notes_responded; blocks = blocks_responded; jobs = jobs_responded; target = target_responded; side = side_responded; lists = lists_responded }
+returns c = record { answer = answer_same; ring = ring_kept; ids = ids_kept; notes = notes_kept; blocks = blocks_kept; jobs = jobs_kept; target = target_kept; side = side_kept; lists = lists_kept; pages = pages_kept }
