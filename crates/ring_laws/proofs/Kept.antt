@@ -29,10 +29,10 @@ use Rattle.tcmu_model.specs.TargetSteps.{row_of}
 use Rattle.tcmu_model.specs.Owned.{ListsSound, HasRoom}
 use Rattle.ring_laws.proofs.Held.{holds}
 use Rattle.ring_laws.proofs.Places.{laid_with, LaidCase, laid_case, Old, Padding, New, take-laid}
-use Rattle.ring_laws.proofs.Laying.{laid_in}
+use Rattle.ring_laws.proofs.LaidEntry.{laid_in}
 use Rattle.ring_laws.proofs.RingLaid.{old-entry, new-entry}
 use Rattle.ring_laws.proofs.Agree.{blocks-same}
-use Rattle.ring_laws.proofs.Submit.{first-append, first-here, not_below, serial_at, unlisted, cmd_item, with_waiting, commands-append, LaidCommand, laid_command}
+use Rattle.ring_laws.proofs.Submit.{first-append, first-here, not_below, serial_at, unlisted, cmd_item, with_waiting, commands-append, LaidCommand, laid_command, within_ring}
 
 -- ==== what is below the new serial
 
@@ -184,11 +184,11 @@ gives r t d lists s c id sound shape keeps room above q =
     let n : ℕ = entry_length d.settings.pages c in
     let front' : List ℕ = (region_laid r t c id).front in
     let at : ℕ = place_of (with_item d.ring it) (length (d.ring.laid ++ pads (ring.pad d.ring n))) in
-    let b : entry_at front' at n ≡ q.bytes = ap (λ z. entry_at z at n) q.front ∙ new-entry r.front d it q.bytes shape.long (holds d sound) room.small q.len in
+    let b : entry_at front' at n ≡ q.bytes = ap (λ z. entry_at z at n) q.front ∙ new-entry r.front d it q.bytes shape.long (holds d sound) (within_ring d c room) q.len in
     let u : take 112 (entry_at front' at n) ≡ entry_at front' at 112 = take-take 112 n (drop (ring_start + at) front') (entry_long d.settings.pages c) in
     record {
       old = λ i x cl g k. id-same r.front front' (place_of d.ring i) x.len (command_long d i x sound g k)
-          (ap (λ f. entry_at f (place_of d.ring i) x.len) q.front ∙ old-entry r.front d it q.bytes i x shape.long (holds d sound) room.fits room.small q.len cl g);
+          (ap (λ f. entry_at f (place_of d.ring i) x.len) q.front ∙ old-entry r.front d it q.bytes i x shape.long (holds d sound) room.fits (within_ring d c room) q.len cl g);
       other = λ k h. ap (option_map (λ (e : PendingRow). e.id)) (first-append (row_has k) t.rows (row_of t s c id) (not_below s k h));
       mine = ap (option_map (λ (e : PendingRow). e.id)) (first-here (row_has s) t.rows (row_of t s c id) (eq-eqb s s refl) (unheld t.rows s (pending_below t d lists s keeps (rows_below d s sound above))));
       new = ap id_in (sym u ∙ ap (take 112) b) ∙ id_front q.bytes (omega (arith, q.len, entry_long d.settings.pages c)) ∙ q.id_is;
