@@ -38,3 +38,6 @@ pub mod ParkedKept
 pub mod RespondedKept
 pub mod RespondedJobs
 pub mod ParkedJobs
+pub mod SameJobs
+pub mod LaidPoints
+pub mod LaidCommands
