@@ -41,3 +41,5 @@ pub mod ParkedJobs
 pub mod SameJobs
 pub mod LaidPoints
 pub mod LaidCommands
+pub mod NoteBytes
+pub mod Noted
