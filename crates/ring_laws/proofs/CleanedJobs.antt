@@ -1,15 +1,11 @@
 -- What a clean keeps of the blocks, of the jobs and of the block lists.
 use Rattle.std.proofs.Common.{◌≡◌, ℕ, ◌≤◌, ◌<◌, Bool, true, false, List, [], ◌∷◌, ◌++◌, length, take, filter, refl, sym, ap, ◌∙◌, arith, suc, zero, Option, Some, None, slice_get, subst, ⊎_elim, eqb}
-use Rattle.std.specs.Prelude.{IfSome}
-use Rattle.std.specs.Bool.{MatchBool}
 use Rattle.std.specs.Option.{is_some}
 use Rattle.std.proofs.lemmas.Bool.{cases_Bool, true≢false, or_parts, or_left, or_right}
-use Rattle.tcmu_types.specs.Data.{SettingsData}
 use Rattle.tcmu_model.specs.declared.state.CommandState.TheVariants.{Placed}
-use Rattle.tcmu_model.specs.declared.state.CommandState.TheVariants as state
 use Rattle.tcmu_model.specs.Lists.{first_of, without_first, above_all}
 use Rattle.tcmu_model.specs.Lengths.{blocks_of, block_size}
-use Rattle.tcmu_model.specs.Device.{Unfinished, DeviceState, has_state, is_at}
+use Rattle.tcmu_model.specs.Device.{Unfinished, DeviceState, is_at}
 use Rattle.tcmu_model.specs.Events.{is_among, is_in_hand, after_clean, answered, cleaned_books, books, Books, finish, finish_all}
 use Rattle.tcmu_model.specs.Sound.{IsSound, Every, Differ}
 use Rattle.tcmu_model.specs.BlockLists.{Taken, list_of, held_by}
@@ -20,8 +16,8 @@ use Rattle.tcmu_model.proofs.Everies.{every-weaker, every-both, every-filter, ev
 use Rattle.tcmu_model.proofs.Rises.{among-append, among_every}
 use Rattle.tcmu_model.proofs.SoundClean.{answered_placed}
 use Rattle.tcmu_model.specs.Areas.{IsLent}
-use Rattle.tcmu_model.specs.Sides.{GivenJob, InHand, JobState, PendingRow, TargetState, UserState}
-use Rattle.tcmu_model.specs.Represents.{AreGiven, AreOut, BlocksOf, BlocksStand, IsJobOf, JobsStand, id_of, is_out}
+use Rattle.tcmu_model.specs.Sides.{InHand, PendingRow, TargetState, UserState}
+use Rattle.tcmu_model.specs.Represents.{AreGiven, AreOut, BlocksOf, BlocksStand, JobsStand, is_out}
 use Rattle.tcmu_model.specs.TargetSteps.{blocks_held}
 use Rattle.tcmu_model.specs.TargetCleans.{region_cleaned, target_cleaned}
 use Rattle.tcmu_model.specs.Owned.{ListsSound}

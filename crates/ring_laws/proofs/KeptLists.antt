@@ -8,18 +8,17 @@ use Rattle.tcmu_model.specs.Lists.{first_of}
 use Rattle.tcmu_model.specs.Lengths.{blocks_of, block_size}
 use Rattle.tcmu_model.specs.RingState.{Item, serials_in, serial_in}
 use Rattle.tcmu_model.specs.RingState as ring
-use Rattle.tcmu_model.specs.Device.{Unfinished, DeviceState, has_serial, has_state}
-use Rattle.tcmu_model.specs.declared.state.CommandState.TheVariants.{Parked}
+use Rattle.tcmu_model.specs.Device.{Unfinished, DeviceState, has_serial}
 use Rattle.tcmu_model.specs.Events.{is_among, is_in_hand}
 use Rattle.tcmu_model.specs.Sound.{Every, Differ}
 use Rattle.tcmu_model.specs.BlockLists.{Taken, list_of, held_by, blocks_taken, is_kept, kept_lists}
 use Rattle.tcmu_model.specs.Pending.{PendingData}
 use Rattle.tcmu_model.proofs.Everies.{every-weaker, every-filter, every-both}
 use Rattle.tcmu_model.proofs.Rises.{among-append}
-use Rattle.tcmu_model.specs.Sides.{Recorded, PendingRow, GivenJob, JobState, InHand, TargetState, UserState}
-use Rattle.tcmu_model.specs.Represents.{RingStands, BlocksOf, BlocksStand, HaveData, JobsStand, AreGiven, AreOut, IsJobOf, is_out, TargetKeeps, pending_of}
+use Rattle.tcmu_model.specs.Sides.{Recorded, PendingRow, InHand, TargetState, UserState}
+use Rattle.tcmu_model.specs.Represents.{RingStands, BlocksOf, BlocksStand, HaveData, JobsStand, is_out, TargetKeeps, pending_of}
 use Rattle.tcmu_model.specs.Areas.{IsLent}
-use Rattle.tcmu_model.specs.Picture.{payload_of, command_iovs}
+use Rattle.tcmu_model.specs.Picture.{payload_of}
 use Rattle.tcmu_model.specs.Owned.{ListsSound}
 use Rattle.ring_laws.proofs.RingLaid.{stands-by}
 use Rattle.ring_laws.proofs.SameJobs.{HasSame, given_same, outs_same}

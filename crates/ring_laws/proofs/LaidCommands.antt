@@ -1,5 +1,5 @@
 -- A command is laid: the notes, the jobs, the user side, and the sizes of the blocks.
-use Rattle.std.proofs.Common.{◌≡◌, ◌≢◌, ℕ, ◌+◌, ◌-◌, ◌*◌, ◌≤◌, ◌<◌, ◌⊎◌, inl, inr, min, true, false, List, [], ◌∷◌, ◌++◌, length, take, drop, replicate, filter, set, refl, sym, ap, ◌∙◌, arith, suc, zero, Option, Some, None, slice_get, append-nil, length-append, length-take, length-drop, ⊎_elim, eqb}
+use Rattle.std.proofs.Common.{◌≡◌, ℕ, ◌-◌, ◌≤◌, ◌<◌, ◌⊎◌, inl, inr, true, false, List, [], ◌∷◌, ◌++◌, length, take, drop, replicate, filter, set, refl, sym, ap, ◌∙◌, arith, suc, zero, Option, Some, None, slice_get, append-nil, length-append, length-take, length-drop, ⊎_elim, eqb}
 use Rattle.std.specs.Option.{option_map}
 use Rattle.std.proofs.lemmas.Bool.{cases_Bool, false≢true, or_left}
 use Rattle.std.proofs.lemmas.List.Elements.{filter-append}
@@ -51,10 +51,14 @@ note_kept rows new behind k id h =
     (λ (e : has_id id new ≡ false). inl (ap (option_map (λ (x : PendingRow). x.pending.serial)) (first-append (has_id id) rows new e) ∙ n))
     (cases_Bool (has_id id new)))
     (λ (q : (t : ℕ) × (serial_with rows id ≡ Some t) × ((t ≡ k) ⊎ (is_among behind t ≡ true))).
-    inr (q.0, serial-more rows new id q.0 q.1, ⊎_elim
-    (λ (e : q.0 ≡ k). inl e)
-    (λ (a : is_among behind q.0 ≡ true). inr (among-append behind (new.pending.serial ∷ []) q.0 ∙ or_left (is_among behind q.0) (is_among (new.pending.serial ∷ []) q.0) a))
-    q.2))
+    inr (
+      q.0,
+      serial-more rows new id q.0 q.1,
+      ⊎_elim
+          (λ (e : q.0 ≡ k). inl e)
+          (λ (a : is_among behind q.0 ≡ true). inr (among-append behind (new.pending.serial ∷ []) q.0 ∙ or_left (is_among behind q.0) (is_among (new.pending.serial ∷ []) q.0) a))
+          q.2,
+    ))
     h
 
 pub notes_stand_laid : (r : RegionState) (t : TargetState) (d : DeviceState) (lists : List Taken) (s : ℕ) (c : CommandData) (id : ℕ) →

@@ -4,7 +4,7 @@ use Rattle.tcmu_model.specs.Lengths.{tmr_length}
 use Rattle.tcmu_model.specs.Sound.{Every}
 use Rattle.tcmu_model.specs.Layout.{entry_header, field, ids_bytes, le, padded, tmr_bytes, zeros}
 use Rattle.tcmu_model.specs.Represents.{ids_in}
-use Rattle.tcmu_model.proofs.Written.{field-in, length-entry_header, length-le, length-padded, length-zeros, lengths}
+use Rattle.tcmu_model.proofs.Written.{field-in, length-entry_header, length-le, length-padded, lengths}
 
 -- what stands before the ids
 note_head : ℕ → ℕ → List ℕ

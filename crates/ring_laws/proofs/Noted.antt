@@ -1,5 +1,5 @@
 -- A note is laid, and the target answers as the device.
-use Rattle.std.proofs.Common.{◌≡◌, ℕ, ◌+◌, ◌-◌, ◌%◌, ◌^◌, ◌≤◌, ◌<◌, ◌⊎◌, inl, inr, Bool, true, false, not, cond, List, [], ◌∷◌, ◌++◌, length, take, drop, map, refl, sym, ap, ◌∙◌, arith, Option, Some, None, slice_get, append-nil, subst, ⊎_elim, eqb}
+use Rattle.std.proofs.Common.{◌≡◌, ℕ, ◌+◌, ◌%◌, ◌^◌, ◌≤◌, ◌<◌, inl, inr, Bool, true, false, not, cond, List, [], ◌∷◌, ◌++◌, length, take, drop, map, refl, sym, ap, ◌∙◌, arith, Option, Some, None, slice_get, append-nil, subst, ⊎_elim, eqb}
 use Rattle.std.specs.Prelude.{nat_le}
 use Rattle.std.specs.Option.{option_map}
 use Rattle.std.specs.List.{list_any}
@@ -8,28 +8,26 @@ use Rattle.std.proofs.lemmas.List.{length-map}
 use Rattle.tcmu_types.specs.Data.{SettingsData}
 use Rattle.tcmu_types.specs.declared.answer.Tmr.{Tmr}
 use Rattle.tcmu_types.specs.declared.answer.Tmr.TheVariants as tmr
-use Rattle.tcmu_types.specs.declared.dump.ItemKind.TheVariants as kinds
 use Rattle.tcmu_types.specs.Data.{CommandData}
 use Rattle.tcmu_model.specs.Lists.{first_of}
 use Rattle.tcmu_model.specs.Lengths.{block_size, blocks_of, tmr_length}
 use Rattle.tcmu_model.specs.RingState.{Item, Laid, lengths, head, used, free, need, pads, with_item, commands_in, is_command, serials_in}
 use Rattle.tcmu_model.specs.RingState as ring
 use Rattle.tcmu_model.specs.Device.{Unfinished, DeviceState, has_serial}
-use Rattle.tcmu_model.specs.Events.{after_tmr, is_among, is_in_hand, tmr_answer, tmr_length_of, unknown_serial, with_note}
+use Rattle.tcmu_model.specs.Events.{after_tmr, is_among, tmr_answer, tmr_length_of, unknown_serial, with_note}
 use Rattle.tcmu_model.specs.Sound.{IsSound, Every, Differ}
 use Rattle.tcmu_model.specs.BlockLists.{Taken, list_of}
 use Rattle.tcmu_model.specs.Pending.{PendingData}
 use Rattle.tcmu_model.specs.Layout.{tmr_bytes}
-use Rattle.tcmu_model.specs.Picture.{item_bytes, place_of}
+use Rattle.tcmu_model.specs.Picture.{place_of}
 use Rattle.tcmu_model.specs.Regions.{AreSized, RegionState}
-use Rattle.tcmu_model.proofs.Everies.{every-all, every-first, every-weaker}
+use Rattle.tcmu_model.proofs.Everies.{every-all, every-first}
 use Rattle.tcmu_model.proofs.Laying.{serials_laid}
 use Rattle.tcmu_model.proofs.SoundLaying.{tmr_sizes}
-use Rattle.tcmu_model.specs.Sides.{InHand, PendingRow, Recorded, TargetState, UserState}
-use Rattle.tcmu_model.specs.Represents.{AreNoteIds, BlocksStand, IdsStand, IsId, IsNoteId, JobsStand, NotesStand, RingStands, TargetKeeps, UserKeeps, entry_at, has_id, id_at, id_in, id_of, ids_in, is_out, pending_of, recorded, row_has, serial_with}
-use Rattle.tcmu_model.specs.TargetSteps.{fits_in, free_in, front_with, id_or_zero, ids_of, need_in, pad_in, pads_of, region_noted, target_noted, target_tmr_answer, unknown_in}
+use Rattle.tcmu_model.specs.Sides.{InHand, PendingRow, TargetState, UserState}
+use Rattle.tcmu_model.specs.Represents.{AreNoteIds, BlocksStand, IdsStand, IsId, IsNoteId, JobsStand, NotesStand, RingStands, TargetKeeps, UserKeeps, entry_at, has_id, id_at, id_of, ids_in, pending_of, recorded, row_has, serial_with}
+use Rattle.tcmu_model.specs.TargetSteps.{fits_in, free_in, id_or_zero, ids_of, need_in, pad_in, pads_of, region_noted, target_noted, target_tmr_answer, unknown_in}
 use Rattle.tcmu_model.specs.Owned.{ListsSound}
-use Rattle.ring_laws.specs.Placed.{HoldsItems}
 use Rattle.ring_laws.specs.Refused.{is_unnoted}
 use Rattle.ring_laws.proofs.Agree.{Agrees, agrees}
 use Rattle.ring_laws.proofs.Held.{holds}
