@@ -1,15 +1,11 @@
 -- What a clean keeps of the blocks, of the jobs and of the block lists.
 use Rattle.std.proofs.Common.{◌≡◌, ℕ, ◌≤◌, ◌<◌, Bool, true, false, List, [], ◌∷◌, ◌++◌, length, take, filter, refl, sym, ap, ◌∙◌, arith, suc, zero, Option, Some, None, slice_get, subst, ⊎_elim, eqb}
-use Rattle.std.specs.Prelude.{IfSome}
-use Rattle.std.specs.Bool.{MatchBool}
 use Rattle.std.specs.Option.{is_some}
 use Rattle.std.proofs.lemmas.Bool.{cases_Bool, true≢false, or_parts, or_left, or_right}
-use Rattle.tcmu_types.specs.Data.{SettingsData}
 use Rattle.tcmu_model.specs.declared.state.CommandState.TheVariants.{Placed}
-use Rattle.tcmu_model.specs.declared.state.CommandState.TheVariants as state
 use Rattle.tcmu_model.specs.Lists.{first_of, without_first, above_all}
 use Rattle.tcmu_model.specs.Lengths.{blocks_of, block_size}
-use Rattle.tcmu_model.specs.Device.{Unfinished, DeviceState, has_state, is_at}
+use Rattle.tcmu_model.specs.Device.{Unfinished, DeviceState, is_at}
 use Rattle.tcmu_model.specs.Events.{is_among, is_in_hand, after_clean, answered, cleaned_books, books, Books, finish, finish_all}
 use Rattle.tcmu_model.specs.Sound.{IsSound, Every, Differ}
 use Rattle.tcmu_model.specs.BlockLists.{Taken, list_of, held_by}
@@ -20,8 +16,8 @@ use Rattle.tcmu_model.proofs.Everies.{every-weaker, every-both, every-filter, ev
 use Rattle.tcmu_model.proofs.Rises.{among-append, among_every}
 use Rattle.tcmu_model.proofs.SoundClean.{answered_placed}
 use Rattle.tcmu_model.specs.Areas.{IsLent}
-use Rattle.tcmu_model.specs.Sides.{GivenJob, InHand, JobState, PendingRow, TargetState, UserState}
-use Rattle.tcmu_model.specs.Represents.{AreGiven, AreOut, BlocksOf, BlocksStand, IsJobOf, JobsStand, id_of, is_out}
+use Rattle.tcmu_model.specs.Sides.{InHand, PendingRow, TargetState, UserState}
+use Rattle.tcmu_model.specs.Represents.{AreGiven, AreOut, BlocksOf, BlocksStand, JobsStand, is_out}
 use Rattle.tcmu_model.specs.TargetSteps.{blocks_held}
 use Rattle.tcmu_model.specs.TargetCleans.{region_cleaned, target_cleaned}
 use Rattle.tcmu_model.specs.Owned.{ListsSound}
@@ -31,6 +27,7 @@ use Rattle.ring_laws.proofs.LaidBlocks as laid
 use Rattle.ring_laws.proofs.LaidBlocks.{own-among, covered, stand-other}
 use Rattle.ring_laws.proofs.CleanedAll.{cleaned-at}
 use Rattle.ring_laws.proofs.CleanedKept.{target_cleaned_keeps}
+use Rattle.ring_laws.proofs.SameJobs.{HasSame, given_same, outs_same}
 
 -- ==== the commands that are left
 
@@ -187,42 +184,18 @@ blocks_cleaned r t d lists h =
 
 -- ==== the jobs
 
--- rows that give these commands the same ids
-abbrev HaveSameIds : List PendingRow → List PendingRow → List Unfinished → Type 0
-HaveSameIds rows rows' us = Every (λ (u : Unfinished). id_of rows' u.serial ≡ id_of rows u.serial) us
-
-job_same : (s : SettingsData) (rows rows' : List PendingRow) (lists : List Taken) (u : Unfinished) (job : JobState) (parts : List (List ℕ)) → id_of rows' u.serial ≡ id_of rows u.serial → IsJobOf s rows lists u job parts → IsJobOf s rows' lists u job parts
-job_same s rows rows' lists u job parts m h = record { id = m ∙ h.id; cdb = h.cdb; iovs = h.iovs; in_len = h.in_len; carried = h.carried; count = h.count; size = h.size; payload = h.payload }
-
-match-first : (b : Bool) (P Q R : Type 0) → (P → R) → MatchBool b P Q → MatchBool b R Q
-match-first true P Q R f h = f h
-match-first false P Q R f h = h
-
-given_same : (s : SettingsData) (rows rows' : List PendingRow) (lists : List Taken) (gs : List GivenJob) (us : List Unfinished) → HaveSameIds rows rows' us → AreGiven s rows lists gs us → AreGiven s rows' lists gs us
-given_same s rows rows' lists [] [] m h = h
-given_same s rows rows' lists [] (u ∷ us) m h = absurd h
-given_same s rows rows' lists (g ∷ gs) [] m h = absurd h
-given_same s rows rows' lists (g ∷ gs) (u ∷ us) m h =
-    ((m.0 ∙ h.0.0, match-first (has_state state.Parked u) _ _ _ (λ p. (p.0, p.1, p.2, p.3, job_same s rows rows' lists u p.0.job p.3 m.0 p.4)) h.0.1), given_same s rows rows' lists gs us m.1 h.1)
-
-outs_same : (s : SettingsData) (rows rows' : List PendingRow) (lists : List Taken) (hs : List InHand) (us : List Unfinished) → HaveSameIds rows rows' us → AreOut s rows lists hs us → AreOut s rows' lists hs us
-outs_same s rows rows' lists [] [] m h = h
-outs_same s rows rows' lists [] (u ∷ us) m h = absurd h
-outs_same s rows rows' lists (x ∷ hs) [] m h = absurd h
-outs_same s rows rows' lists (x ∷ hs) (u ∷ us) m h = ((h.0.0, h.0.1, (h.0.2.0, job_same s rows rows' lists u x.job h.0.2.0 m.0 h.0.2.1)), outs_same s rows rows' lists hs us m.1 h.1)
-
 -- a command that is picked out by what holds of no placed one keeps its id
 ids_kept : (r : RegionState) (t : TargetState) (d : DeviceState) (lists : List Taken) (p : Unfinished → Bool) → CanClean r t d lists → ((u : Unfinished) → u.state ≡ Placed → p u ≡ false) →
-    HaveSameIds t.rows (target_cleaned r t).rows (filter p d.unfinished)
+    Every (HasSame t.rows (target_cleaned r t).rows lists lists) (filter p d.unfinished)
 ids_kept r t d lists p h never =
     let at = cleaned-at r t d lists h in
     let P : Unfinished → Type 0 = λ u. is_among (answered d) u.serial ≡ true → (u.state ≡ Placed) × (is_some u.reply ≡ true) in
     let Q : Unfinished → Type 0 = λ u. p u ≡ true in
-    every-weaker (λ (u : Unfinished). P u × Q u) (λ (u : Unfinished). id_of (target_cleaned r t).rows u.serial ≡ id_of t.rows u.serial) (filter p d.unfinished)
+    every-weaker (λ (u : Unfinished). P u × Q u) (HasSame t.rows (target_cleaned r t).rows lists lists) (filter p d.unfinished)
     (λ u k.
     ⊎_elim
     (λ (a : is_among (answered d) u.serial ≡ true). absurd (true≢false (sym k.1 ∙ never u (k.0 a).0)))
-    (λ (a : is_among (answered d) u.serial ≡ false). at.kept u.serial a)
+    (λ (a : is_among (answered d) u.serial ≡ false). (at.kept u.serial a, refl))
     (cases_Bool (is_among (answered d) u.serial)))
     (every-both P Q (filter p d.unfinished) (every-filter p P d.unfinished (answered_placed d h.sound.answers)) (every-passes p d.unfinished))
 
@@ -235,7 +208,7 @@ jobs_cleaned r t user hand d lists h jobs =
     let o : filter is_out (cleaned_books d).unfinished ≡ filter is_out d.unfinished = ap (filter is_out) e ∙ filter-left is_out d.unfinished (answered d) placed_not_out in
     let rows' : List PendingRow = (target_cleaned r t).rows in
     record {
-      given = subst (AreGiven d.settings rows' lists user.jobs) (sym f) (given_same d.settings t.rows rows' lists user.jobs (filter is_in_hand d.unfinished) (ids_kept r t d lists is_in_hand h placed_not_in_hand) jobs.given);
-      out = subst (AreOut d.settings rows' lists hand) (sym o) (outs_same d.settings t.rows rows' lists hand (filter is_out d.unfinished) (ids_kept r t d lists is_out h placed_not_out) jobs.out);
+      given = subst (AreGiven d.settings rows' lists user.jobs) (sym f) (given_same d.settings t.rows rows' lists lists user.jobs (filter is_in_hand d.unfinished) (ids_kept r t d lists is_in_hand h placed_not_in_hand) jobs.given);
+      out = subst (AreOut d.settings rows' lists hand) (sym o) (outs_same d.settings t.rows rows' lists lists hand (filter is_out d.unfinished) (ids_kept r t d lists is_out h placed_not_out) jobs.out);
       offsets = jobs.offsets;
     }

@@ -1,6 +1,5 @@
 -- A handler answers: the command has its reply, which no entry has yet.
 use Rattle.std.proofs.Common.{◌≡◌, ◌≢◌, ℕ, ◌<◌, Bool, true, false, List, [], ◌∷◌, ◌++◌, length, map, filter, refl, sym, ap, ◌∙◌, Option, Some, slice_get, subst, ⊎_elim, eqb, suc, zero}
-use Rattle.std.specs.Prelude.{IfSome}
 use Rattle.std.specs.Option.{is_some}
 use Rattle.std.proofs.lemmas.Bool.{cases_Bool, eqb-false, ne_eqb, false≢true, or_parts}
 use Rattle.tcmu_types.specs.Data.{ReplyData}

@@ -29,10 +29,11 @@ use Rattle.tcmu_model.specs.TargetSteps.{row_of}
 use Rattle.tcmu_model.specs.Owned.{ListsSound, HasRoom}
 use Rattle.ring_laws.proofs.Held.{holds}
 use Rattle.ring_laws.proofs.Places.{laid_with, LaidCase, laid_case, Old, Padding, New, take-laid}
-use Rattle.ring_laws.proofs.Laying.{laid_in}
+use Rattle.ring_laws.proofs.LaidEntry.{laid_in}
 use Rattle.ring_laws.proofs.RingLaid.{old-entry, new-entry}
+use Rattle.ring_laws.proofs.LaidPoints.{SameEntries}
 use Rattle.ring_laws.proofs.Agree.{blocks-same}
-use Rattle.ring_laws.proofs.Submit.{first-append, first-here, not_below, serial_at, unlisted, cmd_item, with_waiting, commands-append, LaidCommand, laid_command}
+use Rattle.ring_laws.proofs.Submit.{first-append, first-here, not_below, serial_at, unlisted, cmd_item, with_waiting, commands-append, LaidCommand, laid_command, within_ring}
 
 -- ==== what is below the new serial
 
@@ -46,7 +47,7 @@ lists_below d lists s owned above =
     every-weaker (λ (t : Taken). is_among (serials_in d.ring.laid) t.serial ≡ true) (λ (t : Taken). t.serial < s) lists
     (λ t h. among_every (λ (k : ℕ). k < s) (serials_in d.ring.laid) t.serial above h) owned.listed
 
-pending_below : (t : TargetState) (d : DeviceState) (lists : List Taken) (s : ℕ) → TargetKeeps t d lists → Every (λ (u : Unfinished). u.serial < s) d.unfinished → Every (λ (e : PendingRow). e.pending.serial < s) t.rows
+pub pending_below : (t : TargetState) (d : DeviceState) (lists : List Taken) (s : ℕ) → TargetKeeps t d lists → Every (λ (u : Unfinished). u.serial < s) d.unfinished → Every (λ (e : PendingRow). e.pending.serial < s) t.rows
 pending_below t d lists s keeps h =
     every-mapped (λ (e : PendingRow). e.pending) (λ (p : PendingData). p.serial < s) t.rows
     (subst (Every (λ (p : PendingData). p.serial < s)) (sym keeps.rows) (every-map (pending_of lists) (λ (u : Unfinished). u.serial < s) (λ (p : PendingData). p.serial < s) d.unfinished (λ u k. k) h))
@@ -66,7 +67,7 @@ pending_same lists new (u ∷ us) s e h =
     ap (λ (o : Option Taken). (record { serial = u.serial; init = u.command.init; tag = u.command.tag; in_len = u.command.in_len; blocks = blocks_taken o; deadline = u.deadline; expired = u.expired; buffer = zeros u.command.in_len }) ∷ map (pending_of (lists ++ new ∷ [])) us) q
     ∙ ap (λ (ps : List PendingData). pending_of lists u ∷ ps) (pending_same lists new us s e h.1)
 
-commands-pads : (n : ℕ) → commands_in (pads n) ≡ 0
+pub commands-pads : (n : ℕ) → commands_in (pads n) ≡ 0
 commands-pads n =
     ⊎_elim
     (λ (z : eqb n 0 ≡ true). rw z refl)
@@ -176,6 +177,12 @@ own_case front front' rows rows' d s c id sound above ids w i n q c' dp (New a e
     let s0 : q ≡ s = cc in
     ap (id_of rows') s0 ∙ w.mine ∙ ap Some (sym w.new) ∙ ap (λ z. Some (id_at front' (place_of (with_item d.ring (cmd_item d s c)) z))) (sym a)
 
+-- the entries that are not cleared stay
+pub entries_laid : (r : RegionState) (t : TargetState) (d : DeviceState) (lists : List Taken) (s : ℕ) (c : CommandData) (id : ℕ) →
+    IsSound d → RingStands r.front t.items d lists → HasRoom d c → LaidCommand r t d lists s c id → SameEntries r.front (region_laid r t c id).front d
+entries_laid r t d lists s c id sound shape room q =
+    λ i x cl g. ap (λ f. entry_at f (place_of d.ring i) x.len) q.front ∙ old-entry r.front d (cmd_item d s c) q.bytes i x shape.long (holds d sound) room.fits (within_ring d c room) q.len cl g
+
 gives : (r : RegionState) (t : TargetState) (d : DeviceState) (lists : List Taken) (s : ℕ) (c : CommandData) (id : ℕ) →
     IsSound d → RingStands r.front t.items d lists → TargetKeeps t d lists → HasRoom d c → Every (λ k. k < s) (serials_in d.ring.laid) → LaidCommand r t d lists s c id →
     Gives r.front (region_laid r t c id).front t.rows (t.rows ++ row_of t s c id ∷ []) d s c id
@@ -184,11 +191,11 @@ gives r t d lists s c id sound shape keeps room above q =
     let n : ℕ = entry_length d.settings.pages c in
     let front' : List ℕ = (region_laid r t c id).front in
     let at : ℕ = place_of (with_item d.ring it) (length (d.ring.laid ++ pads (ring.pad d.ring n))) in
-    let b : entry_at front' at n ≡ q.bytes = ap (λ z. entry_at z at n) q.front ∙ new-entry r.front d it q.bytes shape.long (holds d sound) room.small q.len in
+    let b : entry_at front' at n ≡ q.bytes = ap (λ z. entry_at z at n) q.front ∙ new-entry r.front d it q.bytes shape.long (holds d sound) (within_ring d c room) q.len in
     let u : take 112 (entry_at front' at n) ≡ entry_at front' at 112 = take-take 112 n (drop (ring_start + at) front') (entry_long d.settings.pages c) in
     record {
       old = λ i x cl g k. id-same r.front front' (place_of d.ring i) x.len (command_long d i x sound g k)
-          (ap (λ f. entry_at f (place_of d.ring i) x.len) q.front ∙ old-entry r.front d it q.bytes i x shape.long (holds d sound) room.fits room.small q.len cl g);
+          (entries_laid r t d lists s c id sound shape room q i x cl g);
       other = λ k h. ap (option_map (λ (e : PendingRow). e.id)) (first-append (row_has k) t.rows (row_of t s c id) (not_below s k h));
       mine = ap (option_map (λ (e : PendingRow). e.id)) (first-here (row_has s) t.rows (row_of t s c id) (eq-eqb s s refl) (unheld t.rows s (pending_below t d lists s keeps (rows_below d s sound above))));
       new = ap id_in (sym u ∙ ap (take 112) b) ∙ id_front q.bytes (omega (arith, q.len, entry_long d.settings.pages c)) ∙ q.id_is;

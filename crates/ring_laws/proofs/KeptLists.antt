@@ -8,20 +8,20 @@ use Rattle.tcmu_model.specs.Lists.{first_of}
 use Rattle.tcmu_model.specs.Lengths.{blocks_of, block_size}
 use Rattle.tcmu_model.specs.RingState.{Item, serials_in, serial_in}
 use Rattle.tcmu_model.specs.RingState as ring
-use Rattle.tcmu_model.specs.Device.{Unfinished, DeviceState, has_serial, has_state}
-use Rattle.tcmu_model.specs.declared.state.CommandState.TheVariants.{Parked}
+use Rattle.tcmu_model.specs.Device.{Unfinished, DeviceState, has_serial}
 use Rattle.tcmu_model.specs.Events.{is_among, is_in_hand}
 use Rattle.tcmu_model.specs.Sound.{Every, Differ}
 use Rattle.tcmu_model.specs.BlockLists.{Taken, list_of, held_by, blocks_taken, is_kept, kept_lists}
 use Rattle.tcmu_model.specs.Pending.{PendingData}
 use Rattle.tcmu_model.proofs.Everies.{every-weaker, every-filter, every-both}
 use Rattle.tcmu_model.proofs.Rises.{among-append}
-use Rattle.tcmu_model.specs.Sides.{Recorded, PendingRow, GivenJob, JobState, InHand, TargetState, UserState}
-use Rattle.tcmu_model.specs.Represents.{RingStands, BlocksOf, BlocksStand, HaveData, JobsStand, AreGiven, AreOut, IsJobOf, is_out, TargetKeeps, pending_of}
+use Rattle.tcmu_model.specs.Sides.{Recorded, PendingRow, InHand, TargetState, UserState}
+use Rattle.tcmu_model.specs.Represents.{RingStands, BlocksOf, BlocksStand, HaveData, JobsStand, is_out, TargetKeeps, pending_of}
 use Rattle.tcmu_model.specs.Areas.{IsLent}
-use Rattle.tcmu_model.specs.Picture.{payload_of, command_iovs}
+use Rattle.tcmu_model.specs.Picture.{payload_of}
 use Rattle.tcmu_model.specs.Owned.{ListsSound}
 use Rattle.ring_laws.proofs.RingLaid.{stands-by}
+use Rattle.ring_laws.proofs.SameJobs.{HasSame, given_same, outs_same}
 
 -- a serial whose list is kept
 abbrev pub StillListed : DeviceState → ℕ → Type 0
@@ -107,42 +107,15 @@ blocks_kept area d lists h =
       just = λ b l. ap (λ bs. is_among bs b) (held_kept d lists (filter is_in_hand d.unfinished) (every-filter is_in_hand (λ (u : Unfinished). StillListed d u.serial) d.unfinished (own_listed d))) ∙ h.just b l;
     }
 
-job_kept : (d : DeviceState) (rows : List PendingRow) (lists : List Taken) (u : Unfinished) (job : JobState) (parts : List (List ℕ)) → StillListed d u.serial → IsJobOf d.settings rows lists u job parts → IsJobOf d.settings rows (kept_lists d lists) u job parts
-job_kept d rows lists u job parts k h =
-    let e : list_of lists u.serial ≡ list_of (kept_lists d lists) u.serial = sym (list_kept d lists u.serial k) in
-    record {
-      id = h.id;
-      cdb = h.cdb;
-      iovs = h.iovs ∙ ap (λ bs. command_iovs d.settings bs u.command) e;
-      in_len = h.in_len;
-      carried = h.carried;
-      count = h.count ∙ ap length e;
-      size = h.size;
-      payload = h.payload;
-    }
-
-match_left : (b : Bool) (P Q R : Type 0) → (P → R) → MatchBool b P Q → MatchBool b R Q
-match_left true P Q R f h = f h
-match_left false P Q R f h = h
-
-given_kept : (d : DeviceState) (rows : List PendingRow) (lists : List Taken) (gs : List GivenJob) (us : List Unfinished) → AreUnfinished d us → AreGiven d.settings rows lists gs us → AreGiven d.settings rows (kept_lists d lists) gs us
-given_kept d rows lists [] [] k h = h
-given_kept d rows lists [] (u ∷ us) k h = absurd h
-given_kept d rows lists (g ∷ gs) [] k h = absurd h
-given_kept d rows lists (g ∷ gs) (u ∷ us) k h =
-    ((h.0.0, match_left (has_state Parked u) _ _ _ (λ p. (p.0, p.1, p.2, p.3, job_kept d rows lists u p.0.job p.3 k.0 p.4)) h.0.1), given_kept d rows lists gs us k.1 h.1)
-
-outs_kept : (d : DeviceState) (rows : List PendingRow) (lists : List Taken) (hs : List InHand) (us : List Unfinished) → AreUnfinished d us → AreOut d.settings rows lists hs us → AreOut d.settings rows (kept_lists d lists) hs us
-outs_kept d rows lists [] [] k h = h
-outs_kept d rows lists [] (u ∷ us) k h = absurd h
-outs_kept d rows lists (x ∷ hs) [] k h = absurd h
-outs_kept d rows lists (x ∷ hs) (u ∷ us) k h = ((h.0.0, h.0.1, (h.0.2.0, job_kept d rows lists u x.job h.0.2.0 k.0 h.0.2.1)), outs_kept d rows lists hs us k.1 h.1)
+-- each command keeps its id and its list
+all_same : (d : DeviceState) (rows : List PendingRow) (lists : List Taken) → Every (HasSame rows rows lists (kept_lists d lists)) d.unfinished
+all_same d rows lists = every-weaker (λ (u : Unfinished). StillListed d u.serial) (HasSame rows rows lists (kept_lists d lists)) d.unfinished (λ u k. (refl, list_kept d lists u.serial k)) (own_listed d)
 
 pub jobs_kept : (user : UserState) (hand : List InHand) (rows : List PendingRow) (d : DeviceState) (lists : List Taken) → JobsStand user hand rows d lists → JobsStand user hand rows d (kept_lists d lists)
 jobs_kept user hand rows d lists h =
     record {
-      given = given_kept d rows lists user.jobs (filter is_in_hand d.unfinished) (every-filter is_in_hand (λ (u : Unfinished). StillListed d u.serial) d.unfinished (own_listed d)) h.given;
-      out = outs_kept d rows lists hand (filter is_out d.unfinished) (every-filter is_out (λ (u : Unfinished). StillListed d u.serial) d.unfinished (own_listed d)) h.out;
+      given = given_same d.settings rows rows lists (kept_lists d lists) user.jobs (filter is_in_hand d.unfinished) (every-filter is_in_hand (HasSame rows rows lists (kept_lists d lists)) d.unfinished (all_same d rows lists)) h.given;
+      out = outs_same d.settings rows rows lists (kept_lists d lists) hand (filter is_out d.unfinished) (every-filter is_out (HasSame rows rows lists (kept_lists d lists)) d.unfinished (all_same d rows lists)) h.out;
       offsets = h.offsets;
     }
 

@@ -26,10 +26,10 @@ use Rattle.tcmu_model.proofs.Written.{length-zeros}
 use Rattle.ring_laws.proofs.Places.{slice_get-left, slice_get-right}
 use Rattle.ring_laws.proofs.Free.{length-least_free, least-are, IsFree, least-differ}
 use Rattle.ring_laws.proofs.Scatter.{grown, scattered-other, scattered-data, along-same, grown-old}
-use Rattle.ring_laws.proofs.Laying.{laid_in}
+use Rattle.ring_laws.proofs.LaidEntry.{laid_in}
 use Rattle.ring_laws.proofs.Submit.{first-append, first-here, unlisted, cmd_item, with_waiting}
 use Rattle.ring_laws.proofs.Kept.{rows_below, lists_below}
-use Rattle.ring_laws.proofs.Answering.{held_length}
+use Rattle.ring_laws.proofs.TargetAnswers.{held_length}
 
 -- ==== what is held
 

@@ -1,5 +1,4 @@
 -- A command is laid: the block lists stay sound.
-use Rattle.std.specs.Prelude.{IfSome}
 use Rattle.std.proofs.Common.{◌≡◌, ℕ, ◌+◌, ◌≤◌, ◌<◌, ◌||◌, true, false, List, [], ◌∷◌, ◌++◌, length, refl, sym, ap, ◌∙◌, arith, append_assoc, append-nil, subst, eqb}
 use Rattle.std.proofs.lemmas.Bool.{eqb-false, eq-eqb, ne_eqb, false≢true, or_parts}
 use Rattle.tcmu_types.specs.Data.{CommandData}
@@ -19,7 +18,7 @@ use Rattle.tcmu_model.specs.Owned.{ListsSound, HasRoom}
 use Rattle.ring_laws.proofs.Places.{laid_with, LaidCase, laid_case, Old, Padding, New}
 use Rattle.ring_laws.proofs.Submit.{first-append, first-here, not_below, serial_at, unlisted, cmd_item, with_waiting}
 use Rattle.ring_laws.proofs.Kept.{rows_below, lists_below}
-use Rattle.ring_laws.proofs.Answering.{held_length}
+use Rattle.ring_laws.proofs.TargetAnswers.{held_length}
 use Rattle.ring_laws.proofs.Free.{IsFree, length-least_free, least-are, least-differ}
 
 differ-append : (xs ys : List ℕ) → Differ xs → Differ ys → Every (λ y. is_among xs y ≡ false) ys → Differ (xs ++ ys)

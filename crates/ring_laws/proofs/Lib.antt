@@ -1,14 +1,14 @@
-pub mod Opening
+pub mod Opened
 pub mod Bytes
 pub mod Places
 pub mod Held
 pub mod Layouts
-pub mod Laying
+pub mod LaidEntry
 pub mod RingLaid
 pub mod Agree
 pub mod Submit
 pub mod Kept
-pub mod Answering
+pub mod TargetAnswers
 pub mod Scatter
 pub mod Free
 pub mod LaidBlocks
@@ -44,3 +44,8 @@ pub mod InOrderKept
 pub mod InOrderAnswer
 pub mod Responds
 pub mod HandTells
+pub mod SameJobs
+pub mod LaidPoints
+pub mod LaidCommands
+pub mod NoteBytes
+pub mod Noted

@@ -1,5 +1,5 @@
 -- The shape of the ring is kept when an item is laid.
-use Rattle.std.proofs.Common.{◌≡◌, ℕ, ◌+◌, ◌-◌, ◌*◌, ◌%◌, ◌≤◌, ◌<◌, ◌⊎◌, true, false, List, [], ◌∷◌, ◌++◌, length, take, drop, map, refl, sym, ap, ◌∙◌, arith, Option, Some, None, slice_get, length-append, subst, ⊎_elim, eqb}
+use Rattle.std.proofs.Common.{◌≡◌, ℕ, ◌+◌, ◌-◌, ◌%◌, ◌≤◌, ◌<◌, ◌⊎◌, true, false, List, [], ◌∷◌, ◌++◌, length, take, drop, map, refl, sym, ap, ◌∙◌, arith, Option, Some, None, slice_get, length-append, subst, ⊎_elim, eqb}
 use Rattle.std.proofs.lemmas.Bool.{cases_Bool}
 use Rattle.std.proofs.lemmas.List.{drop-append-le, take_all, map-append}
 use Rattle.tcmu_types.specs.Data.{CommandData, SettingsData}
@@ -17,7 +17,7 @@ use Rattle.ring_laws.proofs.Bytes.{part}
 use Rattle.ring_laws.proofs.Layouts.{mailbox_moved}
 use Rattle.ring_laws.specs.Placed.{HoldsItems}
 use Rattle.ring_laws.proofs.Places.{apart_in_ring, laid_with, LaidCase, laid_case, Old, Padding, New, take-laid, lengths_to_new, ends_within, used_is, lengths_more, lengths-append, lengths-pads}
-use Rattle.ring_laws.proofs.Laying.{laid_in, entered, Room, has_room, entered_part, entered_new, entered_pad, length-entered, take-entered}
+use Rattle.ring_laws.proofs.LaidEntry.{laid_in, entered, Room, has_room, entered_part, entered_new, entered_pad, length-entered, take-entered}
 
 -- an entry has the same bytes where the answer that stands in it is the same
 pub entry_same : (d e : DeviceState) (id : ℕ) (request : List ℕ) (o : Option ℕ) → e.settings ≡ d.settings → ((s : ℕ) → o ≡ Some s → first_of (has_serial s) e.unfinished ≡ first_of (has_serial s) d.unfinished)
@@ -67,7 +67,7 @@ records-pads n =
 
 -- what the writes of a laying leave and give
 pub old-entry : (front : List ℕ) (d : DeviceState) (it : Item) (bytes : List ℕ) (i : ℕ) (x : Item) → length front ≡ data_start d.ring.size → HoldsItems d.ring →
-    need d.ring it.len ≤ free d.ring → 2 * it.len ≤ d.ring.size → length bytes ≡ it.len → d.ring.cleared ≤ i → slice_get d.ring.laid i ≡ Some x →
+    need d.ring it.len ≤ free d.ring → it.len ≤ d.ring.size → length bytes ≡ it.len → d.ring.cleared ≤ i → slice_get d.ring.laid i ≡ Some x →
     entry_at (entered front (head d.ring) (ring.pad d.ring it.len) ((lengths d.ring.laid + ring.pad d.ring it.len) % d.ring.size) ((lengths d.ring.laid + ring.pad d.ring it.len + it.len) % d.ring.size) bytes) (place_of d.ring i) x.len
     ≡ entry_at front (place_of d.ring i) x.len
 old-entry front d it bytes i x long holds fit small lb c g =
@@ -91,7 +91,7 @@ old-entry front d it bytes i x long holds fit small lb c g =
     apart_in_ring r.size p x.len (lengths r.laid + pad) (length bytes) (omega arith) (omega arith) (omega (arith, ui, more, fit0, us0, lb)) wh fits in
     entered_part front r.size (head r) pad ((lengths r.laid + pad) % r.size) ((lengths r.laid + pad + it.len) % r.size) bytes (p % r.size) x.len long room.least rp fits (λ q. apart_pad) apart
 
-pub new-entry : (front : List ℕ) (d : DeviceState) (it : Item) (bytes : List ℕ) → length front ≡ data_start d.ring.size → HoldsItems d.ring → 2 * it.len ≤ d.ring.size → length bytes ≡ it.len →
+pub new-entry : (front : List ℕ) (d : DeviceState) (it : Item) (bytes : List ℕ) → length front ≡ data_start d.ring.size → HoldsItems d.ring → it.len ≤ d.ring.size → length bytes ≡ it.len →
     entry_at (entered front (head d.ring) (ring.pad d.ring it.len) ((lengths d.ring.laid + ring.pad d.ring it.len) % d.ring.size) ((lengths d.ring.laid + ring.pad d.ring it.len + it.len) % d.ring.size) bytes)
     (place_of (with_item d.ring it) (length (d.ring.laid ++ pads (ring.pad d.ring it.len)))) it.len ≡ bytes
 new-entry front d it bytes long holds small lb =
@@ -110,7 +110,7 @@ new-entry front d it bytes long holds small lb =
 
 pub ring-laid : (front : List ℕ) (items : List Recorded) (d : DeviceState) (lists lists' : List Taken) (it : Item) (us : List Unfinished) (bytes : List ℕ) →
     RingStands front items d lists → HoldsItems d.ring → d.ring.cleared ≤ length d.ring.laid → d.ring.published ≤ length d.ring.laid →
-    need d.ring it.len ≤ free d.ring → 2 * it.len ≤ d.ring.size → 8 ≤ it.len →
+    need d.ring it.len ≤ free d.ring → it.len ≤ d.ring.size → 8 ≤ it.len →
     SameItems d (laid_in d it us) lists lists' → length bytes ≡ it.len →
     bytes ≡ item_bytes (laid_in d it us) lists' (length (d.ring.laid ++ pads (ring.pad d.ring it.len))) (id_in bytes) (ids_in (ids_named it) 32 bytes) it →
     RingStands (entered front (head d.ring) (ring.pad d.ring it.len) ((lengths d.ring.laid + ring.pad d.ring it.len) % d.ring.size) ((lengths d.ring.laid + ring.pad d.ring it.len + it.len) % d.ring.size) bytes)

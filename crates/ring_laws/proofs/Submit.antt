@@ -1,5 +1,5 @@
 -- A command is laid: the ring stands.
-use Rattle.std.proofs.Common.{◌≡◌, ℕ, ◌+◌, ◌%◌, ◌^◌, ◌≤◌, ◌<◌, Bool, true, false, cond, List, [], ◌∷◌, ◌++◌, length, take, refl, sym, ap, ◌∙◌, arith, suc, zero, Some, None, slice_get, length-take, subst, ⊎_elim, eqb}
+use Rattle.std.proofs.Common.{◌≡◌, ℕ, ◌+◌, ◌*◌, ◌%◌, ◌^◌, ◌≤◌, ◌<◌, Bool, true, false, cond, List, [], ◌∷◌, ◌++◌, length, take, refl, sym, ap, ◌∙◌, arith, suc, zero, Some, None, slice_get, length-take, subst, ⊎_elim, eqb}
 use Rattle.std.proofs.lemmas.Bool.{cases_Bool, eq-eqb, ne_eqb}
 use Rattle.std.proofs.lemmas.List.{take_at}
 use Rattle.std.proofs.lemmas.List.Sums.{sum_by-append, sum_by-take-le}
@@ -32,7 +32,7 @@ use Rattle.ring_laws.proofs.Layouts.{add-mod, length-iovs, length-request, id_of
 use Rattle.ring_laws.specs.Placed.{HoldsItems}
 use Rattle.ring_laws.proofs.Held.{holds}
 use Rattle.ring_laws.proofs.Places.{laid_with, lengths_to_new}
-use Rattle.ring_laws.proofs.Laying.{laid_in, entered}
+use Rattle.ring_laws.proofs.LaidEntry.{laid_in, entered}
 use Rattle.ring_laws.proofs.RingLaid.{SameItems, ring-laid}
 use Rattle.ring_laws.proofs.Agree.{Agrees, agrees, blocks-same}
 
@@ -94,6 +94,30 @@ entered-same : (front : List ℕ) (a a' b b' c c' e e' : ℕ) (x x' : List ℕ) 
 entered-same front a a' b b' c c' e e' x x' p q r s y =
     ap (λ z. entered front z b c e x) p ∙ ap (λ z. entered front a' z c e x) q ∙ ap (λ z. entered front a' b' z e x) r ∙ ap (λ z. entered front a' b' c' z x) s ∙ ap (λ z. entered front a' b' c' e' z) y
 
+-- where the target lays an item, and what stands there then
+pub place_same : (t : TargetState) (d : DeviceState) (n : ℕ) → Agrees t d → place_in t n ≡ (lengths d.ring.laid + ring.pad d.ring n) % d.ring.size
+place_same t d n g =
+    ap (λ z. (head_in t + pad_in t n) % z) g.size ∙ ap (λ z. (z + pad_in t n) % d.ring.size) g.head
+    ∙ ap (λ z. (head d.ring + z) % d.ring.size) (g.pad n) ∙ add-mod (lengths d.ring.laid) (ring.pad d.ring n) d.ring.size
+
+pub front_same : (front : List ℕ) (t : TargetState) (d : DeviceState) (n : ℕ) (bytes : List ℕ) → Agrees t d →
+    front_with front t n bytes ≡ entered front (head d.ring) (ring.pad d.ring n) ((lengths d.ring.laid + ring.pad d.ring n) % d.ring.size) ((lengths d.ring.laid + ring.pad d.ring n + n) % d.ring.size) bytes
+unfolding front_with
+front_same front t d n bytes g =
+    let p : ℕ = ring.pad d.ring n in
+    let moved : (head_in t + need_in t n) % t.settings.ring ≡ (lengths d.ring.laid + p + n) % d.ring.size =
+    ap (λ z. (head_in t + need_in t n) % z) g.size
+    ∙ ap (λ z. (z + need_in t n) % d.ring.size) g.head
+    ∙ ap (λ z. (head d.ring + (z + n)) % d.ring.size) (g.pad n)
+    ∙ add-mod (lengths d.ring.laid) (p + n) d.ring.size
+    ∙ (let q : lengths d.ring.laid + (p + n) ≡ lengths d.ring.laid + p + n = omega arith in ap (λ z. z % d.ring.size) q) in
+    entered-same front (head_in t) (head d.ring) (pad_in t n) p (place_in t n) ((lengths d.ring.laid + p) % d.ring.size) ((head_in t + need_in t n) % t.settings.ring) ((lengths d.ring.laid + p + n) % d.ring.size) bytes bytes
+    g.head (g.pad n) (place_same t d n g) moved refl
+
+-- an item for which there is room is no longer than the ring
+pub within_ring : (d : DeviceState) (c : CommandData) → HasRoom d c → entry_length d.settings.pages c ≤ d.ring.size
+within_ring d c room = let k : 2 * entry_length d.settings.pages c ≤ d.ring.size = room.small in omega arith
+
 pub commands-append : (xs ys : List Item) → commands_in (xs ++ ys) ≡ commands_in xs + commands_in ys
 commands-append xs ys = sum_by-append (λ x. cond (is_command x) 1 0) xs ys
 
@@ -112,7 +136,7 @@ pub record LaidCommand (r : RegionState) (t : TargetState) (d : DeviceState) (li
 pub laid_command : (r : RegionState) (t : TargetState) (d : DeviceState) (lists : List Taken) (s : ℕ) (c : CommandData) (id : ℕ) →
     IsSound d → ListsSound d lists → RingStands r.front t.items d lists → TargetKeeps t d lists → HasRoom d c → id < 2 ^ 16 → Every (λ k. k < s) (serials_in d.ring.laid) → Every (λ (l : Taken). l.serial < s) lists →
     LaidCommand r t d lists s c id
-unfolding region_laid front_with target_laid
+unfolding region_laid target_laid
 laid_command r t d lists s c id sound owned shape keeps room small_id above fresh =
     let g : Agrees t d = agrees r.front t d lists shape keeps sound.ring.size in
     let hold : HoldsItems d.ring = holds d sound in
@@ -148,27 +172,16 @@ laid_command r t d lists s c id sound owned shape keeps room small_id above fres
     let c2 : d.ring.dispatched ≤ length d.ring.laid = sound.ring.dispatched in
     let all : RingStands (entered r.front (head d.ring) p at ((lengths d.ring.laid + p + n) % d.ring.size) bytes) (t.items ++ pads_of p ++ recorded it ∷ []) e lists' =
     ring-laid r.front t.items d lists lists' it us' bytes shape hold (omega (arith, c0, c1, c2)) (omega (arith, c1, c2))
-    room.fits room.small (let m : 112 ≤ n = omega arith in omega arith) (same_items d lists s c sound above) len nb in
+    room.fits (within_ring d c room) (let m : 112 ≤ n = omega arith in omega arith) (same_items d lists s c sound above) len nb in
     let n' : ℕ = length_in t c in
     let nt : n' ≡ n = ap (λ (z : SettingsData). entry_length z.pages c) keeps.settings in
     let pt : pad_in t n' ≡ p = ap (pad_in t) nt ∙ g.pad n in
-    let at0 : place_in t n' ≡ at =
-    ap (λ z. (head_in t + pad_in t n') % z) g.size ∙ ap (λ z. (z + pad_in t n') % d.ring.size) g.head
-    ∙ ap (λ z. (head d.ring + z) % d.ring.size) pt ∙ add-mod (lengths d.ring.laid) p d.ring.size in
-    let hd0 : (head_in t + need_in t n') % t.settings.ring ≡ (lengths d.ring.laid + p + n) % d.ring.size =
-    ap (λ z. (head_in t + need_in t n') % z) g.size
-    ∙ ap (λ z. (z + need_in t n') % d.ring.size) g.head
-    ∙ ap (λ z. (head d.ring + (z + n')) % d.ring.size) pt
-    ∙ ap (λ z. (head d.ring + (p + z)) % d.ring.size) nt
-    ∙ add-mod (lengths d.ring.laid) (p + n) d.ring.size
-    ∙ (let q : lengths d.ring.laid + (p + n) ≡ lengths d.ring.laid + p + n = omega arith in ap (λ z. z % d.ring.size) q) in
-    let by0 : request_of t.settings (blocks_given t c) (place_in t n') id c ≡ bytes =
-    ap (λ z. request_of t.settings (blocks_given t c) z id c) at0
+    let by0 : request_of t.settings (blocks_given t c) (place_in t n) id c ≡ bytes =
+    ap (λ z. request_of t.settings (blocks_given t c) z id c) (place_same t d n g)
     ∙ ap (λ z. request_of z (blocks_given t c) at id c) keeps.settings
     ∙ ap (λ z. request_of d.settings z at id c) (blocks-same t d lists c keeps ∙ sym lb) in
     let fr : (region_laid r t c id).front ≡ entered r.front (head d.ring) p at ((lengths d.ring.laid + p + n) % d.ring.size) bytes =
-    entered-same r.front (head_in t) (head d.ring) (pad_in t n') p (place_in t n') at ((head_in t + need_in t n') % t.settings.ring) ((lengths d.ring.laid + p + n) % d.ring.size)
-    (request_of t.settings (blocks_given t c) (place_in t n') id c) bytes g.head pt at0 hd0 by0 in
+    ap (λ z. front_with r.front t z (request_of t.settings (blocks_given t c) (place_in t z) id c)) nt ∙ ap (front_with r.front t n) by0 ∙ front_same r.front t d n bytes g in
     let it0 : (target_laid t s c id).items ≡ t.items ++ pads_of p ++ recorded it ∷ [] =
     ap (λ z. t.items ++ pads_of z ++ (record { kind = kind.Cmd; len = n' }) ∷ []) pt
     ∙ ap (λ z. t.items ++ pads_of p ++ (record { kind = kind.Cmd; len = z }) ∷ []) nt in

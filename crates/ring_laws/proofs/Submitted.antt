@@ -7,7 +7,7 @@ use Rattle.tcmu_model.specs.RingState.{RingState, Item, Laid, lengths, head, use
 use Rattle.tcmu_model.specs.RingState as ring
 use Rattle.tcmu_model.specs.Device.{DeviceState}
 use Rattle.tcmu_model.specs.BlockLists.{Taken, with_taken}
-use Rattle.tcmu_model.specs.Sides.{Recorded, TargetState}
+use Rattle.tcmu_model.specs.Sides.{InHand, Recorded, TargetState, UserState}
 use Rattle.tcmu_model.specs.Represents.{RingStands, TargetKeeps, IsId, IdsStand}
 use Rattle.tcmu_model.specs.TargetSteps.{region_laid, target_laid}
 use Rattle.std.proofs.lemmas.Bool.{leb-true, and_parts}
@@ -20,11 +20,12 @@ use Rattle.tcmu_model.proofs.Basics.{laid_rise}
 use Rattle.tcmu_model.proofs.Rises.{rise_within}
 use Rattle.tcmu_model.proofs.Everies.{every-weaker}
 use Rattle.tcmu_model.specs.Owned.{ListsSound, HasRoom}
-use Rattle.tcmu_model.specs.Represents.{BlocksStand}
+use Rattle.tcmu_model.specs.Represents.{BlocksStand, JobsStand, NotesStand, UserKeeps}
 use Rattle.tcmu_model.specs.TargetSteps.{region_submitted, target_submitted}
 use Rattle.ring_laws.proofs.RingLaid.{stands-by}
 use Rattle.ring_laws.proofs.LaidBlocks.{blocks_stand_laid}
 use Rattle.ring_laws.proofs.LaidLists.{lists_sound_laid}
+use Rattle.ring_laws.proofs.LaidCommands.{notes_stand_laid, jobs_stand_laid, side_stands_laid, pages_laid, sized_laid}
 use Rattle.ring_laws.proofs.Kept.{stands_laid, ids_stand_laid, target_stands_laid}
 
 -- what a queued answer says of room
@@ -141,3 +142,35 @@ lists_submitted d lists s c sound owned h =
     let q = queued_room d c s sound h in
     let k : ListsSound (with_command d s c) (with_taken d lists s c) = lists_sound_laid d lists s c sound owned q.0 (above_accepted d s sound q.1) in
     record { listed = k.listed; differ = k.differ; below = k.below; sizes = k.sizes; spans = k.spans }
+
+pub notes_submitted : (r : RegionState) (t : TargetState) (d : DeviceState) (lists : List Taken) (s : ℕ) (c : CommandData) (id : ℕ) →
+    IsSound d → ListsSound d lists → RingStands r.front t.items d lists → NotesStand r.front t.rows d → TargetKeeps t d lists → IsId id → submit_answer d c ≡ submit.Queued s →
+    NotesStand (region_submitted r t c id (submit.Queued s)).front (target_submitted t c id (submit.Queued s)).rows (after_submit d c (submit.Queued s))
+unfolding region_submitted target_submitted after_submit with_command target_laid
+notes_submitted r t d lists s c id sound owned shape notes keeps is_id h =
+    let q = queued_room d c s sound h in
+    notes_stand_laid r t d lists s c id sound owned shape notes keeps q.0 is_id (above_accepted d s sound q.1)
+
+pub jobs_submitted : (user : UserState) (hand : List InHand) (t : TargetState) (d : DeviceState) (lists : List Taken) (s : ℕ) (c : CommandData) (id : ℕ) →
+    IsSound d → ListsSound d lists → JobsStand user hand t.rows d lists → submit_answer d c ≡ submit.Queued s →
+    JobsStand user hand (target_submitted t c id (submit.Queued s)).rows (after_submit d c (submit.Queued s)) (with_taken d lists s c)
+unfolding target_submitted after_submit with_command target_laid
+jobs_submitted user hand t d lists s c id sound owned jobs h =
+    let q = queued_room d c s sound h in
+    let k : JobsStand user hand (target_laid t s c id).rows (with_command d s c) (with_taken d lists s c) = jobs_stand_laid user hand t d lists s c id sound owned jobs (above_accepted d s sound q.1) in
+    record { given = k.given; out = k.out; offsets = k.offsets }
+
+pub side_submitted : (user : UserState) (d : DeviceState) (s : ℕ) (c : CommandData) → IsSound d → UserKeeps user d → UserKeeps user (after_submit d c (submit.Queued s))
+unfolding after_submit with_command
+side_submitted user d s c sound keeps =
+    let k : UserKeeps user (with_command d s c) = side_stands_laid user d s c sound keeps in
+    record { ring = k.ring; pages = k.pages; flags = k.flags; tail = k.tail; dispatched = k.dispatched; placed = k.placed; published = k.published; place = k.place; items = k.items }
+
+pub pages_submitted : (r : RegionState) (t : TargetState) (d : DeviceState) (s : ℕ) (c : CommandData) (id : ℕ) → r.pages ≡ d.settings.pages → (region_submitted r t c id (submit.Queued s)).pages ≡ (after_submit d c (submit.Queued s)).settings.pages
+unfolding region_submitted after_submit with_command
+pages_submitted r t d s c id h = pages_laid r t d s c id h
+
+pub sized_submitted : (r : RegionState) (t : TargetState) (s : ℕ) (c : CommandData) (id : ℕ) → AreSized (block_size r.pages) r.blocks →
+    AreSized (block_size (region_submitted r t c id (submit.Queued s)).pages) (region_submitted r t c id (submit.Queued s)).blocks
+unfolding region_submitted
+sized_submitted r t s c id h = sized_laid r t c id h

@@ -41,7 +41,7 @@ head_same x y xs ys h = cc
 tail_same : {X : Type 0} (x y : X) (xs ys : List X) → x ∷ xs ≡ y ∷ ys → xs ≡ ys
 tail_same x y xs ys h = cc
 
-among_found : (rows : List PendingRow) (s : ℕ) (e : PendingRow) (id : ℕ) → first_of (row_has s) rows ≡ Some e → list_any (λ k. eqb k id) (map (λ (x : PendingRow). x.id) rows) ≡ false → e.id ≡ id → ⊥
+pub among_found : (rows : List PendingRow) (s : ℕ) (e : PendingRow) (id : ℕ) → first_of (row_has s) rows ≡ Some e → list_any (λ k. eqb k id) (map (λ (x : PendingRow). x.id) rows) ≡ false → e.id ≡ id → ⊥
 among_found [] s e id f h q = absurd (cc)
 among_found (x ∷ xs) s e id f h q =
     let p = or_parts (eqb x.id id) (list_any (λ k. eqb k id) (map (λ (y : PendingRow). y.id) xs)) h in

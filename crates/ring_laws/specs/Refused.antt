@@ -4,6 +4,8 @@ use Rattle.tcmu_types.specs.declared.answer.Submit.{Submit}
 use Rattle.tcmu_types.specs.declared.answer.Submit.TheVariants as submit
 use Rattle.tcmu_types.specs.declared.answer.Enter.{Enter}
 use Rattle.tcmu_types.specs.declared.answer.Enter.TheVariants as enter
+use Rattle.tcmu_types.specs.declared.answer.Tmr.{Tmr}
+use Rattle.tcmu_types.specs.declared.answer.Tmr.TheVariants as tmr
 
 -- a command that is refused is not accepted
 abbrev pub is_refusal : Submit → Bool
@@ -20,3 +22,11 @@ is_waiting (enter.Entered s) = false
 is_waiting enter.Empty = true
 is_waiting (enter.FullRing need free) = true
 is_waiting (enter.FullBlocks need free) = true
+
+-- no note is laid
+abbrev pub is_unnoted : Tmr → Bool
+is_unnoted tmr.Noted = false
+is_unnoted tmr.Off = true
+is_unnoted tmr.Busy = true
+is_unnoted (tmr.Unknown s) = true
+is_unnoted (tmr.FullRing need free) = true

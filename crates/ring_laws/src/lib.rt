@@ -2,26 +2,36 @@
 //! the contracts of the two sides and of the ring path cite both. Those definitions stand in tcmu_model; in specs/ here is what laws rest on.
 #![tactic(auto)]
 
+mod answering;
 mod cleaning;
+mod entering;
 mod handling;
 mod in_hand;
 mod kept_lists;
-mod laws;
+mod laying;
+mod noting;
+mod opening;
 mod parking;
 mod placing;
 mod publishing;
 mod responding;
+mod submitting;
 mod ticking;
 mod waiting;
 
+pub use answering::answering_law;
 pub use cleaning::{clean_law, completion_law};
+pub use entering::enter_law;
 pub use handling::handle_law;
 pub use in_hand::hand_law;
 pub use kept_lists::kept_law;
-pub use laws::{answering_law, enter_law, laying_law, opening_law, submit_law};
+pub use laying::laying_law;
+pub use noting::tmr_law;
+pub use opening::opening_law;
 pub use parking::parking_law;
 pub use placing::placing_law;
 pub use publishing::publish_law;
 pub use responding::respond_law;
+pub use submitting::submit_law;
 pub use ticking::{block_law, tick_law};
 pub use waiting::{delayed_law, refused_law};

@@ -55,7 +55,7 @@ pub record Room (r : RingState) (n : ℕ) : Type 0 where
   pub least : ring.pad r n ≢ 0 → 8 ≤ ring.pad r n
   pub even : ring.pad r n % 8 ≡ 0
 
-pub has_room : (r : RingState) (n : ℕ) → HoldsItems r → 2 * n ≤ r.size → Room r n
+pub has_room : (r : RingState) (n : ℕ) → HoldsItems r → n ≤ r.size → Room r n
 has_room r n h small =
     let hd : head r < r.size = let s : 4096 ≤ r.size = h.size in omega arith in
     ⊎_elim

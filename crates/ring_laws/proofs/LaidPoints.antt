@@ -1,0 +1,99 @@
+-- An item is laid: what is kept of the notes, of the jobs and of the user side, whatever the item is.
+use Rattle.std.proofs.Common.{◌≡◌, ℕ, ◌%◌, ◌≤◌, false, List, [], ◌∷◌, ◌++◌, length, take, drop, map, filter, refl, sym, ap, ◌∙◌, arith, true, Some, slice_get, append-nil, subst, ⊎_elim, eqb}
+use Rattle.std.proofs.lemmas.Bool.{cases_Bool, false≢true}
+use Rattle.tcmu_model.specs.RingState.{RingState, Item, Laid, lengths, pads, with_item, is_pad, commands_in, serials_in, serial_in}
+use Rattle.tcmu_model.specs.RingState as ring
+use Rattle.tcmu_model.specs.Device.{Unfinished, DeviceState}
+use Rattle.tcmu_model.specs.Events.{is_in_hand}
+use Rattle.tcmu_model.specs.Sound.{IsSound, Every}
+use Rattle.tcmu_model.specs.BlockLists.{Taken}
+use Rattle.tcmu_model.specs.Picture.{place_of}
+use Rattle.tcmu_model.proofs.Everies.{every-filter}
+use Rattle.tcmu_model.proofs.Laying.{drop_laid, serials-append}
+use Rattle.tcmu_model.specs.Sides.{InHand, PendingRow, UserState}
+use Rattle.tcmu_model.specs.Represents.{AreGiven, AreNoteIds, AreOut, IsNoteId, JobsStand, NotesStand, UserKeeps, command_places, entry_at, ids_in, is_out, recorded}
+use Rattle.ring_laws.proofs.Places.{laid_with, LaidCase, laid_case, Old, Padding, New, take-laid}
+use Rattle.ring_laws.proofs.LaidEntry.{laid_in}
+use Rattle.ring_laws.proofs.SameJobs.{HasSame, given_same, outs_same}
+
+-- ==== the notes
+
+-- the entries that are not cleared stay as they are
+abbrev pub SameEntries : List ℕ → List ℕ → DeviceState → Type 0
+SameEntries front front' d = (i : ℕ) (x : Item) → d.ring.cleared ≤ i → slice_get d.ring.laid i ≡ Some x → entry_at front' (place_of d.ring i) x.len ≡ entry_at front (place_of d.ring i) x.len
+
+serials-pads : (n : ℕ) → serials_in (pads n) ≡ []
+serials-pads n =
+    ⊎_elim
+    (λ (z : eqb n 0 ≡ true). rw z refl)
+    (λ (z : eqb n 0 ≡ false). rw z refl)
+    (cases_Bool (eqb n 0))
+
+-- the serials behind an item that was there
+serials_behind : (r : RingState) (it : Item) (i : ℕ) → i ≤ length r.laid → serials_in (drop i (laid_with r it)) ≡ serials_in (drop i r.laid) ++ serial_in it
+serials_behind r it i h =
+    let p = pads (ring.pad r it.len) in
+    ap serials_in (drop_laid r it i h)
+    ∙ serials-append (drop i r.laid ++ p) (it ∷ [])
+    ∙ ap (λ xs. xs ++ serials_in (it ∷ [])) (serials-append (drop i r.laid) p ∙ ap (λ xs. serials_in (drop i r.laid) ++ xs) (serials-pads (ring.pad r it.len)) ∙ append-nil (serials_in (drop i r.laid)))
+    ∙ ap (λ xs. serials_in (drop i r.laid) ++ xs) (append-nil (serial_in it))
+
+note_ids_all : (rows rows' : List PendingRow) (behind behind' : List ℕ) → ((s id : ℕ) → IsNoteId rows behind s id → IsNoteId rows' behind' s id) → (ss ids : List ℕ) → AreNoteIds rows behind ss ids → AreNoteIds rows' behind' ss ids
+note_ids_all rows rows' behind behind' f [] [] h = h
+note_ids_all rows rows' behind behind' f [] (id ∷ ids) h = absurd h
+note_ids_all rows rows' behind behind' f (s ∷ ss) [] h = absurd h
+note_ids_all rows rows' behind behind' f (s ∷ ss) (id ∷ ids) h = (f s id h.0, note_ids_all rows rows' behind behind' f ss ids h.1)
+
+-- the ids of a note stay right where they stay right for each of its serials; those of a note that is laid are to be right
+pub notes_laid : (front front' : List ℕ) (rows rows' : List PendingRow) (d : DeviceState) (it : Item) (us : List Unfinished) → IsSound d → SameEntries front front' d →
+    ((behind : List ℕ) (s id : ℕ) → IsNoteId rows behind s id → IsNoteId rows' (behind ++ serial_in it) s id) →
+    ((i n kind : ℕ) (ss : List ℕ) → i ≡ length (d.ring.laid ++ pads (ring.pad d.ring it.len)) → it ≡ record { len = n; laid = ring.Tmr kind ss } → AreNoteIds rows' (serials_in (drop i (laid_with d.ring it))) ss (ids_in (length ss) 32 (entry_at front' (place_of (with_item d.ring it) i) n))) →
+    NotesStand front rows d → NotesStand front' rows' (laid_in d it us)
+notes_laid front front' rows rows' d it us sound same old new h =
+    λ i n kind ss dp g. by_case i n kind ss dp (laid_case d.ring it i (record { len = n; laid = ring.Tmr kind ss }) g)
+  where
+    by_case : (i n kind : ℕ) (ss : List ℕ) → d.ring.dispatched ≤ i → LaidCase d.ring it i (record { len = n; laid = ring.Tmr kind ss }) → AreNoteIds rows' (serials_in (drop i (laid_with d.ring it))) ss (ids_in (length ss) 32 (entry_at front' (place_of (with_item d.ring it) i) n))
+    by_case i n kind ss dp (Old l g) =
+        let c0 : d.ring.cleared ≤ d.ring.published = sound.ring.cleared in
+        let c1 : d.ring.published ≤ d.ring.dispatched = sound.ring.published in
+        let b : serials_in (drop i (laid_with d.ring it)) ≡ serials_in (drop i d.ring.laid) ++ serial_in it = serials_behind d.ring it i (omega arith) in
+        let at : place_of (with_item d.ring it) i ≡ place_of d.ring i = ap (λ xs. lengths xs % d.ring.size) (take-laid d.ring it i (omega arith)) in
+        let e : entry_at front' (place_of (with_item d.ring it) i) n ≡ entry_at front (place_of d.ring i) n = ap (λ z. entry_at front' z n) at ∙ same i (record { len = n; laid = ring.Tmr kind ss }) (omega (arith, c0, c1, dp)) g in
+        let all : AreNoteIds rows' (serials_in (drop i d.ring.laid) ++ serial_in it) ss (ids_in (length ss) 32 (entry_at front (place_of d.ring i) n)) =
+        note_ids_all rows rows' (serials_in (drop i d.ring.laid)) (serials_in (drop i d.ring.laid) ++ serial_in it) (old (serials_in (drop i d.ring.laid))) ss (ids_in (length ss) 32 (entry_at front (place_of d.ring i) n)) (h i n kind ss dp g) in
+        subst (λ (xs : List ℕ). AreNoteIds rows' xs ss (ids_in (length ss) 32 (entry_at front' (place_of (with_item d.ring it) i) n))) (sym b)
+        (subst (λ (y : List ℕ). AreNoteIds rows' (serials_in (drop i d.ring.laid) ++ serial_in it) ss (ids_in (length ss) 32 y)) (sym e) all)
+    by_case i n kind ss dp (Padding a b e) = absurd (false≢true (ap is_pad e))
+    by_case i n kind ss dp (New a e) = new i n kind ss a (sym e)
+
+-- ==== the jobs
+
+pub jobs_laid : (user : UserState) (hand : List InHand) (rows rows' : List PendingRow) (d : DeviceState) (lists lists' : List Taken) (it : Item) (us : List Unfinished) → IsSound d →
+    filter is_in_hand us ≡ filter is_in_hand d.unfinished → filter is_out us ≡ filter is_out d.unfinished → Every (HasSame rows rows' lists lists') d.unfinished →
+    JobsStand user hand rows d lists → JobsStand user hand rows' (laid_in d it us) lists'
+jobs_laid user hand rows rows' d lists lists' it us sound hs os same h =
+    record {
+      given = subst (AreGiven d.settings rows' lists' user.jobs) (sym hs) (given_same d.settings rows rows' lists lists' user.jobs (filter is_in_hand d.unfinished) (every-filter is_in_hand (HasSame rows rows' lists lists') d.unfinished same) h.given);
+      out = subst (AreOut d.settings rows' lists' hand) (sym os) (outs_same d.settings rows rows' lists lists' hand (filter is_out d.unfinished) (every-filter is_out (HasSame rows rows' lists lists') d.unfinished same) h.out);
+      offsets = h.offsets ∙ ap (λ (xs : List Item). drop (length d.placed) (command_places d.ring.size 0 xs)) (sym (take-laid d.ring it d.ring.dispatched sound.ring.dispatched));
+    }
+
+-- ==== the user side
+
+pub side_laid : (user : UserState) (d : DeviceState) (it : Item) (us : List Unfinished) → IsSound d → UserKeeps user d → UserKeeps user (laid_in d it us)
+side_laid user d it us sound h =
+    let c1 : d.ring.published ≤ d.ring.dispatched = sound.ring.published in
+    let c2 : d.ring.dispatched ≤ length d.ring.laid = sound.ring.dispatched in
+    let tp : take d.ring.published d.ring.laid ≡ take d.ring.published (laid_with d.ring it) = sym (take-laid d.ring it d.ring.published (omega arith)) in
+    let td : take d.ring.dispatched d.ring.laid ≡ take d.ring.dispatched (laid_with d.ring it) = sym (take-laid d.ring it d.ring.dispatched c2) in
+    record {
+      ring = h.ring;
+      pages = h.pages;
+      flags = h.flags;
+      tail = h.tail ∙ ap (λ xs. lengths xs % d.ring.size) tp;
+      dispatched = h.dispatched ∙ ap commands_in td;
+      placed = h.placed;
+      published = h.published ∙ ap commands_in tp;
+      place = λ a. h.place a ∙ ap (λ xs. lengths xs % d.ring.size) td;
+      items = λ a. h.items a ∙ ap (λ (xs : List Item). map recorded (drop d.ring.published xs)) td;
+    }

@@ -1,0 +1,48 @@
+-- The bytes of a note: how many they are, and that its ids are read as they were written.
+use Rattle.std.proofs.Common.{◌≡◌, ℕ, ◌+◌, ◌-◌, ◌*◌, ◌^◌, ◌≤◌, ◌<◌, List, [], ◌∷◌, ◌++◌, length, refl, sym, ap, ◌∙◌, arith, append_assoc, length-append}
+use Rattle.tcmu_model.specs.Lengths.{tmr_length}
+use Rattle.tcmu_model.specs.Sound.{Every}
+use Rattle.tcmu_model.specs.Layout.{entry_header, field, ids_bytes, le, padded, tmr_bytes, zeros}
+use Rattle.tcmu_model.specs.Represents.{ids_in}
+use Rattle.tcmu_model.proofs.Written.{field-in, length-entry_header, length-le, length-padded, lengths}
+
+-- what stands before the ids
+note_head : ℕ → ℕ → List ℕ
+note_head kind count = entry_header 2 (tmr_length count) 0 ++ le 1 kind ++ zeros 3 ++ le 4 count ++ zeros 16
+
+length-note_head : (kind count : ℕ) → length (note_head kind count) ≡ 32
+unfolding note_head
+length-note_head kind count = omega (lengths, length-entry_header 2 (tmr_length count) 0)
+
+length-ids : (ids : List ℕ) → length (ids_bytes ids) ≡ 2 * length ids
+length-ids [] = refl
+length-ids (id ∷ ids) =
+    let rest : length (ids_bytes ids) ≡ 2 * length ids = length-ids ids in
+    length-append (le 2 id) (ids_bytes ids) ∙ omega (arith, rest, length-le 2 id)
+
+inside : (kind : ℕ) (ids : List ℕ) → length (note_head kind (length ids) ++ ids_bytes ids) ≤ tmr_length (length ids)
+inside kind ids =
+    let up : 32 + 2 * length ids ≤ tmr_length (length ids) = omega arith in
+    omega (arith, up, length-append (note_head kind (length ids)) (ids_bytes ids), length-note_head kind (length ids), length-ids ids)
+
+pub length-note : (kind : ℕ) (ids : List ℕ) → length (tmr_bytes kind ids) ≡ tmr_length (length ids)
+unfolding tmr_bytes note_head
+length-note kind ids = length-padded (tmr_length (length ids)) (note_head kind (length ids) ++ ids_bytes ids) (inside kind ids)
+
+ids_read : (front ids rest : List ℕ) (at : ℕ) → at ≡ length front → Every (λ id. id < 2 ^ 16) ids → ids_in (length ids) at (front ++ (ids_bytes ids ++ rest)) ≡ ids
+ids_read front [] rest at h small = refl
+ids_read front (id ∷ ids) rest at h small =
+    let whole : front ++ ((le 2 id ++ ids_bytes ids) ++ rest) ≡ (front ++ le 2 id) ++ (ids_bytes ids ++ rest) =
+    ap (λ xs. front ++ xs) (append_assoc (le 2 id) (ids_bytes ids) rest) ∙ sym (append_assoc front (le 2 id) (ids_bytes ids ++ rest)) in
+    let one : field 2 at (front ++ ((le 2 id ++ ids_bytes ids) ++ rest)) ≡ id = field-in 2 at id front (ids_bytes ids ++ rest) (front ++ ((le 2 id ++ ids_bytes ids) ++ rest)) whole h small.0 in
+    let more : at + 2 ≡ length (front ++ le 2 id) = let l : length (front ++ le 2 id) ≡ length front + 2 = length-append front (le 2 id) ∙ ap (λ n. length front + n) (length-le 2 id) in omega arith in
+    ap (λ n. n ∷ ids_in (length ids) (at + 2) (front ++ ((le 2 id ++ ids_bytes ids) ++ rest))) one
+    ∙ ap (λ xs. id ∷ ids_in (length ids) (at + 2) xs) whole
+    ∙ ap (λ ns. id ∷ ns) (ids_read (front ++ le 2 id) ids rest (at + 2) more small.1)
+
+pub ids_again : (kind : ℕ) (ids : List ℕ) → Every (λ id. id < 2 ^ 16) ids → ids_in (length ids) 32 (tmr_bytes kind ids) ≡ ids
+unfolding tmr_bytes note_head padded
+ids_again kind ids small =
+    let head : List ℕ = note_head kind (length ids) in
+    let rest : List ℕ = zeros (tmr_length (length ids) - length (head ++ ids_bytes ids)) in
+    ap (ids_in (length ids) 32) (append_assoc head (ids_bytes ids) rest) ∙ ids_read head ids rest 32 (sym (length-note_head kind (length ids))) small

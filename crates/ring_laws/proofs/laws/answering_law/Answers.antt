@@ -1,5 +1,0 @@
-use Rattle.ring_laws.proofs.Answering.{submit_same, enter_same, block_same}
-use Rattle.ring_laws.proofs.laws.answering_law.Goals as goal
-
-pub returns : goal.returns
-returns c = record { submit = submit_same; enter = enter_same; block = block_same }

@@ -1,0 +1,20 @@
+use Rattle.ring_laws.proofs.Kept.{stands_laid, ids_stand_laid, target_stands_laid}
+use Rattle.ring_laws.proofs.LaidBlocks.{blocks_stand_laid}
+use Rattle.ring_laws.proofs.LaidLists.{lists_sound_laid}
+use Rattle.ring_laws.proofs.LaidCommands.{notes_stand_laid, jobs_stand_laid, side_stands_laid, pages_laid, sized_laid}
+use Rattle.ring_laws.proofs.laying.laying_law.Goals as goal
+
+pub returns : goal.returns
+returns c =
+    record {
+      ring = stands_laid;
+      ids = ids_stand_laid;
+      notes = notes_stand_laid;
+      blocks = blocks_stand_laid;
+      jobs = jobs_stand_laid;
+      target = target_stands_laid;
+      side = side_stands_laid;
+      lists = lists_sound_laid;
+      pages = pages_laid;
+      sized = sized_laid;
+    }

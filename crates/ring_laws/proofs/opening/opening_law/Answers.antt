@@ -1,0 +1,5 @@
+use Rattle.ring_laws.proofs.Opened.{represents_opening, lists_sound_opening}
+use Rattle.ring_laws.proofs.opening.opening_law.Goals as goal
+
+pub returns : goal.returns
+returns c = record { represents = represents_opening; lists = lists_sound_opening }
