@@ -40,6 +40,7 @@ pub mod RespondedJobs
 pub mod ParkedJobs
 pub mod SameJobs
 pub mod LaidPoints
+pub mod Sized
 pub mod LaidCommands
 pub mod NoteBytes
 pub mod Noted
