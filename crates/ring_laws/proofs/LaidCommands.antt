@@ -1,5 +1,5 @@
 -- A command is laid: the notes, the jobs, the user side, and the sizes of the blocks.
-use Rattle.std.proofs.Common.{◌≡◌, ℕ, ◌-◌, ◌≤◌, ◌<◌, ◌⊎◌, inl, inr, true, false, List, [], ◌∷◌, ◌++◌, length, take, drop, replicate, filter, set, refl, sym, ap, ◌∙◌, arith, suc, zero, Option, Some, None, slice_get, append-nil, length-append, length-take, length-drop, ⊎_elim, eqb}
+use Rattle.std.proofs.Common.{◌≡◌, ℕ, ◌-◌, ◌≤◌, ◌<◌, ◌⊎◌, inl, inr, true, false, List, [], ◌∷◌, ◌++◌, length, replicate, filter, refl, sym, ap, ◌∙◌, arith, Option, Some, None, append-nil, ⊎_elim, eqb}
 use Rattle.std.specs.Option.{option_map}
 use Rattle.std.proofs.lemmas.Bool.{cases_Bool, false≢true, or_left}
 use Rattle.std.proofs.lemmas.List.Elements.{filter-append}
@@ -12,11 +12,9 @@ use Rattle.tcmu_model.specs.Events.{is_among, is_in_hand, waiting, with_command}
 use Rattle.tcmu_model.specs.Sound.{IsSound, Every}
 use Rattle.tcmu_model.specs.BlockLists.{Taken, blocks_taken, held_by, least_free, with_taken}
 use Rattle.tcmu_model.specs.Layout.{zeros}
-use Rattle.tcmu_model.specs.Regions.{AreSized, RegionState, home}
-use Rattle.tcmu_model.specs.Areas.{over, written_along}
+use Rattle.tcmu_model.specs.Regions.{AreSized, RegionState}
 use Rattle.tcmu_model.proofs.Everies.{every-weaker}
 use Rattle.tcmu_model.proofs.Rises.{among-append, among-here}
-use Rattle.tcmu_model.proofs.Written.{length-zeros}
 use Rattle.tcmu_model.specs.Sides.{InHand, PendingRow, TargetState, UserState}
 use Rattle.tcmu_model.specs.Represents.{IsId, IsNoteId, JobsStand, NotesStand, RingStands, TargetKeeps, UserKeeps, has_id, is_out, row_has, serial_with}
 use Rattle.tcmu_model.specs.TargetSteps.{block_data, blocks_given, region_laid, row_of, target_laid}
@@ -25,6 +23,7 @@ use Rattle.ring_laws.proofs.Submit.{first-append, first-here, not_below, cmd_ite
 use Rattle.ring_laws.proofs.Kept.{entries_laid, lists_below, rows_below}
 use Rattle.ring_laws.proofs.LaidPoints.{jobs_laid, notes_laid, side_laid}
 use Rattle.ring_laws.proofs.SameJobs.{HasSame}
+use Rattle.ring_laws.proofs.Sized.{sized_along, sized_grown}
 
 -- ==== the notes
 
@@ -96,29 +95,6 @@ unfolding with_command
 side_stands_laid user d s c sound keeps = side_laid user d (cmd_item d s c) (with_waiting d s c) sound keeps
 
 -- ==== the sizes of the blocks
-
-sized_over : (size : ℕ) (area : List (Option (List ℕ))) (n : ℕ) (bytes : List ℕ) → length bytes ≤ size → AreSized size area → AreSized size (set area n (over bytes (home (slice_get area n))))
-sized_over size [] n bytes l h = tt
-sized_over size (None ∷ area) zero bytes l h = h
-sized_over size (Some block ∷ area) zero bytes l h =
-    let e : length block ≡ size = h.0 in
-    (length-append bytes (drop (length bytes) block) ∙ omega (arith, length-drop (length bytes) block, e, l), h.1)
-sized_over size (None ∷ area) (suc n) bytes l h = sized_over size area n bytes l h
-sized_over size (Some block ∷ area) (suc n) bytes l h = (h.0, sized_over size area n bytes l h.1)
-
-sized_along : (size : ℕ) (area : List (Option (List ℕ))) (bs : List ℕ) (bytes : List ℕ) → AreSized size area → AreSized size (written_along size area bs bytes)
-sized_along size area [] bytes h = h
-sized_along size area (b ∷ bs) bytes h =
-    sized_along size (set area b (over (take size bytes) (home (slice_get area b)))) bs (drop size bytes) (sized_over size area b (take size bytes) (omega (arith, length-take size bytes)) h)
-
-sized_new : (size n : ℕ) → AreSized size (replicate n (Some (zeros size)))
-sized_new size zero = tt
-sized_new size (suc n) = (length-zeros size, sized_new size n)
-
-sized_grown : (size : ℕ) (area : List (Option (List ℕ))) (n : ℕ) → AreSized size area → AreSized size (area ++ replicate n (Some (zeros size)))
-sized_grown size [] n h = sized_new size n
-sized_grown size (None ∷ area) n h = sized_grown size area n h
-sized_grown size (Some block ∷ area) n h = (h.0, sized_grown size area n h.1)
 
 pub sized_laid : (r : RegionState) (t : TargetState) (c : CommandData) (id : ℕ) → AreSized (block_size r.pages) r.blocks → AreSized (block_size (region_laid r t c id).pages) (region_laid r t c id).blocks
 unfolding region_laid

@@ -46,6 +46,7 @@ pub mod Responds
 pub mod HandTells
 pub mod SameJobs
 pub mod LaidPoints
+pub mod Sized
 pub mod LaidCommands
 pub mod NoteBytes
 pub mod Noted

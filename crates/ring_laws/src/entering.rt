@@ -1,16 +1,16 @@
 //! What a delayed command that enters keeps.
 ghost use Rattle.std.specs.Prelude.{◌≡◌, ℕ, false, List, ◌∷◌, map};
 ghost use Rattle.tcmu_types.specs.declared.answer.Enter.TheVariants.{Entered};
-ghost use Rattle.tcmu_model.specs.Lengths.{block_size};
 ghost use Rattle.tcmu_model.specs.Device.{Delayed, DeviceState};
 ghost use Rattle.tcmu_model.specs.Events.{after_enter, enter_answer, is_among};
 ghost use Rattle.tcmu_model.specs.BlockLists.{Taken, with_taken};
-ghost use Rattle.tcmu_model.specs.Regions.{AreSized, RegionState};
+ghost use Rattle.tcmu_model.specs.Regions.{RegionState};
 ghost use Rattle.tcmu_model.specs.Sound.{IsSound};
 ghost use Rattle.tcmu_model.specs.Sides.{InHand, TargetState, UserState};
 ghost use Rattle.tcmu_model.specs.TargetSteps.{region_entered, target_entered};
 ghost use Rattle.tcmu_model.specs.Owned.{ListsSound};
 ghost use Rattle.tcmu_model.specs.Represents.{BlocksStand, IdsStand, IsId, JobsStand, NotesStand, RingStands, TargetKeeps, UserKeeps};
+ghost use Rattle.ring_laws.specs.Sizes.{IsSized};
 
 /// The first command that waits enters: the answer's serial is its own, and every point is kept, as laying does.
 pub fn enter_law()
@@ -28,7 +28,7 @@ pub fn enter_law()
         d.delayed ≡ w ∷ ws → enter_answer d ≡ Entered s →
         NotesStand (region_entered r t id (Entered s)).front (target_entered t id (Entered s)).rows (after_enter d (Entered s)) }
     ensures blocks { (r : RegionState) (t : TargetState) (d : DeviceState) (lists : List Taken) (w : Delayed) (ws : List Delayed) (s id : ℕ) →
-        IsSound d → ListsSound d lists → AreSized (block_size r.pages) r.blocks → r.pages ≡ d.settings.pages → BlocksStand r.blocks d lists →
+        IsSound d → ListsSound d lists → IsSized r → r.pages ≡ d.settings.pages → BlocksStand r.blocks d lists →
         TargetKeeps t d lists → d.delayed ≡ w ∷ ws → enter_answer d ≡ Entered s →
         BlocksStand (region_entered r t id (Entered s)).blocks (after_enter d (Entered s)) (with_taken d lists w.serial w.command) }
     ensures jobs { (user : UserState) (hand : List InHand) (t : TargetState) (d : DeviceState) (lists : List Taken) (w : Delayed) (ws : List Delayed) (s id : ℕ) →
@@ -43,6 +43,5 @@ pub fn enter_law()
         IsSound d → ListsSound d lists → d.delayed ≡ w ∷ ws → enter_answer d ≡ Entered s → ListsSound (after_enter d (Entered s)) (with_taken d lists w.serial w.command) }
     ensures pages { (r : RegionState) (t : TargetState) (d : DeviceState) (lists : List Taken) (w : Delayed) (ws : List Delayed) (s id : ℕ) →
         TargetKeeps t d lists → d.delayed ≡ w ∷ ws → r.pages ≡ d.settings.pages → (region_entered r t id (Entered s)).pages ≡ (after_enter d (Entered s)).settings.pages }
-    ensures sized { (r : RegionState) (t : TargetState) (s id : ℕ) → AreSized (block_size r.pages) r.blocks →
-        AreSized (block_size (region_entered r t id (Entered s)).pages) (region_entered r t id (Entered s)).blocks }
+    ensures sized { (r : RegionState) (t : TargetState) (s id : ℕ) → IsSized r → IsSized (region_entered r t id (Entered s)) }
 {}

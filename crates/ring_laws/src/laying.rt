@@ -1,17 +1,17 @@
 //! What laying a command keeps, at a submit or when it enters.
 ghost use Rattle.std.specs.Prelude.{◌≡◌, ◌<◌, ℕ, false, List, map};
 ghost use Rattle.tcmu_types.specs.Data.{CommandData};
-ghost use Rattle.tcmu_model.specs.Lengths.{block_size};
 ghost use Rattle.tcmu_model.specs.RingState.{serials_in};
 ghost use Rattle.tcmu_model.specs.Device.{DeviceState};
 ghost use Rattle.tcmu_model.specs.Events.{is_among, with_command};
 ghost use Rattle.tcmu_model.specs.BlockLists.{Taken, with_taken};
-ghost use Rattle.tcmu_model.specs.Regions.{AreSized, RegionState};
+ghost use Rattle.tcmu_model.specs.Regions.{RegionState};
 ghost use Rattle.tcmu_model.specs.Sound.{Every, IsSound};
 ghost use Rattle.tcmu_model.specs.Sides.{InHand, TargetState, UserState};
 ghost use Rattle.tcmu_model.specs.TargetSteps.{region_laid, target_laid};
 ghost use Rattle.tcmu_model.specs.Owned.{HasRoom, ListsSound};
 ghost use Rattle.tcmu_model.specs.Represents.{BlocksStand, IdsStand, IsId, JobsStand, NotesStand, RingStands, TargetKeeps, UserKeeps};
+ghost use Rattle.ring_laws.specs.Sizes.{IsSized};
 
 /// A command is laid, at a submit or when it enters, under an id that none has. The ring stands, with the ids in it; a note's id that none
 /// held may be the new command's, which is laid behind the note. The blocks stand with their data, where the new ones are cleared or have the
@@ -30,7 +30,7 @@ pub fn laying_law()
         IsId id → Every (λ k. k < s) (serials_in d.ring.laid) →
         NotesStand (region_laid r t c id).front (target_laid t s c id).rows (with_command d s c) }
     ensures blocks { (r : RegionState) (t : TargetState) (d : DeviceState) (lists : List Taken) (s : ℕ) (c : CommandData) (id : ℕ) →
-        IsSound d → ListsSound d lists → AreSized (block_size r.pages) r.blocks → r.pages ≡ d.settings.pages → BlocksStand r.blocks d lists →
+        IsSound d → ListsSound d lists → IsSized r → r.pages ≡ d.settings.pages → BlocksStand r.blocks d lists →
         TargetKeeps t d lists → HasRoom d c → Every (λ k. k < s) (serials_in d.ring.laid) →
         BlocksStand (region_laid r t c id).blocks (with_command d s c) (with_taken d lists s c) }
     ensures jobs { (user : UserState) (hand : List InHand) (t : TargetState) (d : DeviceState) (lists : List Taken) (s : ℕ) (c : CommandData) (id : ℕ) →
@@ -44,6 +44,5 @@ pub fn laying_law()
         Every (λ k. k < s) (serials_in d.ring.laid) → ListsSound (with_command d s c) (with_taken d lists s c) }
     ensures pages { (r : RegionState) (t : TargetState) (d : DeviceState) (s : ℕ) (c : CommandData) (id : ℕ) →
         r.pages ≡ d.settings.pages → (region_laid r t c id).pages ≡ (with_command d s c).settings.pages }
-    ensures sized { (r : RegionState) (t : TargetState) (c : CommandData) (id : ℕ) →
-        AreSized (block_size r.pages) r.blocks → AreSized (block_size (region_laid r t c id).pages) (region_laid r t c id).blocks }
+    ensures sized { (r : RegionState) (t : TargetState) (c : CommandData) (id : ℕ) → IsSized r → IsSized (region_laid r t c id) }
 {}

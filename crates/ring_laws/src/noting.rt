@@ -2,17 +2,17 @@
 ghost use Rattle.std.specs.Prelude.{◌≡◌, ℕ, true, List};
 ghost use Rattle.tcmu_types.specs.declared.answer.Tmr.{Tmr};
 ghost use Rattle.tcmu_types.specs.declared.answer.Tmr.TheVariants.{Noted};
-ghost use Rattle.tcmu_model.specs.Lengths.{block_size};
 ghost use Rattle.tcmu_model.specs.Device.{DeviceState};
 ghost use Rattle.tcmu_model.specs.Events.{after_tmr, tmr_answer};
 ghost use Rattle.tcmu_model.specs.BlockLists.{Taken};
-ghost use Rattle.tcmu_model.specs.Regions.{AreSized, RegionState};
+ghost use Rattle.tcmu_model.specs.Regions.{RegionState};
 ghost use Rattle.tcmu_model.specs.Sound.{IsSound};
 ghost use Rattle.tcmu_model.specs.Sides.{InHand, TargetState, UserState};
 ghost use Rattle.tcmu_model.specs.Represents.{BlocksStand, IdsStand, JobsStand, NotesStand, RingStands, TargetKeeps, UserKeeps};
 ghost use Rattle.tcmu_model.specs.TargetSteps.{region_noted, target_noted, target_tmr_answer};
 ghost use Rattle.tcmu_model.specs.Owned.{ListsSound};
 ghost use Rattle.ring_laws.specs.Refused.{is_unnoted};
+ghost use Rattle.ring_laws.specs.Sizes.{IsSized};
 
 /// The target answers as the device. A note that is laid stands in the ring with the ids of its serials' commands, each of which holds its own;
 /// no command's id, block or job is touched, and both sides' records and the soundness of the block lists are kept. At any other answer nothing
@@ -39,8 +39,7 @@ pub fn tmr_law()
     ensures lists { (d : DeviceState) (lists : List Taken) (kind : ℕ) (ss : List ℕ) → ListsSound d lists → ListsSound (after_tmr d kind ss Noted) lists }
     ensures pages { (r : RegionState) (t : TargetState) (d : DeviceState) (kind : ℕ) (ss : List ℕ) →
         r.pages ≡ d.settings.pages → (region_noted r t kind ss Noted).pages ≡ (after_tmr d kind ss Noted).settings.pages }
-    ensures sized { (r : RegionState) (t : TargetState) (kind : ℕ) (ss : List ℕ) → AreSized (block_size r.pages) r.blocks →
-        AreSized (block_size (region_noted r t kind ss Noted).pages) (region_noted r t kind ss Noted).blocks }
+    ensures sized { (r : RegionState) (t : TargetState) (kind : ℕ) (ss : List ℕ) → IsSized r → IsSized (region_noted r t kind ss Noted) }
     ensures refused { (r : RegionState) (t : TargetState) (d : DeviceState) (kind : ℕ) (ss : List ℕ) (a : Tmr) →
         is_unnoted a ≡ true → (after_tmr d kind ss a ≡ d) × (target_noted t ss a ≡ t) × (region_noted r t kind ss a ≡ r) }
 {}

@@ -2,16 +2,16 @@
 ghost use Rattle.std.specs.Prelude.{◌≡◌, ℕ, false, List, map};
 ghost use Rattle.tcmu_types.specs.Data.{CommandData};
 ghost use Rattle.tcmu_types.specs.declared.answer.Submit.TheVariants.{Queued};
-ghost use Rattle.tcmu_model.specs.Lengths.{block_size};
 ghost use Rattle.tcmu_model.specs.Device.{DeviceState};
 ghost use Rattle.tcmu_model.specs.Events.{after_submit, is_among, submit_answer};
 ghost use Rattle.tcmu_model.specs.BlockLists.{Taken, with_taken};
-ghost use Rattle.tcmu_model.specs.Regions.{AreSized, RegionState};
+ghost use Rattle.tcmu_model.specs.Regions.{RegionState};
 ghost use Rattle.tcmu_model.specs.Sound.{IsSound};
 ghost use Rattle.tcmu_model.specs.Sides.{InHand, TargetState, UserState};
 ghost use Rattle.tcmu_model.specs.TargetSteps.{region_submitted, target_submitted};
 ghost use Rattle.tcmu_model.specs.Owned.{ListsSound};
 ghost use Rattle.tcmu_model.specs.Represents.{BlocksStand, IdsStand, IsId, JobsStand, NotesStand, RingStands, TargetKeeps, UserKeeps};
+ghost use Rattle.ring_laws.specs.Sizes.{IsSized};
 
 /// A submit that queues a command keeps every point, as laying does.
 pub fn submit_law()
@@ -27,7 +27,7 @@ pub fn submit_law()
         submit_answer d c ≡ Queued s →
         NotesStand (region_submitted r t c id (Queued s)).front (target_submitted t c id (Queued s)).rows (after_submit d c (Queued s)) }
     ensures blocks { (r : RegionState) (t : TargetState) (d : DeviceState) (lists : List Taken) (s : ℕ) (c : CommandData) (id : ℕ) →
-        IsSound d → ListsSound d lists → AreSized (block_size r.pages) r.blocks → r.pages ≡ d.settings.pages → BlocksStand r.blocks d lists →
+        IsSound d → ListsSound d lists → IsSized r → r.pages ≡ d.settings.pages → BlocksStand r.blocks d lists →
         TargetKeeps t d lists → submit_answer d c ≡ Queued s →
         BlocksStand (region_submitted r t c id (Queued s)).blocks (after_submit d c (Queued s)) (with_taken d lists s c) }
     ensures jobs { (user : UserState) (hand : List InHand) (t : TargetState) (d : DeviceState) (lists : List Taken) (s : ℕ) (c : CommandData) (id : ℕ) →
@@ -41,6 +41,5 @@ pub fn submit_law()
         IsSound d → ListsSound d lists → submit_answer d c ≡ Queued s → ListsSound (after_submit d c (Queued s)) (with_taken d lists s c) }
     ensures pages { (r : RegionState) (t : TargetState) (d : DeviceState) (s : ℕ) (c : CommandData) (id : ℕ) →
         r.pages ≡ d.settings.pages → (region_submitted r t c id (Queued s)).pages ≡ (after_submit d c (Queued s)).settings.pages }
-    ensures sized { (r : RegionState) (t : TargetState) (s : ℕ) (c : CommandData) (id : ℕ) → AreSized (block_size r.pages) r.blocks →
-        AreSized (block_size (region_submitted r t c id (Queued s)).pages) (region_submitted r t c id (Queued s)).blocks }
+    ensures sized { (r : RegionState) (t : TargetState) (s : ℕ) (c : CommandData) (id : ℕ) → IsSized r → IsSized (region_submitted r t c id (Queued s)) }
 {}
