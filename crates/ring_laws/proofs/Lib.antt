@@ -38,3 +38,4 @@ pub mod ParkedKept
 pub mod RespondedKept
 pub mod RespondedJobs
 pub mod ParkedJobs
+pub mod Lending
