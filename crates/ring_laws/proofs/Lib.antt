@@ -39,3 +39,4 @@ pub mod RespondedKept
 pub mod RespondedJobs
 pub mod ParkedJobs
 pub mod Lending
+pub mod MailboxThere
