@@ -40,3 +40,5 @@ pub mod RespondedJobs
 pub mod ParkedJobs
 pub mod Lending
 pub mod MailboxThere
+pub mod EntriesThere
+pub mod PassedItems
