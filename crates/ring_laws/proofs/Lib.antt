@@ -42,3 +42,4 @@ pub mod Lending
 pub mod MailboxThere
 pub mod EntriesThere
 pub mod PassedItems
+pub mod Sending
