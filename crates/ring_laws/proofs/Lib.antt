@@ -43,3 +43,4 @@ pub mod MailboxThere
 pub mod EntriesThere
 pub mod PassedItems
 pub mod Sending
+pub mod JobRead

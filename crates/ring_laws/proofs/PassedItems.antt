@@ -197,7 +197,7 @@ pads_front (x ∷ xs) j h =
     first zero h p more = (x.len, ap (λ (l : Laid). Some (record { len = x.len; laid = l })) p)
     first (suc j) h p more = more j (omega arith)
 
-get-dropped : {X : Type 0} (xs : List X) (i j : ℕ) → slice_get xs (i + j) ≡ slice_get (drop i xs) j
+pub get-dropped : {X : Type 0} (xs : List X) (i j : ℕ) → slice_get xs (i + j) ≡ slice_get (drop i xs) j
 get-dropped xs zero j = let z : 0 + j ≡ j = omega arith in ap (slice_get xs) z
 get-dropped [] (suc i) j = refl
 get-dropped (x ∷ xs) (suc i) j = let z : suc i + j ≡ suc (i + j) = omega arith in ap (slice_get (x ∷ xs)) z ∙ get-dropped xs i j

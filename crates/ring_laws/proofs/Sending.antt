@@ -20,6 +20,7 @@ use Rattle.tcmu_model.proofs.Everies.{every-weaker, every-both, every-front, eve
 use Rattle.tcmu_model.proofs.Facts.{waiting_rows, waiting_undispatched}
 use Rattle.tcmu_model.proofs.Rises.{rise_seam, rise_within, not_among, not_above}
 use Rattle.tcmu_model.proofs.Rows.{undispatched_waits}
+use Rattle.ring_laws.proofs.PassedItems.{get-dropped}
 
 -- ==== lists
 
@@ -54,11 +55,6 @@ behind_pads (y ∷ xs) k x e g =
         ((j : ℕ) → j ≡ prefix_len is_pad xs → slice_get xs j ≡ Some x → serials_in xs ≡ serial_in x ++ serials_in (drop (suc j) xs)) → serials_in (y ∷ xs) ≡ serial_in x ++ serials_in (drop (suc k) (y ∷ xs))
     padded zero e g n more = absurd (omega (arith, e))
     padded (suc k) e g n more = ap (λ ys. ys ++ serials_in xs) n ∙ more k (omega (arith, e)) g
-
-get-dropped : {X : Type 0} (xs : List X) (i j : ℕ) → slice_get xs (i + j) ≡ slice_get (drop i xs) j
-get-dropped xs zero j = let z : 0 + j ≡ j = omega arith in ap (slice_get xs) z
-get-dropped [] (suc i) j = refl
-get-dropped (x ∷ xs) (suc i) j = let z : suc i + j ≡ suc (i + j) = omega arith in ap (slice_get (x ∷ xs)) z ∙ get-dropped xs i j
 
 -- the serials that are not dispatched begin with the next item's
 pub next_serials : (d : DeviceState) (x : Item) → next_item d ≡ Some x →
