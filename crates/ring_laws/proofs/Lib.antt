@@ -44,3 +44,4 @@ pub mod EntriesThere
 pub mod PassedItems
 pub mod Sending
 pub mod JobRead
+pub mod Nexts
