@@ -45,3 +45,5 @@ pub mod PassedItems
 pub mod Sending
 pub mod JobRead
 pub mod Nexts
+pub mod NextCases
+pub mod DispatchKept

@@ -45,7 +45,7 @@ use Rattle.ring_laws.proofs.MailboxThere.{mailbox_of}
 use Rattle.ring_laws.proofs.PassedItems.{CanPass, Comes, Within, comes_to, comes_to_head, item_there, item_within, passed_one, passed_to, ring_is, get-dropped}
 use Rattle.ring_laws.proofs.Sending.{Sends, sends, first-split}
 
-can_pass : (r : RegionState) (t : TargetState) (user : UserState) (hand : List InHand) (d : DeviceState) (lists : List Taken) → CanDispatch r t user hand d lists → CanPass r t.items user d lists
+pub can_pass : (r : RegionState) (t : TargetState) (user : UserState) (hand : List InHand) (d : DeviceState) (lists : List Taken) → CanDispatch r t user hand d lists → CanPass r t.items user d lists
 can_pass r t user hand d lists h = record { sound = h.sound; attached = h.attached; ring = h.ring; side = h.side }
 
 -- ==== the blocks of the command that is sent

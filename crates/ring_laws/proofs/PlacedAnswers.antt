@@ -84,7 +84,7 @@ ids_placed r user items rows d lists s u p parts rest can ring ids place =
 
 -- ==== what both sides keep
 
-pending_turned : (lists : List Taken) (s : ℕ) (a b : CommandState) (us : List Unfinished) → map (pending_of lists) (turned s a b us) ≡ map (pending_of lists) us
+pub pending_turned : (lists : List Taken) (s : ℕ) (a b : CommandState) (us : List Unfinished) → map (pending_of lists) (turned s a b us) ≡ map (pending_of lists) us
 pending_turned lists s a b [] = refl
 pending_turned lists s a b (u ∷ us) =
     ⊎_elim
