@@ -47,3 +47,5 @@ pub mod JobRead
 pub mod Nexts
 pub mod NextCases
 pub mod DispatchKept
+pub mod DispatchBlocks
+pub mod DispatchJobs
