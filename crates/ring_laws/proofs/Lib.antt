@@ -49,3 +49,5 @@ pub mod NextCases
 pub mod DispatchKept
 pub mod DispatchBlocks
 pub mod DispatchJobs
+pub mod NotesAnswered
+pub mod DispatchAnswers

@@ -47,14 +47,14 @@ NotesName front rows d =
 
 -- ==== what is answered
 
--- The user side answers what the device does: the job of the command that is now out; the note of the same kind, with the ids under which
--- its serials stand; or nothing.
-abbrev pub AnswersDispatch : List PendingRow → DeviceState → List Taken → DispatchData → NextAnswer → Type 0
-AnswersDispatch rows d lists (device.Job s) (Job job) =
+-- The user side answers what the device does: the job of the command that is now out; the note, of the same kind where kinds are bytes,
+-- and with the ids under which its serials stand where notes name them; or nothing.
+abbrev pub AnswersDispatch : List ℕ → List PendingRow → DeviceState → List Taken → DispatchData → NextAnswer → Type 0
+AnswersDispatch front rows d lists (device.Job s) (Job job) =
     (u : Unfinished) × (parts : List (List ℕ)) × (command_out (after_dispatch d) s ≡ Some u) × IsJobOf d.settings rows lists u job parts
-AnswersDispatch rows d lists (device.Note kind ss) (Note k ids) = (k ≡ kind) × (map Some ids ≡ map (id_of rows) ss)
-AnswersDispatch rows d lists device.Nothing Nothing = Unit {0}
-AnswersDispatch rows d lists _ _ = ⊥
+AnswersDispatch front rows d lists (device.Note kind ss) (Note k ids) = (AreKinds d → k ≡ kind) × (NotesName front rows d → map Some ids ≡ map (id_of rows) ss)
+AnswersDispatch front rows d lists device.Nothing Nothing = Unit {0}
+AnswersDispatch front rows d lists _ _ = ⊥
 
 -- the job of the command that is sent out is the last in hand
 abbrev pub hand_dispatched : List InHand → DispatchData → NextAnswer → List InHand
