@@ -3,6 +3,7 @@
 #![tactic(auto)]
 
 mod cleaning;
+mod dispatching;
 mod handling;
 mod kept_lists;
 mod laws;
@@ -14,6 +15,7 @@ mod ticking;
 mod waiting;
 
 pub use cleaning::{clean_law, completion_law};
+pub use dispatching::{dispatch_law, mailbox_law};
 pub use handling::handle_law;
 pub use kept_lists::kept_law;
 pub use laws::{answering_law, enter_law, laying_law, opening_law, submit_law};
