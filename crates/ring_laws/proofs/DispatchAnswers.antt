@@ -1,5 +1,5 @@
 -- The user side answers to a dispatch what the device does.
-use Rattle.std.proofs.Common.{◌≡◌, ap, ◌∙◌}
+use Rattle.std.proofs.Common.{ap, ◌∙◌}
 use Rattle.tcmu_model.specs.declared.state.CommandState.TheVariants.{Out}
 use Rattle.tcmu_model.specs.Lists.{first_of}
 use Rattle.tcmu_model.specs.RingState as ring
@@ -9,10 +9,10 @@ use Rattle.tcmu_model.specs.BlockLists.{Taken, list_of}
 use Rattle.tcmu_model.specs.Regions.{RegionState, taken}
 use Rattle.tcmu_model.specs.Sides.{InHand, TargetState, UserState}
 use Rattle.tcmu_model.specs.UserNext.{nexted}
-use Rattle.std.specs.Prelude.{List, Some, ℕ}
+use Rattle.std.specs.Prelude.{List, Some}
 use Rattle.ring_laws.specs.Dispatched.{AnswersDispatch, CanDispatch}
 use Rattle.ring_laws.proofs.DispatchJobs.{job_sent}
-use Rattle.ring_laws.proofs.NextCases.{Cases, after_at, by_next}
+use Rattle.ring_laws.proofs.NextCases.{after_at, by_next}
 use Rattle.ring_laws.proofs.NotesAnswered.{notes_answered}
 use Rattle.ring_laws.proofs.Sending.{Sends, sends, found-sent}
 

@@ -1,5 +1,5 @@
 -- A dispatch lends the blocks of its command, and no others.
-use Rattle.std.proofs.Common.{◌≡◌, ℕ, ◌+◌, ◌||◌, Bool, true, false, List, [], ◌∷◌, ◌++◌, filter, refl, sym, ap, ◌∙◌, Option, Some, None, slice_get, subst, ⊎_elim}
+use Rattle.std.proofs.Common.{◌≡◌, ℕ, ◌||◌, Bool, true, false, List, [], ◌∷◌, ◌++◌, filter, refl, sym, ap, ◌∙◌, Option, Some, subst, ⊎_elim}
 use Rattle.std.proofs.lemmas.Bool.{cases_Bool, false≢true, or_left, or_right}
 use Rattle.std.proofs.lemmas.List.Concat.{flat_map-append}
 use Rattle.tcmu_types.specs.Data.{CommandData}
@@ -20,7 +20,7 @@ use Rattle.ring_laws.specs.Dispatched.{CanDispatch}
 use Rattle.ring_laws.proofs.AnswerBlocks.{Leaves, differ-split, differ-right, rest-apart}
 use Rattle.ring_laws.proofs.LaidBlocks.{among-append}
 use Rattle.ring_laws.proofs.Lending.{without-other, without-lent}
-use Rattle.ring_laws.proofs.NextCases.{Cases, by_next, noted_in, sent_in}
+use Rattle.ring_laws.proofs.NextCases.{by_next, sent_in}
 use Rattle.ring_laws.proofs.Nexts.{Blocks, blocks_sent}
 use Rattle.ring_laws.proofs.Sending.{Sends, sends, sent_is}
 
@@ -83,8 +83,7 @@ all_sent size area lists front back u bs q d lent all =
     let d' : Differ (held_by lists front ++ (own ++ held_by lists back)) = subst Differ (flat_map-append (λ (v : Unfinished). list_of lists v.serial) front (u ∷ back)) d in
     let leaves : Leaves bs area (without area bs) = λ b h. without-other area bs b h in
     every-append (BlocksOf size (without area bs) lists) front (in_state Out u ∷ back)
-    (rest-apart size area (without area bs) lists bs front leaves (λ b h. ap (λ ys. is_among ys b) q ∙ neither own (held_by lists back) b (not_both (held_by lists front) (own ++ held_by lists back) b d' h)) (every-front (BlocksOf size area lists) front (u ∷ back) all))
-    (
+    (rest-apart size area (without area bs) lists bs front leaves (λ b h. ap (λ ys. is_among ys b) q ∙ neither own (held_by lists back) b (not_both (held_by lists front) (own ++ held_by lists back) b d' h)) (every-front (BlocksOf size area lists) front (u ∷ back) all)) (
       subst (Every (IsLent (without area bs))) q lent,
       rest-apart size area (without area bs) lists bs back leaves (λ b h. ap (λ ys. is_among ys b) q ∙ differ-split own (held_by lists back) b (differ-right (held_by lists front) (own ++ held_by lists back) d') h)
           (every-back (BlocksOf size area lists) front (u ∷ back) all).1,

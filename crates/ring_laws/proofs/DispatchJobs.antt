@@ -1,21 +1,19 @@
 -- A dispatch gives one more job, and keeps the offset of its entry.
-use Rattle.std.proofs.Common.{◌≡◌, ℕ, ◌+◌, ◌%◌, ◌≤◌, Bool, true, false, cond, List, [], ◌∷◌, ◌++◌, length, take, drop, filter, refl, sym, ap, ◌∙◌, arith, suc, zero, Option, Some, None, slice_get, length-append, append-nil, subst, ⊎_elim}
+use Rattle.std.proofs.Common.{◌≡◌, ℕ, ◌+◌, ◌%◌, ◌≤◌, Bool, true, false, cond, List, [], ◌∷◌, ◌++◌, length, take, drop, filter, refl, sym, ap, ◌∙◌, arith, suc, Some, None, append-nil, subst, ⊎_elim}
 use Rattle.std.specs.List.{prefix_len}
-use Rattle.std.proofs.lemmas.Bool.{cases_Bool, false≢true}
+use Rattle.std.proofs.lemmas.Bool.{cases_Bool}
 use Rattle.std.proofs.lemmas.List.{drop-append-le}
 use Rattle.std.proofs.lemmas.List.Elements.{filter-append}
 use Rattle.std.proofs.lemmas.List.Sums.{sum_by-cons}
 use Rattle.tcmu_types.specs.Data.{CommandData, SettingsData}
 use Rattle.tcmu_types.specs.Rules.{takes_payload, payload_length}
-use Rattle.tcmu_types.specs.Events as device
 use Rattle.tcmu_model.specs.declared.state.CommandState.TheVariants.{Waiting, Out}
 use Rattle.tcmu_model.specs.RingState.{Item, Laid, commands_in, is_command, is_pad, lengths, next_place}
 use Rattle.tcmu_model.specs.RingState as ring
 use Rattle.tcmu_model.specs.Device.{Unfinished, DeviceState}
-use Rattle.tcmu_model.specs.Events.{after_dispatch, command_out, dispatch_answer, in_state, is_in_hand, next_item, passed, turned}
+use Rattle.tcmu_model.specs.Events.{after_dispatch, dispatch_answer, in_state, is_in_hand, next_item, turned}
 use Rattle.tcmu_model.specs.Sound.{Every, IsSound}
 use Rattle.tcmu_model.specs.BlockLists.{Taken, list_of}
-use Rattle.tcmu_model.specs.Layout.{zeros}
 use Rattle.tcmu_model.specs.Lengths.{block_size}
 use Rattle.tcmu_model.specs.Areas.{bytes_along}
 use Rattle.tcmu_model.specs.Iovecs.{gathered}
@@ -28,8 +26,9 @@ use Rattle.tcmu_model.proofs.Facts.{placed_dispatched}
 use Rattle.tcmu_model.proofs.Written.{length-zeros}
 use Rattle.ring_laws.specs.Dispatched.{CanDispatch, hand_dispatched}
 use Rattle.ring_laws.proofs.CleanedOne.{take-next}
+use Rattle.ring_laws.proofs.DispatchKept.{no_command}
 use Rattle.ring_laws.proofs.Lending.{gathered-taken, sizes-taken, length-taken}
-use Rattle.ring_laws.proofs.NextCases.{Cases, by_next, noted_in, sent_in}
+use Rattle.ring_laws.proofs.NextCases.{by_next}
 use Rattle.ring_laws.proofs.Nexts.{Blocks, blocks_sent, sent_job}
 use Rattle.ring_laws.proofs.Sending.{Sends, sends, sent_is}
 use Rattle.ring_laws.proofs.TailMoved.{take_more}
@@ -145,11 +144,6 @@ no_places size at (x ∷ xs) =
     rw p (ap (λ m. command_places size at (take m (x ∷ xs))) k ∙ q))
     (λ (p : is_pad x ≡ false). rw p refl)
     (cases_Bool (is_pad x))
-  where
-    no_command : (n : ℕ) (l : Laid) → is_pad (record { len = n; laid = l }) ≡ true → is_command (record { len = n; laid = l }) ≡ false
-    no_command n ring.Pad h = refl
-    no_command n (ring.Cmd s c) h = absurd (cc)
-    no_command n (ring.Tmr k ss) h = refl
 
 places_behind : (d : DeviceState) (x : Item) → next_item d ≡ Some x →
     command_places d.ring.size 0 (take (next_place d.ring + 1) d.ring.laid) ≡ command_places d.ring.size 0 (take d.ring.dispatched d.ring.laid) ++ command_places d.ring.size (lengths (take (next_place d.ring) d.ring.laid)) (x ∷ [])

@@ -1,31 +1,27 @@
 -- A dispatch: what it keeps of the ring, the ids, the notes, both sides' records and the lists.
-use Rattle.std.proofs.Common.{◌≡◌, ℕ, ◌+◌, ◌≤◌, ◌<◌, Bool, true, false, cond, List, [], ◌∷◌, ◌++◌, length, take, drop, map, filter, refl, sym, ap, ◌∙◌, arith, suc, zero, Option, Some, None, slice_get, subst, ⊎_elim}
+use Rattle.std.proofs.Common.{◌≡◌, ℕ, ◌+◌, ◌<◌, true, false, cond, List, [], ◌∷◌, ◌++◌, length, take, drop, map, refl, sym, ap, ◌∙◌, arith, suc, Option, Some, None, subst, ⊎_elim}
 use Rattle.std.specs.List.{prefix_len}
 use Rattle.std.proofs.lemmas.Bool.{cases_Bool}
-use Rattle.std.proofs.lemmas.List.{take-take}
 use Rattle.std.proofs.lemmas.List.Sums.{sum_by-cons}
-use Rattle.tcmu_types.specs.Data.{CommandData}
-use Rattle.tcmu_types.specs.Events.{DispatchData}
-use Rattle.tcmu_model.specs.declared.state.CommandState.{CommandState}
 use Rattle.tcmu_model.specs.declared.state.CommandState.TheVariants.{Waiting, Out}
 use Rattle.tcmu_model.specs.Lengths.{blocks_of}
 use Rattle.tcmu_model.specs.RingState.{Item, Laid, commands_in, is_command, is_pad, next_place, dispatched_commands, published_commands}
 use Rattle.tcmu_model.specs.RingState as ring
 use Rattle.tcmu_model.specs.Device.{Unfinished, DeviceState, is_at}
-use Rattle.tcmu_model.specs.Events.{after_dispatch, after_item, dispatch_answer, in_state, next_item, passed, turned}
-use Rattle.tcmu_model.specs.Sound.{Every, Differ, IsSound}
+use Rattle.tcmu_model.specs.Events.{after_dispatch, after_item, in_state, next_item, passed, turned}
+use Rattle.tcmu_model.specs.Sound.{Every, Differ}
 use Rattle.tcmu_model.specs.BlockLists.{Taken, list_of, held_by}
 use Rattle.tcmu_model.specs.Picture.{place_of}
 use Rattle.tcmu_model.specs.Regions.{RegionState}
 use Rattle.tcmu_model.specs.Sides.{InHand, PendingRow, Recorded, TargetState, UserState}
 use Rattle.tcmu_model.specs.Represents.{RingStands, IdsStand, NotesStand, TargetKeeps, UserKeeps, pending_of, recorded}
-use Rattle.tcmu_model.specs.UserNext.{Nexted, nexted}
+use Rattle.tcmu_model.specs.UserNext.{nexted}
 use Rattle.tcmu_model.specs.Owned.{ListsSound}
 use Rattle.tcmu_model.proofs.Everies.{every-with_first}
 use Rattle.ring_laws.specs.Dispatched.{CanDispatch, NotesName}
 use Rattle.ring_laws.proofs.AnswerBytes.{turned-found}
 use Rattle.ring_laws.proofs.CleanedOne.{commands-next}
-use Rattle.ring_laws.proofs.NextCases.{Cases, after_at, after_detached, behind_item, by_next, noted_in, sent_in}
+use Rattle.ring_laws.proofs.NextCases.{after_at, after_detached, behind_item, by_next, noted_in, sent_in}
 use Rattle.ring_laws.proofs.PlacedAnswers.{pending_turned}
 use Rattle.ring_laws.proofs.Submit.{commands-append}
 use Rattle.ring_laws.proofs.TailMoved.{take_more}
@@ -83,7 +79,12 @@ pages_dispatched r t user hand d lists h =
 
 -- ==== the user side's records
 
--- padding has no command
+-- padding is no command
+pub no_command : (n : ℕ) (l : Laid) → is_pad (record { len = n; laid = l }) ≡ true → is_command (record { len = n; laid = l }) ≡ false
+no_command n ring.Pad h = refl
+no_command n (ring.Cmd s c) h = absurd (cc)
+no_command n (ring.Tmr k ss) h = refl
+
 no_commands : (xs : List Item) → commands_in (take (prefix_len is_pad xs) xs) ≡ 0
 no_commands [] = refl
 no_commands (x ∷ xs) =
@@ -97,11 +98,6 @@ no_commands (x ∷ xs) =
     rw p (ap (λ m. commands_in (take m (x ∷ xs))) k ∙ q))
     (λ (p : is_pad x ≡ false). rw p refl)
     (cases_Bool (is_pad x))
-  where
-    no_command : (n : ℕ) (l : Laid) → is_pad (record { len = n; laid = l }) ≡ true → is_command (record { len = n; laid = l }) ≡ false
-    no_command n ring.Pad h = refl
-    no_command n (ring.Cmd s c) h = absurd (cc)
-    no_command n (ring.Tmr k ss) h = refl
 
 commands_to : (d : DeviceState) → commands_in (take (next_place d.ring) d.ring.laid) ≡ dispatched_commands d.ring
 commands_to d =

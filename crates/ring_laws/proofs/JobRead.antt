@@ -1,36 +1,33 @@
 -- The entry of the command that is dispatched is read as its request, and its job has its blocks.
-use Rattle.std.proofs.Common.{◌≡◌, ◌≢◌, ℕ, ◌+◌, ◌-◌, ◌*◌, ◌/◌, ◌%◌, ◌^◌, ◌≤◌, ◌<◌, ◌&&◌, min, Bool, true, false, cond, List, [], ◌∷◌, ◌++◌, length, take, drop, refl, sym, ap, ◌∙◌, arith, suc, zero, Option, Some, None, Ok, slice_get, subst, ⊎_elim, eqb, nat_le}
-use Rattle.std.specs.Prelude.{IsTrue}
-use Rattle.std.specs.Bool.{MatchBool}
+use Rattle.std.proofs.Common.{◌≡◌, ℕ, ◌+◌, ◌-◌, ◌*◌, ◌^◌, ◌≤◌, ◌<◌, min, true, false, List, [], ◌∷◌, length, take, drop, refl, sym, ap, ◌∙◌, arith, Option, Some, None, Ok, slice_get, subst, ⊎_elim, eqb}
 use Rattle.std.proofs.Math.Nat.{mul_comm, mul-le-mul_left}
-use Rattle.std.proofs.lemmas.Bool.{cases_Bool, eqb-true, false≢true}
+use Rattle.std.proofs.lemmas.Bool.{cases_Bool, eqb-true}
 use Rattle.std.proofs.lemmas.Bool.Decides.{nat_tests}
 use Rattle.std.proofs.lemmas.List.{take-take}
-use Rattle.std.proofs.lemmas.Option.{slice_get_past, slice_get_within}
-use Rattle.tcmu_types.specs.Data.{CommandData, SettingsData}
-use Rattle.tcmu_types.specs.Rules.{takes_payload, payload_length, IsCommand}
+use Rattle.std.proofs.lemmas.Option.{slice_get_past}
+use Rattle.tcmu_types.specs.Data.{CommandData}
+use Rattle.tcmu_types.specs.Rules.{payload_length, IsCommand}
 use Rattle.tcmu_types.specs.declared.iovec.Iov.{Iov}
-use Rattle.tcmu_model.specs.declared.mailbox.Mailbox.{Mailbox}
 use Rattle.tcmu_model.specs.declared.entry.EntryRef.TheVariants as entry
 use Rattle.tcmu_model.specs.Lengths.{block_size, blocks_of, entry_length}
 use Rattle.tcmu_model.specs.RingState.{Item, commands_in, lengths}
 use Rattle.tcmu_model.specs.RingState as ring
-use Rattle.tcmu_model.specs.Device.{Unfinished, DeviceState}
+use Rattle.tcmu_model.specs.Device.{DeviceState}
 use Rattle.tcmu_model.specs.Sound.{IsSound, Every, HasLength}
 use Rattle.tcmu_model.specs.BlockLists.{Taken, list_of}
-use Rattle.tcmu_model.specs.Layout.{data_start, command_bytes, command_length}
+use Rattle.tcmu_model.specs.Layout.{data_start}
 use Rattle.tcmu_model.specs.EntryReading.{entry_read, lies_inside, limit_of}
 use Rattle.tcmu_model.specs.Iovecs.{piece, joined, merged, iovs_along, total_of}
 use Rattle.tcmu_model.specs.Picture.{place_of, entry_of, request_of, answer_at, command_iovs}
 use Rattle.tcmu_model.specs.Regions.{RegionState, size_of}
 use Rattle.tcmu_model.specs.Sides.{PendingRow, Recorded}
-use Rattle.tcmu_model.specs.Represents.{RingStands, IdsStand, entry_at, id_in, id_at, id_of}
+use Rattle.tcmu_model.specs.Represents.{RingStands, IdsStand, entry_at, id_in, id_at}
 use Rattle.tcmu_model.specs.UserNext.{iovs_in}
 use Rattle.tcmu_model.specs.Owned.{ListsSound}
 use Rattle.tcmu_model.proofs.Facts.{placed_dispatched}
 use Rattle.tcmu_model.proofs.Fronts.{commands_more}
 use Rattle.tcmu_model.proofs.Indexed.{item_at}
-use Rattle.ring_laws.proofs.EntriesThere.{AreInside, IsRequest, request_there, IsThere}
+use Rattle.ring_laws.proofs.EntriesThere.{AreInside, IsRequest, request_there}
 use Rattle.ring_laws.proofs.Kept.{id_front, command_long}
 use Rattle.ring_laws.proofs.Layouts.{length-iovs}
 use Rattle.ring_laws.proofs.MailboxThere.{mailbox_of}

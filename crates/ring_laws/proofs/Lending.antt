@@ -1,12 +1,12 @@
 -- The blocks of a command that are at home can be lent along its iovecs: the parts have what stood in them.
-use Rattle.std.proofs.Common.{◌≡◌, ℕ, ◌+◌, ◌-◌, ◌*◌, ◌/◌, ◌%◌, ◌≤◌, ◌<◌, ◌==◌, ◌&&◌, min, Bool, true, false, List, [], ◌∷◌, ◌++◌, length, set, refl, sym, ap, ◌∙◌, arith, suc, Option, Some, None, slice_get, ⊎_elim, eqb, nat_le, nat_lt}
+use Rattle.std.proofs.Common.{◌≡◌, ℕ, ◌+◌, ◌-◌, ◌*◌, ◌%◌, ◌≤◌, ◌<◌, ◌==◌, ◌&&◌, min, Bool, true, false, List, [], ◌∷◌, ◌++◌, length, set, refl, sym, ap, ◌∙◌, arith, suc, Option, Some, None, slice_get, ⊎_elim, eqb, nat_le, nat_lt}
 use Rattle.std.specs.Prelude.{unwrap_or}
 use Rattle.std.proofs.Math.Nat.{add-mul-mod_self_left, mod_self, mul-mod_right}
 use Rattle.std.proofs.lemmas.Bool.{cases_Bool, eqb-true, eqb-false, eq-eqb, or_parts}
 use Rattle.std.proofs.lemmas.Bool.Decides.{nat_tests}
 use Rattle.tcmu_types.specs.declared.iovec.Iov.{Iov}
 use Rattle.tcmu_model.specs.Events.{is_among}
-use Rattle.tcmu_model.specs.Iovecs.{joined, merged, iovs_along, gathered}
+use Rattle.tcmu_model.specs.Iovecs.{merged, iovs_along, gathered}
 use Rattle.tcmu_model.specs.Sound.{Every, Differ}
 use Rattle.tcmu_model.specs.Areas.{block_bytes, bytes_along, IsHome, IsLent}
 use Rattle.tcmu_model.specs.Regions.{home, is_home, starts_block, are_whole, can_take, taken, without, HaveSize}
@@ -33,7 +33,7 @@ starts start size b n h =
     some : (n : ℕ) → 0 < n → nat_lt 0 n ≡ true
     some n h = grind (arith, nat_tests)
 
-both_true : (a b : Bool) → a ≡ true → b ≡ true → a && b ≡ true
+pub both_true : (a b : Bool) → a ≡ true → b ≡ true → a && b ≡ true
 both_true a b e f = ap (λ (w : Bool). w && b) e ∙ f
 
 both_parts : (a b : Bool) → a && b ≡ true → (a ≡ true) × (b ≡ true)
@@ -53,13 +53,13 @@ whole-merged start size b (f ∷ []) z h =
 whole-merged start size b (f ∷ g ∷ fs) z h =
     ⊎_elim
     (λ (e : eqb (start + size * b + size) f.base ≡ true).
+    let some : 0 < size + f.len = omega arith in
+    let k : size + f.len ≡ f.len + size * 1 = omega arith in
+    let s : starts_block start size (record { base = start + size * b; len = size + f.len }) ≡ true = starts start size b (size + f.len) some in
     let two = both_parts _ _ h in
     let one = both_parts _ _ two.0 in
     let even : f.len % size ≡ 0 = eqb-true (f.len % size) 0 one.1 in
-    let k : size + f.len ≡ f.len + size * 1 = omega arith in
     let m : (size + f.len) % size ≡ 0 = ap (λ y. y % size) k ∙ add-mul-mod_self_left f.len size 1 ∙ even in
-    let some : 0 < size + f.len = omega (arith, z) in
-    let s : starts_block start size (record { base = start + size * b; len = size + f.len }) ≡ true = starts start size b (size + f.len) some in
     rw e (both_true _ _ (both_true _ _ s (zero_is ((size + f.len) % size) m)) two.1))
     (λ (e : eqb (start + size * b + size) f.base ≡ false).
     rw e (both_true _ _ (both_true _ _ (starts start size b size z) (zero_is (size % size) (mod_self size))) h))

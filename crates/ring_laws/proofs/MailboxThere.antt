@@ -1,27 +1,26 @@
 -- The mailbox that stands at the front of a region is read as what was written.
-use Rattle.std.proofs.Common.{◌≡◌, ℕ, ◌+◌, ◌-◌, ◌*◌, ◌/◌, ◌%◌, ◌^◌, ◌≤◌, ◌<◌, ◌==◌, ◌&&◌, Bool, true, false, not, cond, List, [], ◌∷◌, ◌++◌, length, take, drop, refl, sym, ap, ◌∙◌, arith, append_assoc, Ok, Result, nat_le, nat_lt, suc, zero, eqb}
-use Rattle.std.proofs.Math.Nat.{add-mul-mod_self_left}
+use Rattle.std.proofs.Common.{◌≡◌, ℕ, ◌+◌, ◌*◌, ◌/◌, ◌%◌, ◌≤◌, ◌<◌, Bool, true, false, cond, List, [], ◌∷◌, ◌++◌, length, take, drop, refl, sym, ap, ◌∙◌, arith, append_assoc, Ok, nat_le, nat_lt, suc, zero, eqb}
 use Rattle.std.proofs.lemmas.Bool.{le-ltb, eq-eqb}
 use Rattle.std.proofs.lemmas.Bool.Decides.{nat_tests}
-use Rattle.std.proofs.lemmas.List.{take-append-drop, length-take-le}
+use Rattle.std.proofs.lemmas.List.{take-append-drop}
 use Rattle.std.proofs.lemmas.List.Sums.{sum_by-cons}
 use Rattle.tcmu_types.specs.Data.{SettingsData}
 use Rattle.tcmu_types.specs.declared.settings.Flags.{Flags}
 use Rattle.tcmu_model.specs.declared.mailbox.Mailbox.{Mailbox}
-use Rattle.tcmu_model.specs.declared.mailbox.MailboxFault.{MailboxFault}
 use Rattle.tcmu_model.specs.RingState.{Item, lengths, head}
 use Rattle.tcmu_model.specs.Device.{DeviceState}
 use Rattle.tcmu_model.specs.Sound.{Along, IsItem, IsSound}
 use Rattle.tcmu_model.specs.BlockLists.{Taken}
 use Rattle.tcmu_model.specs.Layout.{le, field, zeros, mailbox_bytes, device_mailbox, flag_bits, ring_start, data_start}
 use Rattle.tcmu_model.specs.MailboxReading.{mailbox_in, mailbox_read, judged, is_ring_size, Fits, IsMailbox}
-use Rattle.tcmu_model.specs.Picture.{place_of, tail}
+use Rattle.tcmu_model.specs.Picture.{tail}
 use Rattle.tcmu_model.specs.Regions.{RegionState}
 use Rattle.tcmu_model.specs.Sides.{Recorded}
 use Rattle.tcmu_model.specs.Represents.{RingStands}
 use Rattle.tcmu_model.specs.UserSteps.{user_mailbox, of_size, ring_size}
 use Rattle.tcmu_model.proofs.Written.{lengths as writes, field-in, field-front}
 use Rattle.ring_laws.proofs.Held.{holds}
+use Rattle.ring_laws.proofs.Laying.{times_eight}
 use Rattle.ring_laws.specs.Placed.{HoldsItems}
 
 length-text : (m : Mailbox) → length (mailbox_bytes m) ≡ 128
@@ -83,9 +82,6 @@ aligned_front s start (suc n) (i ∷ is) h =
     let even : i.len % 8 ≡ 0 = h.0.even in
     let sum : lengths (i ∷ take n is) ≡ i.len + lengths (take n is) = sum_by-cons (λ (t : Item). t.len) i (take n is) in
     omega arith
-
-times_eight : (s m q : ℕ) → s ≡ 8 * m → s * q ≡ 8 * (m * q)
-times_eight s m q e = let k : 8 * m * q ≡ 8 * (m * q) = omega arith in ap (λ t. t * q) e ∙ k
 
 -- what is left of eights behind whole rings of eights
 rest_even : (l s : ℕ) → l % 8 ≡ 0 → s % 8 ≡ 0 → 0 < s → l % s % 8 ≡ 0

@@ -1,14 +1,14 @@
 -- What holds of a dispatch, by its next item: none, a command, or a note.
 use Rattle.std.proofs.Common.{◌≡◌, ℕ, ◌+◌, ◌<◌, Bool, true, false, cond, List, [], ◌∷◌, drop, filter, refl, sym, ap, ◌∙◌, arith, suc, zero, Option, Some, None, slice_get, subst, ⊎_elim}
 use Rattle.std.specs.List.{prefix_len}
-use Rattle.std.proofs.lemmas.Bool.{cases_Bool, true≢false, false≢true}
+use Rattle.std.proofs.lemmas.Bool.{cases_Bool, true≢false}
 use Rattle.tcmu_types.specs.Data.{CommandData}
 use Rattle.tcmu_types.specs.Events.{DispatchData}
 use Rattle.tcmu_types.specs.Events as device
 use Rattle.tcmu_model.specs.declared.state.CommandState.TheVariants.{Waiting, Out}
 use Rattle.tcmu_model.specs.RingState.{Item, Laid, is_pad}
 use Rattle.tcmu_model.specs.RingState as ring
-use Rattle.tcmu_model.specs.Device.{Unfinished, DeviceState}
+use Rattle.tcmu_model.specs.Device.{DeviceState}
 use Rattle.tcmu_model.specs.Events.{after_dispatch, dispatch_answer, item_answer, after_item, is_running, next_item, passed, turned}
 use Rattle.tcmu_model.specs.BlockLists.{Taken}
 use Rattle.tcmu_model.specs.Regions.{RegionState}

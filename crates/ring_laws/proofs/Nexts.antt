@@ -1,36 +1,33 @@
 -- What next gives of a region that represents an attached device: the job of the next command, the next note, or nothing.
-use Rattle.std.proofs.Common.{◌≡◌, ◌≢◌, ℕ, ◌+◌, ◌-◌, ◌*◌, ◌/◌, ◌^◌, ◌≤◌, ◌<◌, ◌&&◌, min, take, Bool, true, false, cond, List, [], ◌∷◌, ◌++◌, length, drop, filter, refl, sym, ap, ◌∙◌, arith, suc, zero, Option, Some, None, Ok, slice_get, subst, ⊎_elim, eqb}
+use Rattle.std.proofs.Common.{◌≡◌, ℕ, ◌+◌, ◌-◌, ◌*◌, ◌/◌, ◌^◌, ◌≤◌, ◌<◌, min, take, Bool, true, false, cond, List, [], ◌∷◌, ◌++◌, length, drop, filter, refl, sym, ap, ◌∙◌, arith, suc, Option, Some, None, Ok, subst, ⊎_elim, eqb}
 use Rattle.std.specs.Prelude.{IsTrue}
-use Rattle.std.specs.Bool.{MatchBool}
-use Rattle.std.specs.List.{list_any, prefix_len}
-use Rattle.std.proofs.lemmas.Bool.{cases_Bool, eqb-true, ne_eqb, eq-eqb, false≢true}
+use Rattle.std.specs.List.{list_any}
+use Rattle.std.proofs.lemmas.Bool.{cases_Bool, eqb-true, ne_eqb, eq-eqb}
 use Rattle.std.proofs.lemmas.List.{length-take-le, length-drop}
 use Rattle.std.proofs.lemmas.Option.{slice_get_within}
 use Rattle.tcmu_types.specs.Data.{CommandData}
-use Rattle.tcmu_types.specs.Events.{DispatchData}
-use Rattle.tcmu_types.specs.Events as device
 use Rattle.tcmu_types.specs.Rules.{takes_payload, payload_length, IsCommand}
 use Rattle.tcmu_types.specs.declared.dump.ItemKind.TheVariants as kind
 use Rattle.tcmu_types.specs.declared.iovec.Iov.{Iov}
 use Rattle.tcmu_model.specs.declared.entry.EntryRef.TheVariants as entry
-use Rattle.tcmu_model.specs.declared.state.CommandState.TheVariants.{Waiting, Out}
+use Rattle.tcmu_model.specs.declared.state.CommandState.TheVariants.{Waiting}
 use Rattle.tcmu_model.specs.Lists.{first_of}
 use Rattle.tcmu_model.specs.Lengths.{block_size, blocks_of, tmr_length}
 use Rattle.tcmu_model.specs.RingState.{Item, Laid, head, is_pad, lengths, next_place}
 use Rattle.tcmu_model.specs.RingState as ring
 use Rattle.tcmu_model.specs.Device.{Unfinished, DeviceState, has_serial}
-use Rattle.tcmu_model.specs.Events.{after_dispatch, dispatch_answer, item_answer, after_item, is_among, is_in_hand, is_running, next_item, passed, turned}
-use Rattle.tcmu_model.specs.Sound.{Every, Differ, IsSound, HasLength}
+use Rattle.tcmu_model.specs.Events.{is_among, is_in_hand, next_item}
+use Rattle.tcmu_model.specs.Sound.{Every, Differ, HasLength}
 use Rattle.tcmu_model.specs.BlockLists.{Taken, list_of, held_by}
 use Rattle.tcmu_model.specs.Layout.{data_start, field, tmr_bytes}
 use Rattle.tcmu_model.specs.EntryReading.{entry_read, limit_of}
 use Rattle.tcmu_model.specs.Areas.{IsHome}
-use Rattle.tcmu_model.specs.Iovecs.{iovs_along, total_of}
+use Rattle.tcmu_model.specs.Iovecs.{total_of}
 use Rattle.tcmu_model.specs.Picture.{place_of, command_iovs, payload_of}
 use Rattle.tcmu_model.specs.Regions.{RegionState, size_of, can_lend, named_by, are_whole, can_take, numbers_of, taken, without}
-use Rattle.tcmu_model.specs.Sides.{Moved, Copied, InHand, JobState, PendingRow, TargetState, UserState}
+use Rattle.tcmu_model.specs.Sides.{Moved, Copied, InHand, JobState, TargetState, UserState}
 use Rattle.tcmu_model.specs.Represents.{HaveData, BlocksOf, entry_at, id_at, ids_in}
-use Rattle.tcmu_model.specs.UserNext.{Job, Note, Nothing, Nexted, command_next, copied_data, iovs_in, next_within, nexted, note_next, tmr_ids_in, with_job, with_passed}
+use Rattle.tcmu_model.specs.UserNext.{Job, Note, Nexted, command_next, copied_data, next_within, nexted, note_next, tmr_ids_in, with_job, with_passed}
 use Rattle.tcmu_model.specs.UserSteps.{is_open_job}
 use Rattle.tcmu_model.proofs.Everies.{every-back}
 use Rattle.tcmu_model.proofs.Indexed.{item_at}
@@ -40,9 +37,10 @@ use Rattle.ring_laws.proofs.AnswerData.{iovs-numbers}
 use Rattle.ring_laws.proofs.EntriesThere.{note_there, NoteRead, note_ids, length-ids_in}
 use Rattle.ring_laws.proofs.JobRead.{RequestRead, request_read, total_along}
 use Rattle.ring_laws.proofs.LaidBlocks.{every-both, every-among, own-among}
-use Rattle.ring_laws.proofs.Lending.{iovs-whole, can_take-home}
+use Rattle.ring_laws.proofs.Lending.{both_true, iovs-whole, can_take-home}
 use Rattle.ring_laws.proofs.MailboxThere.{mailbox_of}
-use Rattle.ring_laws.proofs.PassedItems.{CanPass, Comes, Within, comes_to, comes_to_head, item_there, item_within, passed_one, passed_to, ring_is, get-dropped}
+use Rattle.ring_laws.proofs.PassedItems.{CanPass, Comes, Within, comes_to, item_there, item_within, passed_one, passed_to, ring_is}
+use Rattle.ring_laws.proofs.RespondedJobs.{unmatched}
 use Rattle.ring_laws.proofs.Sending.{Sends, sends, first-split}
 
 pub can_pass : (r : RegionState) (t : TargetState) (user : UserState) (hand : List InHand) (d : DeviceState) (lists : List Taken) → CanDispatch r t user hand d lists → CanPass r t.items user d lists
@@ -57,10 +55,6 @@ pub record Blocks (r : RegionState) (d : DeviceState) (lists : List Taken) (s : 
   pub count : length (list_of lists s) ≡ blocks_of d.settings.pages c
   pub inside : Every (λ b. (b < d.settings.blocks) × (b < length r.blocks)) (list_of lists s)
   pub held : (b : ℕ) → is_among (list_of lists s) b ≡ true → is_among (held_by lists d.unfinished) b ≡ true
-
-unmatched : (b : Bool) (P Q : Type 0) → b ≡ false → MatchBool b P Q → Q
-unmatched true P Q e h = absurd (false≢true (sym e))
-unmatched false P Q e h = h
 
 pub blocks_sent : (r : RegionState) (t : TargetState) (user : UserState) (hand : List InHand) (d : DeviceState) (lists : List Taken) (n s : ℕ) (c : CommandData) →
     CanDispatch r t user hand d lists → next_item d ≡ Some (record { len = n; laid = ring.Cmd s c }) → (k : Sends d s c) → Blocks r d lists s c k.command
@@ -122,9 +116,6 @@ job_by r u len id iovs cdb b ns k =
       region = cond b (lent_blocks r ns) r;
       user = with_job u len id;
     }
-
-both_true : (a b : Bool) → a ≡ true → b ≡ true → a && b ≡ true
-both_true a b e f = ap (λ (w : Bool). w && b) e ∙ f
 
 -- data go in only where none go out
 in_length : (c : CommandData) (iovs : List Iov) → IsCommand c → total_of iovs ≡ payload_length c → cond (takes_payload c.cdb) 0 (min (total_of iovs) 4294967295) ≡ c.in_len

@@ -1,5 +1,5 @@
 -- A note is answered with the ids of those of its commands that are running: each is the id of an open job, and no other is.
-use Rattle.std.proofs.Common.{◌≡◌, ◌≢◌, ℕ, ◌+◌, ◌≤◌, ◌⊎◌, ◌||◌, ◌&&◌, Bool, true, false, not, List, [], ◌∷◌, ◌++◌, length, take, drop, map, filter, refl, sym, ap, ◌∙◌, arith, Option, Some, None, subst, ⊎_elim, eqb}
+use Rattle.std.proofs.Common.{◌≡◌, ℕ, ◌≤◌, ◌⊎◌, ◌&&◌, Bool, true, false, not, List, [], ◌∷◌, ◌++◌, take, drop, map, filter, refl, sym, ap, ◌∙◌, arith, Option, Some, None, subst, ⊎_elim, eqb}
 use Rattle.std.specs.Bool.{MatchBool}
 use Rattle.std.specs.List.{list_any}
 use Rattle.std.specs.Option.{is_some, option_map}
@@ -9,7 +9,6 @@ use Rattle.tcmu_types.specs.Data.{SettingsData}
 use Rattle.tcmu_model.specs.declared.state.CommandState.{CommandState}
 use Rattle.tcmu_model.specs.declared.state.CommandState.TheVariants.{Waiting, Out, Handled, Placed, Lost}
 use Rattle.tcmu_model.specs.declared.state.CommandState.TheVariants as state
-use Rattle.tcmu_model.specs.Lists.{first_of}
 use Rattle.tcmu_model.specs.RingState.{Item, serials_in, next_place}
 use Rattle.tcmu_model.specs.RingState as ring
 use Rattle.tcmu_model.specs.Device.{Unfinished, DeviceState, has_state, is_at}
@@ -18,7 +17,7 @@ use Rattle.tcmu_model.specs.Sound.{Every, Differ, IsSound, dispatched_serials}
 use Rattle.tcmu_model.specs.BlockLists.{Taken}
 use Rattle.tcmu_model.specs.Regions.{RegionState}
 use Rattle.tcmu_model.specs.Sides.{GivenJob, InHand, Parked, PendingRow, TargetState, UserState}
-use Rattle.tcmu_model.specs.Represents.{AreGiven, AreNoteIds, IsGiven, IsJobOf, IsNoteId, has_id, id_of, row_has, serial_with}
+use Rattle.tcmu_model.specs.Represents.{AreGiven, AreNoteIds, IsJobOf, IsNoteId, has_id, id_of, row_has, serial_with}
 use Rattle.tcmu_model.specs.UserSteps.{is_open_job}
 use Rattle.tcmu_model.proofs.Basics.{laid_rise, serials_split, among_more}
 use Rattle.tcmu_model.proofs.Counts.{state_at, serial_at, state_same}
@@ -28,7 +27,7 @@ use Rattle.ring_laws.specs.Dispatched.{CanDispatch, HaveOwnIds, NotesName}
 use Rattle.ring_laws.proofs.AnswerBlocks.{differ-split}
 use Rattle.ring_laws.proofs.Nexts.{ids_at}
 use Rattle.ring_laws.proofs.Numbered.{rise_differ}
-use Rattle.ring_laws.proofs.RespondedJobs.{id_among}
+use Rattle.ring_laws.proofs.RespondedJobs.{id_among, some_same, unmatched}
 
 -- ==== the serial under an id
 
@@ -160,10 +159,6 @@ job_open z rows lists s t gs (u ∷ us) f k a h =
     (cases_Bool (is_in_hand u)))
     (cases_Bool (is_at s t u))
   where
-    unmatched : (b : Bool) (P Q : Type 0) → b ≡ false → MatchBool b P Q → Q
-    unmatched true P Q e h = absurd (false≢true (sym e))
-    unmatched false P Q e h = h
-
     here : (gs : List GivenJob) → u.serial ≡ s → has_state state.Parked u ≡ false → AreGiven z rows lists gs (u ∷ filter is_in_hand us) → JobOpen rows gs s
     here [] q n a = absurd a
     here (g ∷ gs) q n a =
@@ -191,9 +186,6 @@ open_running z rows lists s gs us a h =
 record Agrees (rows : List PendingRow) (gs : List GivenJob) (us : List Unfinished) (s id : ℕ) : Type 0 where
   same : list_any (is_open_job id) gs ≡ is_running us s
   named : is_running us s ≡ true → id_of rows s ≡ Some id
-
-some_same : (a b : ℕ) → Some a ≡ Some b → a ≡ b
-some_same a b h = cc
 
 agree : (d : DeviceState) (rows : List PendingRow) (lists : List Taken) (gs : List GivenJob) (i s id : ℕ) → IsSound d → d.ring.dispatched ≤ i → Differ (map (λ (e : PendingRow). e.id) rows) → AreGiven d.settings rows lists gs (filter is_in_hand d.unfinished) →
     IsNoteId rows (serials_in (drop i d.ring.laid)) s id → (id_of rows s ≡ None) ⊎ (id_of rows s ≡ Some id) → Agrees rows gs d.unfinished s id

@@ -1,14 +1,12 @@
 -- The user side goes from its place over the items that are not dispatched: padding is passed, up to an item or to the head.
-use Rattle.std.proofs.Common.{◌≡◌, ◌≢◌, ℕ, ◌+◌, ◌-◌, ◌*◌, ◌/◌, ◌%◌, ◌^◌, ◌≤◌, ◌<◌, true, false, cond, List, [], ◌∷◌, ◌++◌, length, take, drop, map, refl, sym, ap, ◌∙◌, arith, suc, zero, Option, Some, None, Ok, slice_get, length-append, subst, ⊎_elim, eqb, nat_lt}
+use Rattle.std.proofs.Common.{◌≡◌, ◌≢◌, ℕ, ◌+◌, ◌-◌, ◌*◌, ◌/◌, ◌%◌, ◌^◌, ◌≤◌, ◌<◌, true, false, List, [], ◌∷◌, ◌++◌, length, take, drop, map, refl, sym, ap, ◌∙◌, arith, suc, zero, Some, None, Ok, slice_get, subst, ⊎_elim, eqb, nat_lt}
 use Rattle.std.specs.List.{prefix_len}
 use Rattle.std.proofs.Math.Nat.{mul-le-mul_left}
 use Rattle.std.proofs.lemmas.Bool.{cases_Bool, cases_lt, ne_eqb, eq-eqb, ltb-true, false≢true}
 use Rattle.std.proofs.lemmas.List.{take-append-drop, drop-append-le, map-append, length-take-le, take_all, length-drop}
 use Rattle.std.proofs.lemmas.List.Sums.{sum_by-cons}
 use Rattle.tcmu_types.specs.Data.{SettingsData}
-use Rattle.tcmu_types.specs.declared.dump.ItemKind.{ItemKind}
 use Rattle.tcmu_types.specs.declared.dump.ItemKind.TheVariants as kind
-use Rattle.tcmu_model.specs.declared.mailbox.Mailbox.{Mailbox}
 use Rattle.tcmu_model.specs.declared.entry.EntryRef.TheVariants as entry
 use Rattle.tcmu_model.specs.RingState.{RingState, Item, Laid, lengths, head, used, is_pad, next_place}
 use Rattle.tcmu_model.specs.RingState as ring
@@ -18,12 +16,11 @@ use Rattle.tcmu_model.specs.Sound.{Every, Along, IsItem, IsSound}
 use Rattle.tcmu_model.specs.BlockLists.{Taken}
 use Rattle.tcmu_model.specs.Layout.{ring_start, data_start, pad_bytes}
 use Rattle.tcmu_model.specs.EntryReading.{limit_of, entry_read}
-use Rattle.tcmu_model.specs.Picture.{place_of, kind_of, item_bytes}
+use Rattle.tcmu_model.specs.Picture.{place_of, kind_of}
 use Rattle.tcmu_model.specs.Regions.{RegionState, size_of}
 use Rattle.tcmu_model.specs.Sides.{Recorded, UserState}
 use Rattle.tcmu_model.specs.Represents.{RingStands, UserKeeps, entry_at, recorded}
-use Rattle.tcmu_model.specs.UserNext.{NextAnswer, Nothing, Nexted, next_within, next_of, most_entries, nexted, with_passed}
-use Rattle.tcmu_model.specs.UserSteps.{user_mailbox}
+use Rattle.tcmu_model.specs.UserNext.{Nothing, next_within, next_of, nexted, with_passed}
 use Rattle.tcmu_model.proofs.Everies.{every-drop}
 use Rattle.tcmu_model.proofs.Indexed.{item_at}
 use Rattle.tcmu_model.proofs.Places.{next_within as next_inside, within, get_none}
@@ -31,7 +28,6 @@ use Rattle.ring_laws.specs.Placed.{HoldsItems}
 use Rattle.ring_laws.proofs.CleanedOne.{take-next, next-place}
 use Rattle.ring_laws.proofs.EntriesThere.{IsThere, pad_there}
 use Rattle.ring_laws.proofs.Held.{holds}
-use Rattle.ring_laws.proofs.Layouts.{length-pad}
 use Rattle.ring_laws.proofs.MailboxThere.{mailbox_of, device_mailbox_there}
 use Rattle.ring_laws.proofs.Places.{ends_within, used_is, lengths_more, lengths-append}
 

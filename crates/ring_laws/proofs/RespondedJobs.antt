@@ -81,11 +81,11 @@ one_serial (e ∷ rows) a b id d h g =
 abbrev answered_rows : ℕ → List Unfinished → List Unfinished
 answered_rows s us = turned s Parked Placed (turned s Handled Parked us)
 
-unmatched : (b : Bool) (P Q : Type 0) → b ≡ false → MatchBool b P Q → Q
+pub unmatched : (b : Bool) (P Q : Type 0) → b ≡ false → MatchBool b P Q → Q
 unmatched true P Q e h = absurd (false≢true (sym e))
 unmatched false P Q e h = h
 
-some_same : (a b : ℕ) → Some a ≡ Some b → a ≡ b
+pub some_same : (a b : ℕ) → Some a ≡ Some b → a ≡ b
 some_same a b h = cc
 
 pub opens : (s : SettingsData) (rows : List PendingRow) (lists : List Taken) (g : GivenJob) (v : Unfinished) (id : ℕ) → v.state ≡ Handled → id_of rows v.serial ≡ Some id → IsGiven s rows lists g v → is_open_job id g ≡ true

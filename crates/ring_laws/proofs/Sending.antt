@@ -1,24 +1,22 @@
 -- The command that a dispatch sends out: the first that waits, where it stands among the unfinished ones.
-use Rattle.std.proofs.Common.{◌≡◌, ℕ, ◌+◌, ◌<◌, ◌≤◌, ◌⊎◌, inl, inr, Bool, true, false, not, List, [], ◌∷◌, ◌++◌, length, take, drop, map, filter, refl, sym, ap, ◌∙◌, arith, suc, zero, Option, Some, None, slice_get, subst, ⊎_elim}
+use Rattle.std.proofs.Common.{◌≡◌, ℕ, ◌+◌, ◌<◌, ◌≤◌, ◌⊎◌, inl, inr, Bool, true, false, not, List, [], ◌∷◌, ◌++◌, drop, map, filter, refl, sym, ap, ◌∙◌, arith, suc, zero, Option, Some, None, slice_get, subst, ⊎_elim}
 use Rattle.std.specs.List.{prefix_len}
 use Rattle.std.specs.Option.{is_some}
 use Rattle.std.proofs.lemmas.Bool.{cases_Bool, false≢true, ne_eqb, eq-eqb}
-use Rattle.std.proofs.lemmas.List.{map-append, take-append-drop}
+use Rattle.std.proofs.lemmas.List.{map-append}
 use Rattle.tcmu_types.specs.Data.{CommandData, ReplyData}
-use Rattle.tcmu_model.specs.declared.state.CommandState.{CommandState}
 use Rattle.tcmu_model.specs.declared.state.CommandState.TheVariants.{Waiting, Out}
-use Rattle.tcmu_model.specs.States.{same_state}
 use Rattle.tcmu_model.specs.Lists.{first_of, with_first}
 use Rattle.tcmu_model.specs.RingState.{RingState, Item, Laid, is_pad, serial_in, serials_in, next_place, published_commands}
 use Rattle.tcmu_model.specs.RingState as ring
 use Rattle.tcmu_model.specs.Device.{Unfinished, DeviceState, has_serial, has_state, is_at}
-use Rattle.tcmu_model.specs.Events.{is_among, is_in_hand, next_item, in_state, turned, after_dispatch, after_item, passed, answered}
+use Rattle.tcmu_model.specs.Events.{is_among, next_item, in_state, turned, answered}
 use Rattle.tcmu_model.specs.Sound.{Every, Rise, IsLaid, IsSound, dispatched_serials, is_right, state_fits}
 use Rattle.tcmu_model.proofs.Basics.{laid_rise, rows_rise, serials_split}
 use Rattle.tcmu_model.proofs.Counts.{state_is}
-use Rattle.tcmu_model.proofs.Everies.{every-weaker, every-both, every-front, every-back, every-mapped}
+use Rattle.tcmu_model.proofs.Everies.{every-weaker, every-both, every-back, every-mapped}
 use Rattle.tcmu_model.proofs.Facts.{waiting_rows, waiting_undispatched}
-use Rattle.tcmu_model.proofs.Rises.{rise_seam, rise_within, not_among, not_above}
+use Rattle.tcmu_model.proofs.Rises.{rise_seam, rise_within, not_among}
 use Rattle.tcmu_model.proofs.Rows.{undispatched_waits}
 use Rattle.ring_laws.proofs.PassedItems.{get-dropped}
 

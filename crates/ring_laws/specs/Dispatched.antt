@@ -1,5 +1,5 @@
 -- A dispatch: what it rests on, what the user side answers to it, and the jobs in hand behind it.
-use Rattle.std.specs.Prelude.{◌≡◌, ℕ, ◌≤◌, ◌<◌, ◌⊎◌, true, List, [], ◌∷◌, ◌++◌, length, map, slice_get, Option, Some, None}
+use Rattle.std.specs.Prelude.{◌≡◌, ℕ, ◌≤◌, ◌<◌, ◌⊎◌, true, List, [], ◌∷◌, ◌++◌, length, map, slice_get, Some, None}
 use Rattle.tcmu_types.specs.Events.{DispatchData}
 use Rattle.tcmu_types.specs.Events as device
 use Rattle.tcmu_model.specs.RingState.{Tmr}
