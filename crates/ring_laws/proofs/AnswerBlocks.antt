@@ -52,7 +52,7 @@ pub differ-right : (xs ys : List ℕ) → Differ (xs ++ ys) → Differ ys
 differ-right [] ys d = d
 differ-right (x ∷ xs) ys d = differ-right xs ys d.1
 
-pub differ-left : (xs ys : List ℕ) → Differ (xs ++ ys) → Differ xs
+differ-left : (xs ys : List ℕ) → Differ (xs ++ ys) → Differ xs
 differ-left [] ys d = tt
 differ-left (x ∷ xs) ys d = ((or_parts (is_among xs x) (is_among ys x) (sym (among-append xs ys x) ∙ d.0)).0, differ-left xs ys d.1)
 
@@ -73,7 +73,7 @@ found-held lists p (v ∷ us) u b f h =
 abbrev pub Leaves : List ℕ → List (Option (List ℕ)) → List (Option (List ℕ)) → Type 0
 Leaves bs area area' = (b : ℕ) → is_among bs b ≡ false → slice_get area' b ≡ slice_get area b
 
-pub stand-apart : (size : ℕ) (area area' : List (Option (List ℕ))) (lists : List Taken) (bs : List ℕ) (u : Unfinished) → Leaves bs area area' → ((b : ℕ) → is_among (list_of lists u.serial) b ≡ true → is_among bs b ≡ false) →
+stand-apart : (size : ℕ) (area area' : List (Option (List ℕ))) (lists : List Taken) (bs : List ℕ) (u : Unfinished) → Leaves bs area area' → ((b : ℕ) → is_among (list_of lists u.serial) b ≡ true → is_among bs b ≡ false) →
     BlocksOf size area lists u → BlocksOf size area' lists u
 stand-apart size area area' lists bs u leaves apart st =
     stand-other size area area' lists lists u refl

@@ -23,7 +23,8 @@ pub fn mailbox_law()
 
 /// The user side of an attached device passes the padding in front of the next item and reads that item, so no fault is answered, and
 /// nothing exactly where the device answers nothing. A command's blocks are at home, so its job has them: just they are lent then. The
-/// job is the last given and the last in hand, and the offset of its entry is kept. A note names, of its commands, those that are running.
+/// job is the last given and the last in hand, and the offset of its entry is kept. A note names, of its commands, those that are running;
+/// that rests on two more facts, which no point has: its kind is a byte, and it names each command by the command's own id (`names`).
 pub fn dispatch_law()
     ensures answer { (r : RegionState) (t : TargetState) (user : UserState) (hand : List InHand) (d : DeviceState) (lists : List Taken) →
         CanDispatch r t user hand d lists → AnswersDispatch r.front t.rows d lists (dispatch_answer d) (nexted r user).answer }
