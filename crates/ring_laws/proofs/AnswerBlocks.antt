@@ -37,7 +37,7 @@ use Rattle.ring_laws.proofs.PlacedAnswers.{Into, goes_into}
 -- ==== what is apart
 
 -- of lists that differ as one, no number of the second stands in the first
-differ-split : (xs ys : List ℕ) (b : ℕ) → Differ (xs ++ ys) → is_among ys b ≡ true → is_among xs b ≡ false
+pub differ-split : (xs ys : List ℕ) (b : ℕ) → Differ (xs ++ ys) → is_among ys b ≡ true → is_among xs b ≡ false
 differ-split [] ys b d h = refl
 differ-split (x ∷ xs) ys b d h =
     ⊎_elim
@@ -48,7 +48,7 @@ differ-split (x ∷ xs) ys b d h =
     (λ (e : eqb x b ≡ false). rw e (differ-split xs ys b d.1 h))
     (cases_Bool (eqb x b))
 
-differ-right : (xs ys : List ℕ) → Differ (xs ++ ys) → Differ ys
+pub differ-right : (xs ys : List ℕ) → Differ (xs ++ ys) → Differ ys
 differ-right [] ys d = d
 differ-right (x ∷ xs) ys d = differ-right xs ys d.1
 
@@ -57,7 +57,7 @@ differ-left [] ys d = tt
 differ-left (x ∷ xs) ys d = ((or_parts (is_among xs x) (is_among ys x) (sym (among-append xs ys x) ∙ d.0)).0, differ-left xs ys d.1)
 
 -- a command's blocks are held
-found-held : (lists : List Taken) (p : Unfinished → Bool) (us : List Unfinished) (u : Unfinished) (b : ℕ) → first_of p us ≡ Some u → is_among (list_of lists u.serial) b ≡ true → is_among (held_by lists us) b ≡ true
+pub found-held : (lists : List Taken) (p : Unfinished → Bool) (us : List Unfinished) (u : Unfinished) (b : ℕ) → first_of p us ≡ Some u → is_among (list_of lists u.serial) b ≡ true → is_among (held_by lists us) b ≡ true
 found-held lists p [] u b f h = absurd (cc)
 found-held lists p (v ∷ us) u b f h =
     ⊎_elim
@@ -79,7 +79,7 @@ stand-apart size area area' lists bs u leaves apart st =
     stand-other size area area' lists lists u refl
     (every-both (λ b. is_among (list_of lists u.serial) b ≡ true) (λ b. (o : Option (List ℕ)) → slice_get area b ≡ Some o → slice_get area' b ≡ Some o) (list_of lists u.serial) (λ b h o g. leaves b (apart b h) ∙ g) (own-among (list_of lists u.serial))) st
 
-rest-apart : (size : ℕ) (area area' : List (Option (List ℕ))) (lists : List Taken) (bs : List ℕ) (us : List Unfinished) → Leaves bs area area' → ((b : ℕ) → is_among (held_by lists us) b ≡ true → is_among bs b ≡ false) →
+pub rest-apart : (size : ℕ) (area area' : List (Option (List ℕ))) (lists : List Taken) (bs : List ℕ) (us : List Unfinished) → Leaves bs area area' → ((b : ℕ) → is_among (held_by lists us) b ≡ true → is_among bs b ≡ false) →
     Every (BlocksOf size area lists) us → Every (BlocksOf size area' lists) us
 rest-apart size area area' lists bs [] leaves apart e = tt
 rest-apart size area area' lists bs (u ∷ us) leaves apart e = (
@@ -177,7 +177,7 @@ answered-data size area bs parts u reply st rep ok fits l d lent w sh ls enough 
         ap (λ y. take y (reply.payload ++ drop (length reply.payload) (gathered parts))) l1
         ∙ take-past reply.payload (drop (length reply.payload) (gathered parts)) n (length reply.payload) refl f ∙ ap (λ y. reply.payload ++ y) dt ∙ sym s1
 
-found-differ : (lists : List Taken) (p : Unfinished → Bool) (us : List Unfinished) (u : Unfinished) → Differ (held_by lists us) → first_of p us ≡ Some u → Differ (list_of lists u.serial)
+pub found-differ : (lists : List Taken) (p : Unfinished → Bool) (us : List Unfinished) (u : Unfinished) → Differ (held_by lists us) → first_of p us ≡ Some u → Differ (list_of lists u.serial)
 found-differ lists p [] u d f = absurd (cc)
 found-differ lists p (v ∷ us) u d f =
     ⊎_elim

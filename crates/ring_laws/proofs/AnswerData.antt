@@ -29,7 +29,7 @@ returned-other area (c ∷ bs) (p ∷ ps) b h =
     let q = or_parts (eqb c b) (is_among bs b) h in
     put_other (returned area bs ps) c p b (eqb-false c b q.0) ∙ returned-other area bs ps b q.1
 
-set-leaves : (area : List (Option (List ℕ))) (c : ℕ) (o : Option (List ℕ)) (bs : List ℕ) → is_among bs c ≡ false → Every (λ b. slice_get (set area c o) b ≡ slice_get area b) bs
+pub set-leaves : (area : List (Option (List ℕ))) (c : ℕ) (o : Option (List ℕ)) (bs : List ℕ) → is_among bs c ≡ false → Every (λ b. slice_get (set area c o) b ≡ slice_get area b) bs
 set-leaves area c o [] h = tt
 set-leaves area c o (b ∷ bs) h =
     let q = or_parts (eqb b c) (is_among bs c) h in

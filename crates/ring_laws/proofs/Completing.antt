@@ -31,7 +31,7 @@ same_response : {a b c d a' b' c' d' : ℕ} {s s' : List ℕ} → a ≡ a' → b
     ◌≡◌ {A = Response} (record { id = a; uflags = b; status = c; read_len = d; sense = s }) (record { id = a'; uflags = b'; status = c'; read_len = d'; sense = s' })
 same_response p q r t u = cc
 
-field_behind : (n b k : ℕ) (xs : List ℕ) → field n (b + k) xs ≡ field n k (drop b xs)
+pub field_behind : (n b k : ℕ) (xs : List ℕ) → field n (b + k) xs ≡ field n k (drop b xs)
 unfolding field
 field_behind n b k xs = ap (λ ys. little_number n ys) (sym (drop-drop k b xs))
 

@@ -126,7 +126,7 @@ id-same front front' at n h e =
     let f : (zs : List ℕ) → take 112 (take n (drop (ring_start + at) zs)) ≡ take 112 (drop (ring_start + at) zs) = λ zs. take-take 112 n (drop (ring_start + at) zs) h in
     ap id_in (sym (f front') ∙ ap (take 112) e ∙ f front)
 
-id_front : (bytes : List ℕ) → 112 ≤ length bytes → id_in (take 112 bytes) ≡ id_in bytes
+pub id_front : (bytes : List ℕ) → 112 ≤ length bytes → id_in (take 112 bytes) ≡ id_in bytes
 id_front bytes h = sym (field-front 2 4 (take 112 bytes) (drop 112 bytes) (omega (arith, length-take-le 112 bytes h))) ∙ ap (field 2 4) (take-append-drop 112 bytes)
 
 entry_long : (pages : ℕ) (c : CommandData) → 112 ≤ entry_length pages c

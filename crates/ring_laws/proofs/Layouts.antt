@@ -47,7 +47,7 @@ length-pad n h = length-append (entry_header 0 n 0) (zeros (n - 8)) ∙ omega (a
 
 -- ==== a command's entry
 
-length-iovs_bytes : (iovs : List Iov) → length (iovs_bytes iovs) ≡ 16 * length iovs
+pub length-iovs_bytes : (iovs : List Iov) → length (iovs_bytes iovs) ≡ 16 * length iovs
 length-iovs_bytes [] = refl
 length-iovs_bytes (iov ∷ iovs) =
     let rest : length (iovs_bytes iovs) ≡ 16 * length iovs = length-iovs_bytes iovs in

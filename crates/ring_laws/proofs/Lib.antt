@@ -50,3 +50,16 @@ pub mod Sized
 pub mod LaidCommands
 pub mod NoteBytes
 pub mod Noted
+pub mod Lending
+pub mod MailboxThere
+pub mod EntriesThere
+pub mod PassedItems
+pub mod Sending
+pub mod JobRead
+pub mod Nexts
+pub mod NextCases
+pub mod DispatchKept
+pub mod DispatchBlocks
+pub mod DispatchJobs
+pub mod NotesAnswered
+pub mod DispatchAnswers

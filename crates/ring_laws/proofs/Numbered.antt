@@ -19,7 +19,7 @@ use Rattle.ring_laws.proofs.Places.{apart_in_ring, slice_get-left, ends_within, 
 
 -- ==== what placing an answer rests on
 
-rise_differ : (low : ℕ) (xs : List ℕ) (high : ℕ) → Rise low xs high → Differ xs
+pub rise_differ : (low : ℕ) (xs : List ℕ) (high : ℕ) → Rise low xs high → Differ xs
 rise_differ low [] high h = tt
 rise_differ low (x ∷ xs) high h = (not_above x xs high x h.1 (omega arith), rise_differ x xs high h.1)
 

@@ -61,7 +61,7 @@ id_held (row ∷ rows) q id h e =
     (λ (k : row_has q row ≡ false). let g : id_of rows q ≡ Some id = rw k at e in id_held rows q id h.1 g)
     (cases_Bool (row_has q row))
 
-small_id : (rows : List PendingRow) (q id : ℕ) → Every (λ e. IsId e.id) rows → id_of rows q ≡ Some id → id < 2 ^ 16
+pub small_id : (rows : List PendingRow) (q id : ℕ) → Every (λ e. IsId e.id) rows → id_of rows q ≡ Some id → id < 2 ^ 16
 small_id rows q id h e = let i : IsId id = id_held rows q id h e in let k : id ≤ 65535 = i.high in omega arith
 
 pub ring_placed : (r : RegionState) (user : UserState) (items : List Recorded) (rows : List PendingRow) (d : DeviceState) (lists : List Taken) (s : ℕ) (u : Unfinished) (p : sides.Parked) (parts : List (List ℕ)) (rest : List GivenJob) →
@@ -84,7 +84,7 @@ ids_placed r user items rows d lists s u p parts rest can ring ids place =
 
 -- ==== what both sides keep
 
-pending_turned : (lists : List Taken) (s : ℕ) (a b : CommandState) (us : List Unfinished) → map (pending_of lists) (turned s a b us) ≡ map (pending_of lists) us
+pub pending_turned : (lists : List Taken) (s : ℕ) (a b : CommandState) (us : List Unfinished) → map (pending_of lists) (turned s a b us) ≡ map (pending_of lists) us
 pending_turned lists s a b [] = refl
 pending_turned lists s a b (u ∷ us) =
     ⊎_elim

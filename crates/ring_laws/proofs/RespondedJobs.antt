@@ -33,7 +33,7 @@ use Rattle.ring_laws.proofs.TakenOut.{none_at}
 
 -- ==== ids name one serial each
 
-id_among : (rows : List PendingRow) (q id : ℕ) → id_of rows q ≡ Some id → is_among (map (λ (e : PendingRow). e.id) rows) id ≡ true
+pub id_among : (rows : List PendingRow) (q id : ℕ) → id_of rows q ≡ Some id → is_among (map (λ (e : PendingRow). e.id) rows) id ≡ true
 id_among [] q id h = absurd (cc)
 id_among (e ∷ rows) q id h =
     ⊎_elim

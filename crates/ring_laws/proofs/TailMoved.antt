@@ -88,7 +88,7 @@ take_nil : {X : Type 0} (n : ℕ) → ◌≡◌ {A = List X} (take n []) []
 take_nil zero = refl
 take_nil (suc n) = refl
 
-take_more : {X : Type 0} (j m : ℕ) (xs : List X) → take (j + m) xs ≡ take j xs ++ take m (drop j xs)
+pub take_more : {X : Type 0} (j m : ℕ) (xs : List X) → take (j + m) xs ≡ take j xs ++ take m (drop j xs)
 take_more zero m xs = let z : 0 + m ≡ m = omega arith in ap (λ n. take n xs) z
 take_more (suc j) m [] = take_nil (suc j + m) ∙ sym (take_nil m)
 take_more (suc j) m (x ∷ xs) = let k : suc j + m ≡ suc (j + m) = omega arith in ap (λ n. take n (x ∷ xs)) k ∙ ap (λ ys. x ∷ ys) (take_more j m xs)

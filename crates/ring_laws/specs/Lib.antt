@@ -4,3 +4,4 @@ pub mod Cleaned
 pub mod Refused
 pub mod Handed
 pub mod Sizes
+pub mod Dispatched

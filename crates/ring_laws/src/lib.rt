@@ -5,6 +5,7 @@
 mod answering;
 mod cleaning;
 mod entering;
+mod dispatching;
 mod handling;
 mod in_hand;
 mod kept_lists;
@@ -23,6 +24,7 @@ mod waiting;
 pub use answering::answering_law;
 pub use cleaning::{clean_law, completion_law};
 pub use entering::enter_law;
+pub use dispatching::{dispatch_law, mailbox_law};
 pub use handling::handle_law;
 pub use in_hand::hand_law;
 pub use kept_lists::kept_law;
