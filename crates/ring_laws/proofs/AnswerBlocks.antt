@@ -37,7 +37,7 @@ use Rattle.ring_laws.proofs.PlacedAnswers.{Into, goes_into}
 -- ==== what is apart
 
 -- of lists that differ as one, no number of the second stands in the first
-differ-split : (xs ys : List ℕ) (b : ℕ) → Differ (xs ++ ys) → is_among ys b ≡ true → is_among xs b ≡ false
+pub differ-split : (xs ys : List ℕ) (b : ℕ) → Differ (xs ++ ys) → is_among ys b ≡ true → is_among xs b ≡ false
 differ-split [] ys b d h = refl
 differ-split (x ∷ xs) ys b d h =
     ⊎_elim
@@ -48,11 +48,11 @@ differ-split (x ∷ xs) ys b d h =
     (λ (e : eqb x b ≡ false). rw e (differ-split xs ys b d.1 h))
     (cases_Bool (eqb x b))
 
-differ-right : (xs ys : List ℕ) → Differ (xs ++ ys) → Differ ys
+pub differ-right : (xs ys : List ℕ) → Differ (xs ++ ys) → Differ ys
 differ-right [] ys d = d
 differ-right (x ∷ xs) ys d = differ-right xs ys d.1
 
-differ-left : (xs ys : List ℕ) → Differ (xs ++ ys) → Differ xs
+pub differ-left : (xs ys : List ℕ) → Differ (xs ++ ys) → Differ xs
 differ-left [] ys d = tt
 differ-left (x ∷ xs) ys d = ((or_parts (is_among xs x) (is_among ys x) (sym (among-append xs ys x) ∙ d.0)).0, differ-left xs ys d.1)
 

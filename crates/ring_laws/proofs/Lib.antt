@@ -38,3 +38,9 @@ pub mod ParkedKept
 pub mod RespondedKept
 pub mod RespondedJobs
 pub mod ParkedJobs
+pub mod GivenBack
+pub mod Lost
+pub mod HeldApart
+pub mod JobsBack
+pub mod RestartedKept
+pub mod RestartedAnswer

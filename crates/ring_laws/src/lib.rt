@@ -10,6 +10,7 @@ mod parking;
 mod placing;
 mod publishing;
 mod responding;
+mod restarting;
 mod ticking;
 mod waiting;
 
@@ -21,5 +22,6 @@ pub use parking::parking_law;
 pub use placing::placing_law;
 pub use publishing::publish_law;
 pub use responding::respond_law;
+pub use restarting::restart_law;
 pub use ticking::{block_law, tick_law};
 pub use waiting::{delayed_law, refused_law};
