@@ -1,5 +1,5 @@
 -- The blocks of several commands are given back, one command's after another's.
-use Rattle.std.proofs.Common.{◌≡◌, ℕ, Bool, true, false, List, [], ◌∷◌, ◌++◌, length, take, refl, sym, ap, ◌∙◌, suc, zero, Option, Some, None, slice_get, ⊎_elim}
+use Rattle.std.proofs.Common.{◌≡◌, ℕ, true, false, List, [], ◌∷◌, ◌++◌, length, take, refl, sym, ap, ◌∙◌, suc, zero, Option, slice_get, ⊎_elim}
 use Rattle.std.proofs.lemmas.Bool.{cases_Bool, false≢true}
 use Rattle.tcmu_types.specs.Rules.{payload_length}
 use Rattle.tcmu_model.specs.Device.{Unfinished}
@@ -8,7 +8,7 @@ use Rattle.tcmu_model.specs.Sound.{Every, Differ}
 use Rattle.tcmu_model.specs.BlockLists.{Taken, list_of, held_by}
 use Rattle.tcmu_model.specs.Iovecs.{gathered}
 use Rattle.tcmu_model.specs.Regions.{HaveSize, returned}
-use Rattle.tcmu_model.specs.Areas.{bytes_along, IsHome, IsLent}
+use Rattle.tcmu_model.specs.Areas.{IsHome, IsLent}
 use Rattle.tcmu_model.specs.Picture.{payload_of}
 use Rattle.tcmu_model.specs.Represents.{HaveData}
 use Rattle.std.proofs.lemmas.Bool.{or_parts, or_left, or_right}

@@ -1,6 +1,5 @@
 -- The jobs of a device go back into a region's blocks: those in hand, and those that are parked.
-use Rattle.std.proofs.Common.{◌≡◌, ℕ, ◌+◌, ◌-◌, ◌*◌, ◌/◌, ◌≤◌, Bool, true, false, cond, List, [], ◌∷◌, ◌++◌, length, filter, refl, sym, ap, ◌∙◌, arith, Some, None, subst, ⊎_elim}
-use Rattle.std.specs.Bool.{MatchBool}
+use Rattle.std.proofs.Common.{◌≡◌, ℕ, ◌+◌, ◌-◌, ◌*◌, ◌/◌, ◌≤◌, true, false, cond, List, [], ◌∷◌, ◌++◌, length, filter, refl, sym, ap, ◌∙◌, arith, subst, ⊎_elim}
 use Rattle.std.proofs.lemmas.Bool.{cases_Bool, false≢true, or_right}
 use Rattle.tcmu_types.specs.Data.{SettingsData}
 use Rattle.tcmu_types.specs.Rules.{payload_length}
@@ -15,11 +14,12 @@ use Rattle.tcmu_model.specs.Layout.{data_start}
 use Rattle.tcmu_model.specs.Regions.{RegionState, numbers_of, named_by, returned, size_of}
 use Rattle.tcmu_model.proofs.Everies.{every-filter, filter_twice}
 use Rattle.tcmu_model.specs.Sides.{PendingRow, Carried, GivenJob, InHand, JobState, UserState}
-use Rattle.tcmu_model.specs.Sides as sides
 use Rattle.tcmu_model.specs.Represents.{AreGiven, AreOut, IsJobOf, is_out}
 use Rattle.tcmu_model.specs.UserSteps.{region_abandoned, with_job_back, with_parked_back}
 use Rattle.ring_laws.specs.Restarted.{region_restarted, region_with_hand}
 use Rattle.ring_laws.proofs.AnswerData.{iovs-numbers}
+use Rattle.ring_laws.proofs.ParkedKept.{matched}
+use Rattle.ring_laws.proofs.RespondedJobs.{unmatched}
 use Rattle.ring_laws.proofs.GivenBack.{all_back, AreParts, ArePartsOf, back-append, parts-append}
 
 -- a region of a device with these settings
@@ -73,14 +73,6 @@ hand_back r s rows lists (x ∷ hs) (u ∷ us) h sz a =
       are = (parts_of_job s rows lists u x.job ps j, ih.are);
       comes = ap (λ (z : RegionState). region_with_hand z hs) (job_back r s rows lists u x.job ps h sz.0 j) ∙ ih.comes;
     }
-
-matched : (b : Bool) (P Q : Type 0) → b ≡ true → MatchBool b P Q → P
-matched true P Q e h = h
-matched false P Q e h = absurd (false≢true e)
-
-unmatched : (b : Bool) (P Q : Type 0) → b ≡ false → MatchBool b P Q → Q
-unmatched true P Q e h = absurd (false≢true (sym e))
-unmatched false P Q e h = h
 
 parked_back : (r : RegionState) (s : SettingsData) (rows : List PendingRow) (lists : List Taken) (gs : List GivenJob) (us : List Unfinished) → OfSettings r s → HaveLists s lists us → AreGiven s rows lists gs us →
     GoesBack (block_size s.pages) lists r (region_abandoned r gs) (filter (has_state Parked) us)

@@ -32,7 +32,7 @@ pad_cases r n h =
     (λ (e : ltb (r.size - head r) n ≡ false). let k : n ≤ r.size - head r = ltb-false _ _ e in inl (rw e refl, omega arith))
     (cases_Bool (ltb (r.size - head r) n))
 
-times_eight : (s m q : ℕ) → s ≡ 8 * m → s * q ≡ 8 * (m * q)
+pub times_eight : (s m q : ℕ) → s ≡ 8 * m → s * q ≡ 8 * (m * q)
 times_eight s m q e = let k : 8 * m * q ≡ 8 * (m * q) = omega arith in ap (λ t. t * q) e ∙ k
 
 -- what is left of a ring of whole eights behind whole eights

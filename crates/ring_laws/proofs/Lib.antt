@@ -44,3 +44,5 @@ pub mod HeldApart
 pub mod JobsBack
 pub mod RestartedKept
 pub mod RestartedAnswer
+pub mod MailboxShown
+pub mod EmptiedKept

@@ -1,8 +1,7 @@
 -- Commands that turn Lost at a restart: none is in hand any more, and what stands in blocks and entries stays.
-use Rattle.std.proofs.Common.{◌≡◌, ℕ, ◌||◌, Bool, true, false, cond, List, [], ◌∷◌, ◌++◌, map, filter, refl, sym, ap, ◌∙◌, Option, Some, None, slice_get, subst, ⊎_elim}
+use Rattle.std.proofs.Common.{◌≡◌, ℕ, ◌||◌, Bool, true, false, cond, List, [], ◌∷◌, ◌++◌, map, filter, refl, ap, ◌∙◌, Option, Some, None, slice_get, ⊎_elim}
 use Rattle.std.proofs.lemmas.Bool.{cases_Bool, eqb-true}
 use Rattle.tcmu_types.specs.Data.{ReplyData}
-use Rattle.tcmu_types.specs.Rules.{takes_payload}
 use Rattle.tcmu_model.specs.declared.state.CommandState.{CommandState}
 use Rattle.tcmu_model.specs.declared.state.CommandState.TheVariants.{Waiting, Out, Handled, Parked, Placed, Lost}
 use Rattle.tcmu_model.specs.Lists.{first_of}
@@ -14,7 +13,7 @@ use Rattle.tcmu_model.proofs.Everies.{every-weaker}
 use Rattle.tcmu_model.proofs.Indexed.{every_at}
 use Rattle.tcmu_model.proofs.Rises.{every-among}
 use Rattle.tcmu_model.proofs.Standing.{answered_rows}
-use Rattle.tcmu_model.specs.Picture.{payload_of, data_in, with_answer, with_reply}
+use Rattle.tcmu_model.specs.Picture.{payload_of, with_answer, with_reply}
 
 -- ==== one command
 

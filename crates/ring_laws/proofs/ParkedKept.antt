@@ -105,7 +105,7 @@ ids_parked front rows d s h = record { range = h.range; differ = h.differ; answe
 pub notes_parked : (front : List ℕ) (rows : List PendingRow) (d : DeviceState) (s : ℕ) → NotesStand front rows d → NotesStand front rows (parked_in d s)
 notes_parked front rows d s h = h
 
-matched : (b : Bool) (P Q : Type 0) → b ≡ true → MatchBool b P Q → P
+pub matched : (b : Bool) (P Q : Type 0) → b ≡ true → MatchBool b P Q → P
 matched true P Q e h = h
 matched false P Q e h = absurd (false≢true e)
 

@@ -81,7 +81,7 @@ one_serial (e ∷ rows) a b id d h g =
 abbrev answered_rows : ℕ → List Unfinished → List Unfinished
 answered_rows s us = turned s Parked Placed (turned s Handled Parked us)
 
-unmatched : (b : Bool) (P Q : Type 0) → b ≡ false → MatchBool b P Q → Q
+pub unmatched : (b : Bool) (P Q : Type 0) → b ≡ false → MatchBool b P Q → Q
 unmatched true P Q e h = absurd (false≢true (sym e))
 unmatched false P Q e h = h
 

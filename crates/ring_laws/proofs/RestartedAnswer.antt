@@ -1,6 +1,5 @@
 -- How many commands a restart loses: those of the jobs that are not placed, and the answers that are placed and not published.
-use Rattle.std.proofs.Common.{◌≡◌, ℕ, ◌+◌, ◌-◌, ◌≤◌, ◌||◌, ◌&&◌, not, Bool, true, false, cond, List, [], ◌∷◌, ◌++◌, length, take, drop, map, filter, refl, sym, ap, ◌∙◌, arith, suc, zero, subst, ⊎_elim, eqb}
-use Rattle.std.specs.Bool.{MatchBool}
+use Rattle.std.proofs.Common.{◌≡◌, ℕ, ◌+◌, ◌-◌, ◌≤◌, ◌||◌, Bool, true, false, cond, List, [], ◌∷◌, ◌++◌, length, drop, map, filter, refl, sym, ap, ◌∙◌, arith, suc, subst, ⊎_elim, eqb}
 use Rattle.std.specs.List.{list_any, count_by}
 use Rattle.std.specs.Option.{is_some}
 use Rattle.std.proofs.lemmas.Bool.{cases_Bool, false≢true, or_parts}
@@ -22,13 +21,14 @@ use Rattle.tcmu_model.specs.Sides.{GivenJob, InHand, PendingRow, UserState}
 use Rattle.tcmu_model.specs.Represents.{AreGiven, AreOut, JobsStand, UserKeeps, is_out}
 use Rattle.ring_laws.specs.Restarted.{count_jobs, count_parked, restarted_answer}
 use Rattle.ring_laws.proofs.AnswerBlocks.{differ-right}
+use Rattle.ring_laws.proofs.ParkedKept.{matched}
+use Rattle.ring_laws.proofs.RespondedJobs.{unmatched}
 use Rattle.ring_laws.proofs.GivenBack.{split-left}
 use Rattle.ring_laws.proofs.JobsBack.{parked_among}
-use Rattle.ring_laws.proofs.RestartedKept.{in_hand_is}
 
 -- ==== counting
 
--- where just one of two tests holds of what passes, and none of another, both together count as much
+-- a test counts as much as two others together, of which just one holds where it holds
 count_plus : {X : Type 0} (p q r : X → Bool) (xs : List X) → Every (λ x. cond {A = ℕ} (p x) 1 0 ≡ cond {A = ℕ} (q x) 1 0 + cond {A = ℕ} (r x) 1 0) xs → count_by p xs ≡ count_by q xs + count_by r xs
 count_plus p q r [] e = refl
 count_plus p q r (x ∷ xs) e =
@@ -76,14 +76,6 @@ parked_count s rows lists (g ∷ gs) (u ∷ us) a =
     let b : count_by (has_state Parked) (u ∷ us) ≡ cond (has_state Parked u) 1 0 + count_by (has_state Parked) us = sum_by-cons (λ (y : Unfinished). cond {A = ℕ} (has_state Parked y) 1 0) u us in
     let c : cond {A = ℕ} (is_some g.parked) 1 0 ≡ cond (has_state Parked u) 1 0 = ap (λ z. cond {A = ℕ} z 1 0) e in
     omega (arith, f, b, c, parked_count s rows lists gs us a.1)
-  where
-    matched : (b : Bool) (P Q : Type 0) → b ≡ true → MatchBool b P Q → P
-    matched true P Q e h = h
-    matched false P Q e h = absurd (false≢true e)
-
-    unmatched : (b : Bool) (P Q : Type 0) → b ≡ false → MatchBool b P Q → Q
-    unmatched true P Q e h = absurd (false≢true (sym e))
-    unmatched false P Q e h = h
 
 out_or_parked : (us : List Unfinished) → count_by is_in_hand us ≡ count_by is_out us + count_by (has_state Parked) us
 out_or_parked us = count_plus is_in_hand is_out (has_state Parked) us (all us)

@@ -11,9 +11,9 @@ use Rattle.tcmu_model.specs.Sound.{IsSound, Every, Differ}
 use Rattle.tcmu_model.specs.BlockLists.{Taken, list_of, held_by}
 use Rattle.tcmu_model.specs.Layout.{data_start}
 use Rattle.tcmu_model.specs.Regions.{RegionState}
-use Rattle.tcmu_model.specs.Areas.{IsHome, IsLent}
+use Rattle.tcmu_model.specs.Areas.{IsLent}
 use Rattle.tcmu_model.specs.Picture.{payload_of}
-use Rattle.tcmu_model.proofs.Everies.{every-weaker, every-map, every-append, every-front, every-back, every-filter, every-passes, every-both, map_kept}
+use Rattle.tcmu_model.proofs.Everies.{every-map, every-append, every-front, every-back, every-filter, every-passes, map_kept}
 use Rattle.tcmu_model.specs.Sides.{Carried, Moved, Copied, GivenJob, InHand, JobState, Parked as ParkedJob, PendingRow, Recorded, TargetState, UserState}
 use Rattle.tcmu_model.specs.Represents.{AreGiven, AreOut, BlocksOf, BlocksStand, HaveData, IdsStand, JobsStand, NotesStand, RingStands, TargetKeeps, UserKeeps, is_out, pending_of}
 use Rattle.tcmu_model.specs.UserSteps.{region_abandoned, user_abandoned, with_job_back, with_parked_back}
@@ -21,6 +21,8 @@ use Rattle.tcmu_model.specs.Owned.{ListsSound}
 use Rattle.ring_laws.specs.Restarted.{region_restarted, region_with_hand}
 use Rattle.ring_laws.proofs.LaidBlocks.{among-append, among-filter, every-join}
 use Rattle.ring_laws.proofs.Ticked.{ring_by, ids_by}
+use Rattle.ring_laws.proofs.ParkedKept.{matched}
+use Rattle.ring_laws.proofs.RespondedJobs.{unmatched}
 use Rattle.ring_laws.proofs.GivenBack.{all_back, back-other, back-data, data-other, held-home}
 use Rattle.ring_laws.proofs.HeldApart.{every-picked, picked-apart, picked-held, held-joined, differ-both}
 use Rattle.ring_laws.proofs.JobsBack.{GoesBack, all_jobs_back}
@@ -94,14 +96,6 @@ notes_restarted r user hand rows d h =
     subst (λ (front : List ℕ). NotesStand front rows (record d { attached = false; unfinished = map (lose (answered d)) d.unfinished })) (sym f.front) h
 
 -- ==== blocks
-
-matched : (b : Bool) (P Q : Type 0) → b ≡ true → MatchBool b P Q → P
-matched true P Q e h = h
-matched false P Q e h = absurd (false≢true e)
-
-unmatched : (b : Bool) (P Q : Type 0) → b ≡ false → MatchBool b P Q → Q
-unmatched true P Q e h = absurd (true≢false e)
-unmatched false P Q e h = h
 
 unmatch : (b : Bool) (P Q : Type 0) → b ≡ false → Q → MatchBool b P Q
 unmatch true P Q e h = absurd (true≢false e)

@@ -3,3 +3,5 @@ pub mod Responded
 pub mod Cleaned
 pub mod Refused
 pub mod Restarted
+pub mod Attached
+pub mod Emptied

@@ -2,6 +2,7 @@
 //! the contracts of the two sides and of the ring path cite both. Those definitions stand in tcmu_model; in specs/ here is what laws rest on.
 #![tactic(auto)]
 
+mod attaching;
 mod cleaning;
 mod handling;
 mod kept_lists;
@@ -9,11 +10,13 @@ mod laws;
 mod parking;
 mod placing;
 mod publishing;
+mod resetting;
 mod responding;
 mod restarting;
 mod ticking;
 mod waiting;
 
+pub use attaching::attaching_law;
 pub use cleaning::{clean_law, completion_law};
 pub use handling::handle_law;
 pub use kept_lists::kept_law;
@@ -21,6 +24,7 @@ pub use laws::{answering_law, enter_law, laying_law, opening_law, submit_law};
 pub use parking::parking_law;
 pub use placing::placing_law;
 pub use publishing::publish_law;
+pub use resetting::reset_law;
 pub use responding::respond_law;
 pub use restarting::restart_law;
 pub use ticking::{block_law, tick_law};
