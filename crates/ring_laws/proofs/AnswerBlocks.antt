@@ -52,7 +52,7 @@ pub differ-right : (xs ys : List ℕ) → Differ (xs ++ ys) → Differ ys
 differ-right [] ys d = d
 differ-right (x ∷ xs) ys d = differ-right xs ys d.1
 
-differ-left : (xs ys : List ℕ) → Differ (xs ++ ys) → Differ xs
+pub differ-left : (xs ys : List ℕ) → Differ (xs ++ ys) → Differ xs
 differ-left [] ys d = tt
 differ-left (x ∷ xs) ys d = ((or_parts (is_among xs x) (is_among ys x) (sym (among-append xs ys x) ∙ d.0)).0, differ-left xs ys d.1)
 

@@ -88,7 +88,7 @@ differ-back : (xs ys : List ℕ) → Differ (xs ++ ys) → Differ ys
 differ-back [] ys d = d
 differ-back (x ∷ xs) ys d = differ-back xs ys d.1
 
-differ-fewer : (xs ys zs : List ℕ) → Differ (xs ++ ys) → Differ zs → ((b : ℕ) → is_among ys b ≡ false → is_among zs b ≡ false) → Differ (xs ++ zs)
+pub differ-fewer : (xs ys zs : List ℕ) → Differ (xs ++ ys) → Differ zs → ((b : ℕ) → is_among ys b ≡ false → is_among zs b ≡ false) → Differ (xs ++ zs)
 differ-fewer [] ys zs d e f = e
 differ-fewer (x ∷ xs) ys zs d e f =
     let t = or_parts (is_among xs x) (is_among ys x) (sym (among-append xs ys x) ∙ d.0) in

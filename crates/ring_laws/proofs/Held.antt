@@ -8,7 +8,7 @@ use Rattle.ring_laws.specs.Placed.{HoldsItems}
 use Rattle.tcmu_model.specs.Sound.{IsSound, IsItem, Along}
 use Rattle.tcmu_model.proofs.Indexed.{item_at}
 
-aligned_from : (s : SettingsData) (start : ℕ) (is : List Item) → Along (IsItem s) start is → lengths is % 8 ≡ 0
+pub aligned_from : (s : SettingsData) (start : ℕ) (is : List Item) → Along (IsItem s) start is → lengths is % 8 ≡ 0
 aligned_from s start [] h = refl
 aligned_from s start (i ∷ is) h =
     let rest : lengths is % 8 ≡ 0 = aligned_from s (start + i.len) is h.1 in

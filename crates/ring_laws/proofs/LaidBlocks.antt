@@ -42,7 +42,7 @@ among-append (x ∷ xs) ys b =
     (cases_Bool (eqb x b))
 
 -- what stands in one command's list is held
-among-filter : (lists : List Taken) (p : Unfinished → Bool) (us : List Unfinished) (b : ℕ) → is_among (held_by lists us) b ≡ false → is_among (held_by lists (filter p us)) b ≡ false
+pub among-filter : (lists : List Taken) (p : Unfinished → Bool) (us : List Unfinished) (b : ℕ) → is_among (held_by lists us) b ≡ false → is_among (held_by lists (filter p us)) b ≡ false
 among-filter lists p [] b h = refl
 among-filter lists p (u ∷ us) b h =
     let q = or_parts (is_among (list_of lists u.serial) b) (is_among (held_by lists us) b) (sym (among-append (list_of lists u.serial) (held_by lists us) b) ∙ h) in
@@ -74,7 +74,7 @@ pub every-both : {X : Type 0} (P Q : X → Type 0) (xs : List X) → ((x : X) �
 every-both P Q [] h e = tt
 every-both P Q (x ∷ xs) h e = (h x e.0, every-both P Q xs h e.1)
 
-every-join : {X : Type 0} (P Q R : X → Type 0) (xs : List X) → ((x : X) → P x → Q x → R x) → Every P xs → Every Q xs → Every R xs
+pub every-join : {X : Type 0} (P Q R : X → Type 0) (xs : List X) → ((x : X) → P x → Q x → R x) → Every P xs → Every Q xs → Every R xs
 every-join P Q R [] h e f = tt
 every-join P Q R (x ∷ xs) h e f = (h x e.0 f.0, every-join P Q R xs h e.1 f.1)
 

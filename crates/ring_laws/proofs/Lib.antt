@@ -63,3 +63,11 @@ pub mod DispatchBlocks
 pub mod DispatchJobs
 pub mod NotesAnswered
 pub mod DispatchAnswers
+pub mod GivenBack
+pub mod Lost
+pub mod HeldApart
+pub mod JobsBack
+pub mod RestartedKept
+pub mod RestartedAnswer
+pub mod MailboxShown
+pub mod EmptiedKept

@@ -132,7 +132,7 @@ moves user d sound att keeps =
 
 -- ==== the ring
 
-tail_moved : (f : Flags) (size head tail tail' : ℕ) → put (mailbox_bytes (device_mailbox f size head tail)) tail_place (le 4 tail') ≡ mailbox_bytes (device_mailbox f size head tail')
+pub tail_moved : (f : Flags) (size head tail tail' : ℕ) → put (mailbox_bytes (device_mailbox f size head tail)) tail_place (le 4 tail') ≡ mailbox_bytes (device_mailbox f size head tail')
 unfolding put le zeros mailbox_bytes
 tail_moved f size head tail tail' = refl
 

@@ -5,3 +5,6 @@ pub mod Refused
 pub mod Handed
 pub mod Sizes
 pub mod Dispatched
+pub mod Restarted
+pub mod Attached
+pub mod Emptied

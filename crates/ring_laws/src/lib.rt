@@ -3,6 +3,7 @@
 #![tactic(auto)]
 
 mod answering;
+mod attaching;
 mod cleaning;
 mod entering;
 mod dispatching;
@@ -15,6 +16,7 @@ mod opening;
 mod parking;
 mod placing;
 mod publishing;
+mod resetting;
 mod responding;
 mod sizes;
 mod submitting;
@@ -22,6 +24,11 @@ mod ticking;
 mod waiting;
 
 pub use answering::answering_law;
+mod restarting;
+mod ticking;
+mod waiting;
+
+pub use attaching::attaching_law;
 pub use cleaning::{clean_law, completion_law};
 pub use entering::enter_law;
 pub use dispatching::{dispatch_law, mailbox_law};
@@ -34,8 +41,10 @@ pub use opening::opening_law;
 pub use parking::parking_law;
 pub use placing::placing_law;
 pub use publishing::publish_law;
+pub use resetting::reset_law;
 pub use responding::respond_law;
 pub use sizes::sizes_law;
 pub use submitting::submit_law;
+pub use restarting::restart_law;
 pub use ticking::{block_law, tick_law};
 pub use waiting::{delayed_law, refused_law};
