@@ -104,7 +104,7 @@ waiting_undispatched d h =
     (λ u k. waits_or (is_among (dispatched_serials d.ring) u.serial) (is_among d.placed u.serial) (is_among (take (published_commands d.ring) d.placed) u.serial) d.attached u.state (is_some u.reply) k) h.answers.states
 
 -- numbers that rise in two parts: none of the back stands in front
-apart_behind : (low : ℕ) (xs ys : List ℕ) (high : ℕ) → Rise low (xs ++ ys) high → Every (λ y. is_among xs y ≡ false) ys
+pub apart_behind : (low : ℕ) (xs ys : List ℕ) (high : ℕ) → Rise low (xs ++ ys) high → Every (λ y. is_among xs y ≡ false) ys
 apart_behind low xs [] high r = tt
 apart_behind low xs (y ∷ ys) high r =
     let s = rise_seam low xs y ys high r in

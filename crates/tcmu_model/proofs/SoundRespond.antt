@@ -390,7 +390,7 @@ placing_sound false d s h o a z =
     (λ q. let f = h.answers.in_order q in
     subst (λ (ss : List ℕ). Begins (run_placed (begun d s) ss).placed (serials_in d.ring.laid)) (sym f.1) (run_begins (begun d s) (serials_in d.ring.laid) d.accepted [] d.placed f.0 (laid_rise d h.serials) f.1 refl))
 
-handled_attached : (dispatched placed published attached : Bool) (r : Bool) → state_fits dispatched placed published attached Handled r ≡ true → attached ≡ true
+pub handled_attached : (dispatched placed published attached : Bool) (r : Bool) → state_fits dispatched placed published attached Handled r ≡ true → attached ≡ true
 handled_attached true false p true r h = refl
 handled_attached true false p false r h = absurd (false≢true h)
 handled_attached true true p q r h = absurd (false≢true h)

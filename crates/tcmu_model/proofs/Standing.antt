@@ -16,7 +16,7 @@ use Rattle.tcmu_model.proofs.Rises.{not_above, among-filter, among_every, every-
 use Rattle.tcmu_model.proofs.Basics.{laid_rise, commands_serials, among_more}
 use Rattle.tcmu_model.proofs.Facts.{dispatched_rise, placed_laid}
 
-any_among : (s : ℕ) (us : List Unfinished) → list_any (has_serial s) us ≡ is_among (map (λ u. u.serial) us) s
+pub any_among : (s : ℕ) (us : List Unfinished) → list_any (has_serial s) us ≡ is_among (map (λ u. u.serial) us) s
 any_among s [] = refl
 any_among s (u ∷ us) = ap (λ b. eqb u.serial s || b) (any_among s us)
 

@@ -1,6 +1,6 @@
 -- A region, with what the target and the user side keep and the jobs in hand, represents a device with its block lists. Each
 -- point is a definition of its own, and no law of an event shows all of them at once.
-use Rattle.std.specs.Prelude.{◌≡◌, ℕ, zero, suc, ◌+◌, ◌%◌, ◌≤◌, ◌==◌, ◌⊎◌, Bool, true, List, [], ◌∷◌, length, take, drop, map, slice_get, Option, Some, None, if◌then◌else◌, MatchBool}
+use Rattle.std.specs.Prelude.{◌≡◌, ℕ, zero, suc, ◌+◌, ◌%◌, ◌<◌, ◌≤◌, ◌==◌, ◌⊎◌, Bool, true, List, [], ◌∷◌, length, take, drop, map, slice_get, Option, Some, None, if◌then◌else◌, MatchBool}
 use Rattle.std.specs.List.{filter}
 use Rattle.std.specs.Option.{option_map}
 use Rattle.tcmu_types.specs.Data.{CommandData, SettingsData}
@@ -88,19 +88,29 @@ pub record IdsStand (front : List ℕ) (rows : List PendingRow) (d : DeviceState
 abbrev pub serial_with : List PendingRow → ℕ → Option ℕ
 serial_with rows id = option_map (λ e. e.pending.serial) (first_of (has_id id) rows)
 
--- an id of a note is held by its own serial, by none, or by a command that is laid behind the note
+-- an id that has no command, or one that is laid behind the note
+abbrev pub IsLeftOver : List PendingRow → List ℕ → ℕ → Type 0
+IsLeftOver rows behind id = (serial_with rows id ≡ None) ⊎ ((t : ℕ) × (serial_with rows id ≡ Some t) × (is_among behind t ≡ true))
+
+-- a note names its command by the id that it has; where the command is finished, its id is left over
 abbrev pub IsNoteId : List PendingRow → List ℕ → ℕ → ℕ → Type 0
-IsNoteId rows behind s id = (serial_with rows id ≡ None) ⊎ ((t : ℕ) × (serial_with rows id ≡ Some t) × ((t ≡ s) ⊎ (is_among behind t ≡ true)))
+IsNoteId rows behind s id = (id_of rows s ≡ Some id) ⊎ ((id_of rows s ≡ None) × IsLeftOver rows behind id)
 
 abbrev pub AreNoteIds : List PendingRow → List ℕ → List ℕ → List ℕ → Type 0
 AreNoteIds rows behind [] [] = Unit {0}
 AreNoteIds rows behind (s ∷ ss) (id ∷ ids) = IsNoteId rows behind s id × AreNoteIds rows behind ss ids
 AreNoteIds rows behind _ _ = ⊥
 
+-- a note between the commands laid before it and those behind it: its type is a byte, and it is on commands laid before
+pub record NoteStands (rows : List PendingRow) (before behind : List ℕ) (type_ : ℕ) (ss ids : List ℕ) : Type 0 where
+  pub byte : type_ < 256
+  pub earlier : Every (λ s. is_among before s ≡ true) ss
+  pub named : AreNoteIds rows behind ss ids
+
 abbrev pub NotesStand : List ℕ → List PendingRow → DeviceState → Type 0
 NotesStand front rows d =
-    (i n kind : ℕ) (ss : List ℕ) → d.ring.dispatched ≤ i → slice_get d.ring.laid i ≡ Some (record { len = n; laid = Tmr kind ss })
-    → AreNoteIds rows (serials_in (drop i d.ring.laid)) ss (ids_in (length ss) 32 (entry_at front (place_of d.ring i) n))
+    (i n type_ : ℕ) (ss : List ℕ) → d.ring.dispatched ≤ i → slice_get d.ring.laid i ≡ Some (record { len = n; laid = Tmr type_ ss })
+    → NoteStands rows (serials_in (take i d.ring.laid)) (serials_in (drop i d.ring.laid)) type_ ss (ids_in (length ss) 32 (entry_at front (place_of d.ring i) n))
 
 -- ==== blocks and data
 
