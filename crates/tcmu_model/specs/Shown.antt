@@ -1,6 +1,6 @@
 -- Worked examples: what the definitions give for a dump, and for a command on its whole way through a region.
-use Rattle.std.specs.Prelude.{◌≡◌, ℕ, suc, zero, List, [], ◌∷◌, ◌++◌, map, replicate, Some, None, Ok, Err, Result}
-use Rattle.tcmu_types.specs.Data.{CommandData, ReplyData}
+use Rattle.std.specs.Prelude.{◌≡◌, ℕ, suc, zero, true, false, List, [], ◌∷◌, ◌++◌, map, replicate, Some, None, Ok, Err, Result}
+use Rattle.tcmu_types.specs.Data.{CommandData, ReplyData, SettingsData}
 use Rattle.tcmu_types.specs.declared.dump.ItemKind.TheVariants as kind
 use Rattle.tcmu_model.specs.declared.mailbox.MailboxFault.{MailboxFault}
 use Rattle.tcmu_model.specs.Device.{DeviceState, opening_state}
@@ -44,6 +44,22 @@ ShowsPadding =
       held = record { serial = 29; blocks = 0 ∷ 1 ∷ 2 ∷ 3 ∷ 4 ∷ []; payload = times_zero 20480 } ∷ [];
     }
 
+-- READ(10) of 16 logical blocks
+unfoldable pub read_sixteen : CommandData
+read_sixteen = record (read_of 1 8192) { cdb = 0x28 ∷ 0 ∷ 0 ∷ 0 ∷ 0 ∷ 0 ∷ 0 ∷ 0 ∷ 0x10 ∷ 0 ∷ [] }
+
+-- where a data block has two pages, one block holds its 8192 bytes
+abbrev pub ShowsTwoPages : Type 0
+ShowsTwoPages =
+    picture_of (after (opening_state (record dev { pages = 2 })) (submits read_sixteen)) (record { serial = 1; blocks = 0 ∷ [] } ∷ [])
+    ≡ record {
+      mailbox = (2 ∷ 0 ∷ 1 ∷ 0 ∷ 0x80 ∷ 0 ∷ 0 ∷ 0 ∷ 0 ∷ 0x10 ∷ 0 ∷ 0 ∷ 0x80 ∷ times_zero 115);
+      items =
+          record { at = 0; kind = kind.Cmd; bytes = (0x81 ∷ times_zero 7) ++ (1 ∷ times_zero 15) ++ (0xf0 ∷ times_zero 24) ++ (0x20 ∷ times_zero 7) ++ (0x20 ∷ times_zero 54) ++ (0x28 ∷ times_zero 7) ++ (0x10 ∷ times_zero 7) }
+          ∷ [];
+      held = record { serial = 1; blocks = 0 ∷ []; payload = times_zero 8192 } ∷ [];
+    }
+
 -- ==== a command on its way
 
 -- INQUIRY that asks for 64 bytes
@@ -51,15 +67,15 @@ unfoldable pub inquiry : CommandData
 inquiry = record (read_of 1 64) { cdb = 0x12 ∷ 0 ∷ 0 ∷ 0 ∷ 0x24 ∷ 0 ∷ [] }
 
 -- block 0 is full of what an earlier command left there
-unfoldable pub used_region : RegionState
-used_region = record (opening_region dev) { blocks = Some (replicate 4096 0xff) ∷ [] }
+unfoldable pub used_region : SettingsData → RegionState
+used_region s = record (opening_region s) { blocks = Some (replicate 4096 0xff) ∷ [] }
 
-unfoldable pub laid_region : RegionState
-laid_region = region_laid used_region (opening_target dev) inquiry 1
+unfoldable pub laid_region : SettingsData → RegionState
+laid_region s = region_laid (used_region s) (opening_target s) inquiry 1
 
 -- the blocks of a command that reads are cleared when it is laid
 abbrev pub Clears : Type 0
-Clears = laid_region.blocks ≡ Some (times_zero 4096) ∷ []
+Clears = (laid_region dev).blocks ≡ Some (times_zero 4096) ∷ []
 
 unfoldable pub job_of : NextAnswer → JobState
 job_of (Job job) = job
@@ -72,20 +88,28 @@ unfoldable pub reply_of : ReplyData
 reply_of = record { status = 0; sense = None; payload = replicate 36 5 }
 
 -- dispatched, responded and published
-unfoldable pub served : Result UserState MailboxFault → RegionState
-served (Err fault) = laid_region
-served (Ok u) =
-    let n = nexted laid_region u in
+unfoldable pub served : SettingsData → Result UserState MailboxFault → RegionState
+served s (Err fault) = laid_region s
+served s (Ok u) =
+    let n = nexted (laid_region s) u in
     let k = user_responded n.region n.user (record { job = job_of n.answer; reply = reply_of }) in
     region_published k.region k.user
 
-unfoldable pub served_region : RegionState
-served_region = served (user_attached (opening_region dev))
+unfoldable pub served_region : SettingsData → RegionState
+served_region s = served s (user_attached (opening_region s))
 
-unfoldable pub laid_target : TargetState
-laid_target = target_laid (opening_target dev) 1 inquiry 1
+unfoldable pub laid_target : SettingsData → TargetState
+laid_target s = target_laid (opening_target s) 1 inquiry 1
 
--- the completion has the reply's bytes, and zeros behind them
+unfoldable pub payloads_of : SettingsData → List (List ℕ)
+payloads_of s = map (λ e. e.payload) (target_cleaned (served_region s) (laid_target s)).log
+
+-- a device whose answers carry a length
+unfoldable pub dev_len : SettingsData
+dev_len = record dev { flags = record { ooo = true; read_len = true; tmr = false } }
+
+-- the completion has the reply's bytes, and zeros behind them where answers carry no length
 pub record Serves : Type 0 where
-  pub answer : target_clean_answer served_region laid_target ≡ Logged 1
-  pub payload : map (λ e. e.payload) (target_cleaned served_region laid_target).log ≡ (replicate 36 5 ++ replicate 28 0) ∷ []
+  pub answer : target_clean_answer (served_region dev) (laid_target dev) ≡ Logged 1
+  pub payload : payloads_of dev ≡ (replicate 36 5 ++ replicate 28 0) ∷ []
+  pub told : payloads_of dev_len ≡ replicate 36 5 ∷ []

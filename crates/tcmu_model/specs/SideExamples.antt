@@ -45,12 +45,12 @@ pub record CleansOne : Type 0 where
 -- a job is dispatched, and an answer to it is placed or not
 unfoldable pub user_dispatched : Result UserState MailboxFault → UserState → UserState
 user_dispatched (Err fault) other = other
-user_dispatched (Ok u) other = (nexted laid_region u).user
+user_dispatched (Ok u) other = (nexted (laid_region dev) u).user
 
 unfoldable pub user_answered : Result UserState MailboxFault → UserState → UserState
 user_answered (Err fault) other = other
 user_answered (Ok u) other =
-    let n = nexted laid_region u in (user_responded n.region n.user (record { job = job_of n.answer; reply = reply_of })).user
+    let n = nexted (laid_region dev) u in (user_responded n.region n.user (record { job = job_of n.answer; reply = reply_of })).user
 
 unfoldable pub jobs_of : UserState → List GivenJob
 jobs_of u = u.jobs

@@ -1,5 +1,5 @@
 //! Worked examples: what the definitions give for bytes that the other side has no right to write, for dumps, and for a command on its way.
-ghost use Rattle.tcmu_model.specs.Shown.{ShowsMailbox, ShowsPadding, Clears, Serves};
+ghost use Rattle.tcmu_model.specs.Shown.{ShowsMailbox, ShowsPadding, ShowsTwoPages, Clears, Serves};
 ghost use Rattle.tcmu_model.specs.SideExamples.{WaitsFive, ExpireOnce, CleansOne, Answers};
 ghost use Rattle.tcmu_model.specs.Hostile.{IdOfNone, TailInside, IdTwice, LengthPastData, SaidUnknown, NoLength, HeadUnaligned, OpUnknown, IovecBefore, OtherSize, AreaGone};
 
@@ -23,10 +23,11 @@ pub fn user_examples()
     ensures area_gone { AreaGone }
 {}
 
-/// The picture of a device as it opens, and of one whose entry stands behind padding.
+/// The picture of a device as it opens, of one whose entry stands behind padding, and of one whose data blocks have two pages.
 pub fn picture_examples()
     ensures mailbox { ShowsMailbox }
     ensures padding { ShowsPadding }
+    ensures pages { ShowsTwoPages }
 {}
 
 /// A command on its way through a region whose block an earlier one left full: the block is cleared, and what the reply does not fill
