@@ -32,8 +32,8 @@ pub fn scenario_replay_law<H: Handler>()
     ensures { IsScenarioAgain H.relation }
 {}
 
-/// One text of a journal has one reading, whichever handlers served its devices: the devices, the entries with their answers, and the
-/// completions of each.
+/// One text has one reading, whichever handlers served its devices: the devices, the entries with their answers, the completions of each,
+/// and the dumps between them. Of what it tells nothing is asked but what the types of the code keep of every value.
 pub fn reading_law<H: Handler, K: Handler>()
     ensures { HasOneReading H.relation K.relation }
 {}
