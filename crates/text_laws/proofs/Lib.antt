@@ -33,3 +33,5 @@ pub mod OneReading
 pub mod Settled
 pub mod InMemory
 pub mod Dumped
+pub mod Pictured
+pub mod PrintValues

@@ -17,7 +17,7 @@ use Rattle.tcmu_model.proofs.Everies.{every-weaker}
 use Rattle.tcmu_model.proofs.Readings.{same_some}
 use Rattle.tcmu_model.proofs.Runs.{sound_step}
 use Rattle.text_laws.specs.Devices.{IsSpelledDevice}
-use Rattle.text_laws.specs.Printed.{Printed, AnEntry, ADump, device_of, IsValue, IsPrintOf}
+use Rattle.text_laws.specs.Printed.{Printed, AnEntry, ADump, device_of, IsPrintOf}
 use Rattle.text_laws.specs.Replays.{OpenAs, IsJournalOf}
 use Rattle.text_laws.specs.Readings.{AreNamed, AreAlike, HasOneReading}
 use Rattle.text_laws.specs.Values.{IsEventValue}
@@ -25,6 +25,7 @@ use Rattle.text_laws.proofs.Asked.{HasAccepted}
 use Rattle.text_laws.proofs.Asks.{AsksCommand}
 use Rattle.text_laws.proofs.Legal.{first_step}
 use Rattle.text_laws.proofs.Apart.{behind_same}
+use Rattle.text_laws.proofs.PrintValues.{IsValue, all_values}
 use Rattle.text_laws.proofs.Prints.{entries_in, own_text, entries_journal, undumped, entries_again, every_undumped, journal_print}
 use Rattle.text_laws.proofs.Replays.{opened_count, accepted_none, journal_named, journal_asks}
 use Rattle.text_laws.proofs.SameEvent.{same_event}
@@ -207,8 +208,10 @@ goes_on R ls opened ps ends text sp is =
     let journal = entries_journal R ls opened ps ends text is in
     record { count = opened_count ls opened is.opens; last = is.count; sound = opened_sound ls opened sp is.opens; within = journal.devices; legal = journal.legal }
 
-pub one_reading : (R Q : HandlerRelation) → HasOneReading R Q
-one_reading R Q ls ks opened started ps qs ends lasts text named named' values values' is it =
+-- lists of events and dumps of the code
+one_list : (R Q : HandlerRelation) (ls ks : List DeviceLineData) (opened started : List Device) (ps qs : List Printed) (ends lasts : List Device) (text : List ℕ) → AreNamed ls → AreNamed ks → Every IsValue ps → Every IsValue qs
+    → IsPrintOf R ls opened ps ends text → IsPrintOf Q ks started qs lasts text → (ls ≡ ks) × (ps ≡ qs) × AreAlike ends lasts
+one_list R Q ls ks opened started ps qs ends lasts text named named' values values' is it =
     let spoken = spoken_whole ls ps ends named.spelled (all_readable R ls opened ps ends text values is) in
     let spoken' = spoken_whole ks qs lasts named'.spelled (all_readable Q ks started qs lasts text values' it) in
     let whole : (map told_device ls ++ flat_map (told_lines ls) ps) ++ [] ++ [] ≡ (map told_device ks ++ flat_map (told_lines ks) qs) ++ [] ++ [] =
@@ -226,10 +229,15 @@ one_reading R Q ls ks opened started ps qs ends lasts text named named' values v
     bare : (xs : List (List ℕ)) → xs ++ [] ++ [] ≡ xs
     bare xs = append-nil (xs ++ []) ∙ append-nil xs
 
+-- lists whose dumps are pictures
+pub one_reading : (R Q : HandlerRelation) → HasOneReading R Q
+one_reading R Q ls ks opened started ps qs ends lasts text named named' values values' is it =
+    one_list R Q ls ks opened started ps qs ends lasts text named named' (all_values R ls opened ps ends text named.spelled values is) (all_values Q ks started qs lasts text named'.spelled values' it) is it
+
 -- journals without dumps
 pub one_journal : (R Q : HandlerRelation) (ls ks : List DeviceLineData) (opened started : List Device) (js fs : List Journaled) (ends lasts : List Device) (text : List ℕ) → AreNamed ls → AreNamed ks
     → Every (λ j. IsEventValue j.entry.event) js → Every (λ j. IsEventValue j.entry.event) fs → IsJournalOf R ls opened js ends text → IsJournalOf Q ks started fs lasts text → (ls ≡ ks) × (js ≡ fs)
 one_journal R Q ls ks opened started js fs ends lasts text named named' values values' is it =
-    let one = one_reading R Q ls ks opened started (undumped js) (undumped fs) ends lasts text named named' (every_undumped IsValue js values) (every_undumped IsValue fs values')
+    let one = one_list R Q ls ks opened started (undumped js) (undumped fs) ends lasts text named named' (every_undumped IsValue js values) (every_undumped IsValue fs values')
     (journal_print R ls opened js ends text is) (journal_print Q ks started fs lasts text it) in
     (one.0, sym (entries_again js) ∙ ap entries_in one.1 ∙ entries_again fs)

@@ -99,7 +99,7 @@ run_named R d d' js o run =
     (completions_keep R Named (opening o.0.settings o.0.name o.1) d' js started log).0
 
 pub journal_named : (R : HandlerRelation) (ls : List DeviceLineData) (opened : List Device) (js : List Journaled) (ends : List Device) (text : List ℕ) → IsJournalOf R ls opened js ends text → Every (λ j. Every Named j.completions) js
-journal_named R ls opened js ends text is = each_of (λ j. Every Named j.completions) (length ls) js is.devices own
+journal_named R ls opened js ends text is = each_of (λ (j : Journaled). j.entry.device) (λ j. Every Named j.completions) (length ls) js is.devices own
   where
     own : (k : ℕ) → k < length ls → Every (λ j. Every Named j.completions) (filter (is_of k) js)
     own k lt =
@@ -108,7 +108,7 @@ journal_named R ls opened js ends text is = each_of (λ j. Every Named j.complet
         run_named R first.0 last.0 (filter (is_of k) js) (every_get Opened opened k first.0 (each_opened ls opened is.opens) first.1) (is.legal k first.0 last.0 first.1 last.1)
 
 pub journal_asks : (R : HandlerRelation) (ls : List DeviceLineData) (opened : List Device) (js : List Journaled) (ends : List Device) (text : List ℕ) → IsJournalOf R ls opened js ends text → Every (λ j. AsksCommand j.entry.event) js
-journal_asks R ls opened js ends text is = each_of (λ j. AsksCommand j.entry.event) (length ls) js is.devices own
+journal_asks R ls opened js ends text is = each_of (λ (j : Journaled). j.entry.device) (λ j. AsksCommand j.entry.event) (length ls) js is.devices own
   where
     own : (k : ℕ) → k < length ls → Every (λ j. AsksCommand j.entry.event) (filter (is_of k) js)
     own k lt =

@@ -4,15 +4,15 @@ use Rattle.std.specs.List.{filter, flat_map}
 use Rattle.tcmu_types.specs.Dumps.{DumpData}
 use Rattle.tcmu_model.specs.BlockLists.{Taken}
 use Rattle.tcmu_model.specs.Device.{DeviceState, Device}
+use Rattle.tcmu_model.specs.Owned.{ListsSound}
 use Rattle.tcmu_model.specs.Picture.{picture_of}
 use Rattle.tcmu_model.specs.Steps.{HandlerRelation, Step}
 use Rattle.tcmu_model.specs.Sound.{Every}
 use Rattle.tcmu_model.specs.ScenarioData.{DeviceLineData}
 use Rattle.tcmu_model.specs.Several.{Journaled, journaled_text, ends_text}
 use Rattle.tcmu_model.specs.Text.{device_text, dump_text}
-use Rattle.text_laws.specs.Dumps.{IsDumpValue}
 use Rattle.text_laws.specs.Replays.{OpenAs}
-use Rattle.text_laws.specs.Values.{IsEventValue}
+use Rattle.text_laws.specs.Values.{IsNumber, IsEventValue}
 
 -- ==== what is printed
 
@@ -33,16 +33,23 @@ abbrev pub printed_text : List DeviceLineData → Printed → List ℕ
 printed_text ls (AnEntry j) = journaled_text ls j
 printed_text ls (ADump at dump) = elim (slice_get ls at) [ Some l ↦ dump_text l.name dump | None ↦ [] ]
 
--- what the types of the code keep of it
-abbrev pub IsValue : Printed → Type 0
-IsValue (AnEntry j) = IsEventValue j.entry.event
-IsValue (ADump at dump) = IsDumpValue dump
+-- the event of an entry is one of the code
+abbrev pub HasEventValue : Printed → Type 0
+HasEventValue (AnEntry j) = IsEventValue j.entry.event
+HasEventValue (ADump at dump) = Unit {0}
+
+-- What the types of the code keep of every list: the numbers and bytes of its events, and how long it is.
+pub record AreValues (ps : List Printed) : Type 0 where
+  pub few : IsNumber (length ps)
+  pub events : Every HasEventValue ps
 
 -- ==== what a device prints
 
--- the picture of a device with some block lists
-abbrev pub IsPicture : DeviceState → DumpData → Type 0
-IsPicture d dump = (lists : List Taken) × (dump ≡ picture_of d lists)
+-- the picture of a device with block lists
+pub record IsPicture (d : DeviceState) (dump : DumpData) : Type 0 where
+  pub lists : List Taken
+  pub sound : ListsSound d lists
+  pub shows : dump ≡ picture_of d lists
 
 -- The entries are made one after another, the completions of each are what the log grew by, and each dump between them is a
 -- picture of the device at that point.

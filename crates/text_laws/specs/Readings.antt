@@ -6,7 +6,7 @@ use Rattle.tcmu_model.specs.Steps.{HandlerRelation}
 use Rattle.tcmu_model.specs.Sound.{Every}
 use Rattle.tcmu_model.specs.ScenarioData.{DeviceLineData}
 use Rattle.text_laws.specs.Devices.{IsSpelledDevice}
-use Rattle.text_laws.specs.Printed.{Printed, IsValue, IsPrintOf}
+use Rattle.text_laws.specs.Printed.{Printed, AreValues, IsPrintOf}
 
 -- devices of a scenario: each has a line, and their names differ
 pub record AreNamed (ls : List DeviceLineData) : Type 0 where
@@ -22,6 +22,6 @@ AreAlike ds es = (at : ℕ) (d e : Device) → slice_get ds at ≡ Some d → sl
 abbrev pub HasOneReading : HandlerRelation → HandlerRelation → Type 0
 HasOneReading R Q =
     (ls ks : List DeviceLineData) (opened started : List Device) (ps qs : List Printed) (ends lasts : List Device) (text : List ℕ)
-    → AreNamed ls → AreNamed ks → Every IsValue ps → Every IsValue qs
+    → AreNamed ls → AreNamed ks → AreValues ps → AreValues qs
     → IsPrintOf R ls opened ps ends text → IsPrintOf Q ks started qs lasts text
     → (ls ≡ ks) × (ps ≡ qs) × AreAlike ends lasts
