@@ -17,16 +17,16 @@ use Rattle.tcmu_model.proofs.Everies.{every-weaker}
 use Rattle.tcmu_model.proofs.Readings.{same_some}
 use Rattle.tcmu_model.proofs.Runs.{sound_step}
 use Rattle.text_laws.specs.Devices.{IsSpelledDevice}
-use Rattle.text_laws.specs.Printed.{Printed, AnEntry, ADump, device_of, IsPrintOf}
+use Rattle.text_laws.specs.Printed.{Printed, AnEntry, ADump, device_of, entries_in, IsValue, IsListOf}
 use Rattle.text_laws.specs.Replays.{OpenAs, IsJournalOf}
-use Rattle.text_laws.specs.Readings.{AreNamed, AreAlike, HasOneReading}
+use Rattle.text_laws.specs.Readings.{AreNamed, AreAlike, HasOneReading, HasOneReadingOfAny}
 use Rattle.text_laws.specs.Values.{IsEventValue}
 use Rattle.text_laws.proofs.Asked.{HasAccepted}
 use Rattle.text_laws.proofs.Asks.{AsksCommand}
 use Rattle.text_laws.proofs.Legal.{first_step}
 use Rattle.text_laws.proofs.Apart.{behind_same}
-use Rattle.text_laws.proofs.PrintValues.{IsValue, all_values}
-use Rattle.text_laws.proofs.Prints.{entries_in, own_text, entries_journal, undumped, entries_again, every_undumped, journal_print}
+use Rattle.text_laws.proofs.PrintValues.{all_values}
+use Rattle.text_laws.proofs.Prints.{own_text, entries_journal, undumped, entries_again, every_undumped, journal_list}
 use Rattle.text_laws.proofs.Replays.{opened_count, accepted_none, journal_named, journal_asks}
 use Rattle.text_laws.proofs.SameEvent.{same_event}
 use Rattle.text_laws.proofs.Sets.{get_within, get_found, get_set, get_other, every_get, every_set, length_set}
@@ -198,19 +198,18 @@ readable n [] h v a m = tt
 readable n (AnEntry j ∷ ps) h v a m = (record { device = h.0; asks = a.0; value = v.0; named = m.0 }, readable n ps h.1 v.1 a.1 m.1)
 readable n (ADump at d ∷ ps) h v a m = (record { device = h.0; asks = tt; value = v.0; named = tt }, readable n ps h.1 v.1 a m)
 
-all_readable : (R : HandlerRelation) (ls : List DeviceLineData) (opened : List Device) (ps : List Printed) (ends : List Device) (text : List ℕ) → Every IsValue ps → IsPrintOf R ls opened ps ends text → Every (IsReadable (length ls)) ps
+all_readable : (R : HandlerRelation) (ls : List DeviceLineData) (opened : List Device) (ps : List Printed) (ends : List Device) (text : List ℕ) → Every IsValue ps → IsListOf R ls opened ps ends text → Every (IsReadable (length ls)) ps
 all_readable R ls opened ps ends text values is =
     let journal = entries_journal R ls opened ps ends text is in
     readable (length ls) ps is.devices values (journal_asks R ls opened (entries_in ps) ends (own_text ls ps ends) journal) (journal_named R ls opened (entries_in ps) ends (own_text ls ps ends) journal)
 
-goes_on : (R : HandlerRelation) (ls : List DeviceLineData) (opened : List Device) (ps : List Printed) (ends : List Device) (text : List ℕ) → Every IsSpelledDevice ls → IsPrintOf R ls opened ps ends text → GoesOn R ls opened (entries_in ps) ends
+goes_on : (R : HandlerRelation) (ls : List DeviceLineData) (opened : List Device) (ps : List Printed) (ends : List Device) (text : List ℕ) → Every IsSpelledDevice ls → IsListOf R ls opened ps ends text → GoesOn R ls opened (entries_in ps) ends
 goes_on R ls opened ps ends text sp is =
     let journal = entries_journal R ls opened ps ends text is in
     record { count = opened_count ls opened is.opens; last = is.count; sound = opened_sound ls opened sp is.opens; within = journal.devices; legal = journal.legal }
 
 -- lists of events and dumps of the code
-one_list : (R Q : HandlerRelation) (ls ks : List DeviceLineData) (opened started : List Device) (ps qs : List Printed) (ends lasts : List Device) (text : List ℕ) → AreNamed ls → AreNamed ks → Every IsValue ps → Every IsValue qs
-    → IsPrintOf R ls opened ps ends text → IsPrintOf Q ks started qs lasts text → (ls ≡ ks) × (ps ≡ qs) × AreAlike ends lasts
+pub one_list : (R Q : HandlerRelation) → HasOneReadingOfAny R Q
 one_list R Q ls ks opened started ps qs ends lasts text named named' values values' is it =
     let spoken = spoken_whole ls ps ends named.spelled (all_readable R ls opened ps ends text values is) in
     let spoken' = spoken_whole ks qs lasts named'.spelled (all_readable Q ks started qs lasts text values' it) in
@@ -220,11 +219,11 @@ one_list R Q ls ks opened started ps qs ends lasts text named named' values valu
     sym (bare (map told_device ls ++ flat_map (told_lines ls) ps)) ∙ whole ∙ bare (map told_device ks ++ flat_map (told_lines ks) qs) in
     let parts = two_parts ls ks ps qs lists in
     let devices : ls ≡ ks = devices_told ls ks named.spelled named'.spelled parts.0 in
-    let it_is : IsPrintOf Q ls started qs lasts text = subst (λ (x : List DeviceLineData). IsPrintOf Q x started qs lasts text) (sym devices) it in
+    let it_is : IsListOf Q ls started qs lasts text = subst (λ (x : List DeviceLineData). IsListOf Q x started qs lasts text) (sym devices) it in
     let told_is : flat_map (told_lines ls) ps ≡ flat_map (told_lines ls) qs = parts.1 ∙ ap (λ (x : List DeviceLineData). flat_map (told_lines x) qs) (sym devices) in
     let tell = lines_tell ls ps qs named.names named.spelled (all_readable R ls opened ps ends text values is) (all_readable Q ls started qs lasts text values' it_is) told_is in
     let rest = journals_same R Q ls opened started (entries_in ps) (entries_in qs) ends lasts (opened_alike ls opened started is.opens it_is.opens) (goes_on R ls opened ps ends text named.spelled is) (goes_on Q ls started qs lasts text named.spelled it_is) (entries_tell ls ps qs tell) in
-    (devices, prints_same ls ps qs tell rest.0, rest.1)
+    record { devices = devices; printed = prints_same ls ps qs tell rest.0; states = rest.1 }
   where
     bare : (xs : List (List ℕ)) → xs ++ [] ++ [] ≡ xs
     bare xs = append-nil (xs ++ []) ∙ append-nil xs
@@ -232,12 +231,12 @@ one_list R Q ls ks opened started ps qs ends lasts text named named' values valu
 -- lists whose dumps are pictures
 pub one_reading : (R Q : HandlerRelation) → HasOneReading R Q
 one_reading R Q ls ks opened started ps qs ends lasts text named named' values values' is it =
-    one_list R Q ls ks opened started ps qs ends lasts text named named' (all_values R ls opened ps ends text named.spelled values is) (all_values Q ks started qs lasts text named'.spelled values' it) is it
+    one_list R Q ls ks opened started ps qs ends lasts text named named' (all_values R ls opened ps ends text named.spelled values is) (all_values Q ks started qs lasts text named'.spelled values' it) is.list it.list
 
 -- journals without dumps
 pub one_journal : (R Q : HandlerRelation) (ls ks : List DeviceLineData) (opened started : List Device) (js fs : List Journaled) (ends lasts : List Device) (text : List ℕ) → AreNamed ls → AreNamed ks
     → Every (λ j. IsEventValue j.entry.event) js → Every (λ j. IsEventValue j.entry.event) fs → IsJournalOf R ls opened js ends text → IsJournalOf Q ks started fs lasts text → (ls ≡ ks) × (js ≡ fs)
 one_journal R Q ls ks opened started js fs ends lasts text named named' values values' is it =
     let one = one_list R Q ls ks opened started (undumped js) (undumped fs) ends lasts text named named' (every_undumped IsValue js values) (every_undumped IsValue fs values')
-    (journal_print R ls opened js ends text is) (journal_print Q ks started fs lasts text it) in
-    (one.0, sym (entries_again js) ∙ ap entries_in one.1 ∙ entries_again fs)
+    (journal_list R ls opened js ends text is) (journal_list Q ks started fs lasts text it) in
+    (one.devices, sym (entries_again js) ∙ ap entries_in one.printed ∙ entries_again fs)

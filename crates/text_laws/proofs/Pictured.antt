@@ -25,7 +25,7 @@ use Rattle.tcmu_model.proofs.Everies.{every-front, every-back, every-weaker, eve
 use Rattle.tcmu_model.proofs.Indexed.{item_at}
 use Rattle.tcmu_model.proofs.Rises.{rise_within}
 use Rattle.tcmu_model.proofs.Written.{lengths as writes, length-le, length-zeros, length-padded, length-command_head, length-entry_header}
-use Rattle.text_laws.specs.Dumps.{IsItemValue, IsHeldValue, IsDumpValue}
+use Rattle.text_laws.specs.Dumps.{IsItemValue, IsHeldValue, PicturesWhole}
 use Rattle.text_laws.specs.Values.{IsNumber}
 use Rattle.text_laws.proofs.Devices.{blocks_few}
 
@@ -182,12 +182,12 @@ held_values s lists (u ∷ us) most is lt commands replies serials below =
 
 -- ---- the whole
 
-pub picture_value : (d : DeviceState) (lists : List Taken) → IsSound d → ListsSound d lists → IsNumber d.accepted → IsDumpValue (picture_of d lists)
+pub picture_value : PicturesWhole
 unfolding picture_of
 picture_value d lists sound owned lt =
     record {
       mailbox = mailbox_few d;
       items = items_value d lists d.ring.cleared (drop d.ring.cleared d.ring.laid) sound owned (omega arith) (λ k x e. sym (get_drop d.ring.cleared d.ring.laid k) ∙ e);
       held = held_values d.settings lists d.unfinished d.accepted sound.settings lt (rows_commands d sound) sound.answers.replies
-      (every-mapped (λ (u : Unfinished). u.serial) (λ s. (0 < s) × (s ≤ d.accepted)) d.unfinished (rise_within 0 (map (λ u. u.serial) d.unfinished) d.accepted (rows_rise d sound.serials))) owned.below;
+          (every-mapped (λ (u : Unfinished). u.serial) (λ s. (0 < s) × (s ≤ d.accepted)) d.unfinished (rise_within 0 (map (λ u. u.serial) d.unfinished) d.accepted (rows_rise d sound.serials))) owned.below;
     }

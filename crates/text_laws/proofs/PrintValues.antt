@@ -8,19 +8,14 @@ use Rattle.tcmu_model.specs.Steps.{HandlerRelation}
 use Rattle.tcmu_model.proofs.Everies.{every-filter}
 use Rattle.text_laws.specs.Devices.{IsSpelledDevice}
 use Rattle.text_laws.specs.Dumps.{IsDumpValue}
-use Rattle.text_laws.specs.Printed.{Printed, AnEntry, ADump, device_of, is_about, HasEventValue, AreValues, RunPrints, IsPrintOf}
-use Rattle.text_laws.specs.Values.{IsNumber, IsEventValue}
+use Rattle.text_laws.specs.Printed.{Printed, AnEntry, ADump, device_of, is_about, HasEventValue, IsValue, AreValues, RunPrints, IsPrintOf}
+use Rattle.text_laws.specs.Values.{IsNumber}
 use Rattle.text_laws.proofs.Accepted.{accepted_by, accepts_one}
 use Rattle.text_laws.proofs.Asked.{HasAccepted, more_accepted, step_accepts}
 use Rattle.text_laws.proofs.Legal.{each_of}
 use Rattle.text_laws.proofs.Pictured.{picture_value}
 use Rattle.text_laws.proofs.Replays.{opened_count, accepted_none}
 use Rattle.text_laws.proofs.Sets.{get_found, every_get}
-
--- an event of the code, or a dump of it
-abbrev pub IsValue : Printed → Type 0
-IsValue (AnEntry j) = IsEventValue j.entry.event
-IsValue (ADump at dump) = IsDumpValue dump
 
 run_values : (R : HandlerRelation) (n : ℕ) (d d' : Device) (ps : List Printed) → HasAccepted n d → IsNumber (n + length ps) → Every HasEventValue ps → RunPrints R d ps d' → Every IsValue ps
 run_values R n d d' [] h lt v r = tt
@@ -39,11 +34,11 @@ fewer p (q ∷ ps) = go (p q) (fewer p ps)
     go false h = omega (arith, h)
 
 pub all_values : (R : HandlerRelation) (ls : List DeviceLineData) (opened : List Device) (ps : List Printed) (ends : List Device) (text : List ℕ) → Every IsSpelledDevice ls → AreValues ps → IsPrintOf R ls opened ps ends text → Every IsValue ps
-all_values R ls opened ps ends text sp values is = each_of device_of IsValue (length ls) ps is.devices own
+all_values R ls opened ps ends text sp values is = each_of device_of IsValue (length ls) ps is.list.devices own
   where
     own : (k : ℕ) → k < length ls → Every IsValue (filter (is_about k) ps)
     own k lt =
-        let first = get_found opened k (omega (arith, lt, opened_count ls opened is.opens)) in
-        let last = get_found ends k (omega (arith, lt, is.count)) in
-        let start = every_get (HasAccepted 0) opened k first.0 (accepted_none ls opened sp is.opens) first.1 in
-        run_values R 0 first.0 last.0 (filter (is_about k) ps) start (omega (arith, fewer (is_about k) ps, values.few)) (every-filter (is_about k) HasEventValue ps values.events) (is.legal k first.0 last.0 first.1 last.1)
+        let first = get_found opened k (omega (arith, lt, opened_count ls opened is.list.opens)) in
+        let last = get_found ends k (omega (arith, lt, is.list.count)) in
+        let start = every_get (HasAccepted 0) opened k first.0 (accepted_none ls opened sp is.list.opens) first.1 in
+        run_values R 0 first.0 last.0 (filter (is_about k) ps) start (omega (arith, fewer (is_about k) ps, values.few)) (every-filter (is_about k) HasEventValue ps values.events) (is.pictures k first.0 last.0 first.1 last.1)

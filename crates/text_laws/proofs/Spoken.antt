@@ -18,11 +18,10 @@ use Rattle.tcmu_model.specs.Sound.{Every}
 use Rattle.tcmu_model.specs.Text.{spaced, line, device_spelling, device_text, event_text, command_text, completion_text, event_line, entry_text, end_text, dump_text}
 use Rattle.tcmu_model.proofs.Everies.{every-append, filter_all}
 use Rattle.text_laws.specs.Devices.{IsSpelledDevice}
-use Rattle.text_laws.specs.Printed.{Printed, AnEntry, ADump, device_of, printed_text}
+use Rattle.text_laws.specs.Printed.{Printed, AnEntry, ADump, device_of, printed_text, IsValue}
 use Rattle.text_laws.specs.Values.{IsEventValue}
 use Rattle.text_laws.proofs.Asks.{AsksCommand}
 use Rattle.text_laws.proofs.Dumped.{item_line, held_line, box_line, dump_lines, dump_cut}
-use Rattle.text_laws.proofs.PrintValues.{IsValue}
 use Rattle.text_laws.proofs.Reading.{first_line}
 use Rattle.text_laws.proofs.Sets.{get_found, every_get}
 use Rattle.text_laws.proofs.Unbroken.{Unbroken}

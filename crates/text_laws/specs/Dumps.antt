@@ -2,7 +2,11 @@
 use Rattle.std.specs.Prelude.{◌≡◌, ℕ, IsTrue, List, length}
 use Rattle.tcmu_types.specs.Naming.{is_name}
 use Rattle.tcmu_types.specs.Dumps.{ItemData, HeldData, DumpData}
-use Rattle.tcmu_model.specs.Sound.{Every}
+use Rattle.tcmu_model.specs.BlockLists.{Taken}
+use Rattle.tcmu_model.specs.Device.{DeviceState}
+use Rattle.tcmu_model.specs.Owned.{ListsSound}
+use Rattle.tcmu_model.specs.Picture.{picture_of}
+use Rattle.tcmu_model.specs.Sound.{Every, IsSound}
 use Rattle.tcmu_model.specs.Text.{dump_text}
 use Rattle.text_laws.specs.Values.{IsNumber, AreNumbers}
 
@@ -29,3 +33,8 @@ abbrev pub DumpsTold : Type 0
 DumpsTold =
     (name other : List ℕ) (d e : DumpData) → IsTrue (is_name name) → IsTrue (is_name other) → IsDumpValue d → IsDumpValue e
     → dump_text name d ≡ dump_text other e → (name ≡ other) × (d ≡ e)
+
+-- a picture of a sound device, with block lists that are sound for it, is such a dump, where the device has accepted fewer than 2^64
+-- commands
+abbrev pub PicturesWhole : Type 0
+PicturesWhole = (d : DeviceState) (lists : List Taken) → IsSound d → ListsSound d lists → IsNumber d.accepted → IsDumpValue (picture_of d lists)

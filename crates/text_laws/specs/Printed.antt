@@ -9,8 +9,9 @@ use Rattle.tcmu_model.specs.Picture.{picture_of}
 use Rattle.tcmu_model.specs.Steps.{HandlerRelation, Step}
 use Rattle.tcmu_model.specs.Sound.{Every}
 use Rattle.tcmu_model.specs.ScenarioData.{DeviceLineData}
-use Rattle.tcmu_model.specs.Several.{Journaled, journaled_text, ends_text}
+use Rattle.tcmu_model.specs.Several.{Journaled, IsLegalEach, journaled_text, ends_text}
 use Rattle.tcmu_model.specs.Text.{device_text, dump_text}
+use Rattle.text_laws.specs.Dumps.{IsDumpValue}
 use Rattle.text_laws.specs.Replays.{OpenAs}
 use Rattle.text_laws.specs.Values.{IsNumber, IsEventValue}
 
@@ -33,10 +34,23 @@ abbrev pub printed_text : List DeviceLineData → Printed → List ℕ
 printed_text ls (AnEntry j) = journaled_text ls j
 printed_text ls (ADump at dump) = elim (slice_get ls at) [ Some l ↦ dump_text l.name dump | None ↦ [] ]
 
+-- the entries, without the dumps between them
+abbrev pub entries_in : List Printed → List Journaled
+entries_in [] = []
+entries_in (AnEntry j ∷ ps) = j ∷ entries_in ps
+entries_in (ADump at dump ∷ ps) = entries_in ps
+
+-- ==== what the types of the code keep
+
 -- the event of an entry is one of the code
 abbrev pub HasEventValue : Printed → Type 0
 HasEventValue (AnEntry j) = IsEventValue j.entry.event
 HasEventValue (ADump at dump) = Unit {0}
+
+-- the event of an entry is one of the code, and so is a dump
+abbrev pub IsValue : Printed → Type 0
+IsValue (AnEntry j) = IsEventValue j.entry.event
+IsValue (ADump at dump) = IsDumpValue dump
 
 -- What the types of the code keep of every list: the numbers and bytes of its events, and how long it is.
 pub record AreValues (ps : List Printed) : Type 0 where
@@ -66,11 +80,16 @@ IsLegalPrint R opened ps ends =
 
 -- ==== the text
 
--- The text of a list: the device lines, entries that are legal on each device from its opening to its end with pictures between
+-- The text of a list: the device lines, entries that are legal on each device from its opening to its end with dumps between
 -- them, and how many commands are open on each device at its end.
-pub record IsPrintOf (R : HandlerRelation) (ls : List DeviceLineData) (opened : List Device) (ps : List Printed) (ends : List Device) (text : List ℕ) : Type 0 where
+pub record IsListOf (R : HandlerRelation) (ls : List DeviceLineData) (opened : List Device) (ps : List Printed) (ends : List Device) (text : List ℕ) : Type 0 where
   pub opens : OpenAs ls opened
   pub count : length ends ≡ length ls
   pub devices : Every (λ p. device_of p < length ls) ps
-  pub legal : IsLegalPrint R opened ps ends
+  pub legal : IsLegalEach R opened (entries_in ps) ends
   pub whole : text ≡ flat_map device_text ls ++ flat_map (printed_text ls) ps ++ ends_text ls ends
+
+-- The same where each dump is a picture of its device at that point.
+pub record IsPrintOf (R : HandlerRelation) (ls : List DeviceLineData) (opened : List Device) (ps : List Printed) (ends : List Device) (text : List ℕ) : Type 0 where
+  pub list : IsListOf R ls opened ps ends text
+  pub pictures : IsLegalPrint R opened ps ends
