@@ -21,6 +21,22 @@ abbrev pub accepted_by : EventData → ℕ
 accepted_by (ev.Submit c) = 1
 accepted_by _ = 0
 
+pub accepts_one : (e : EventData) → accepted_by e ≤ 1
+accepts_one (ev.Submit c) = omega arith
+accepts_one ev.Dispatch = omega arith
+accepts_one (ev.Handle s) = omega arith
+accepts_one (ev.Respond s) = omega arith
+accepts_one ev.Publish = omega arith
+accepts_one ev.Clean = omega arith
+accepts_one (ev.Tick k) = omega arith
+accepts_one ev.Block = omega arith
+accepts_one ev.Unblock = omega arith
+accepts_one (ev.Reset k) = omega arith
+accepts_one ev.Restart = omega arith
+accepts_one (ev.Tmr k ss) = omega arith
+accepts_one ev.Stat = omega arith
+accepts_one ev.Enter = omega arith
+
 after_submit_more : (d : DeviceState) (c : CommandData) (a : Submit) → (after_submit d c a).accepted ≤ d.accepted + 1
 unfolding after_submit with_command with_delayed
 after_submit_more d c (submit.Queued s) = omega arith

@@ -25,7 +25,7 @@ use Rattle.tcmu_model.proofs.Runs.{sound_step}
 use Rattle.text_laws.specs.Carried.{IsCarriedWhat}
 use Rattle.text_laws.specs.Lines.{CarriesBytes, made}
 use Rattle.text_laws.specs.Replays.{lines_of}
-use Rattle.text_laws.proofs.Accepted.{accepted_by, makes_accepts}
+use Rattle.text_laws.proofs.Accepted.{accepted_by, accepts_one, makes_accepts}
 use Rattle.text_laws.proofs.Sets.{get_within, every_get, every_set, length_set}
 
 -- ---- lines that send commands
@@ -107,7 +107,7 @@ pub record HasAccepted (n : ℕ) (d : Device) : Type 0 where
   pub sound : IsSound d.state
   pub few : d.state.accepted ≤ n
 
-more_accepted : (n m : ℕ) (d : Device) → n ≤ m → HasAccepted n d → HasAccepted m d
+pub more_accepted : (n m : ℕ) (d : Device) → n ≤ m → HasAccepted n d → HasAccepted m d
 more_accepted n m d le h = record { sound = h.sound; few = omega (arith, le, h.few) }
 
 -- what stands of entries that a device makes: their lines are within the limits, they send these lines, and the device is as so
@@ -116,7 +116,7 @@ record Makes (devices : ℕ) (n : ℕ) (es : List EntryData) (lines : List LineD
   sends_these : sent (lines_of es) ≡ sent lines
   after : HasAccepted n d'
 
-step_accepts : (R : HandlerRelation) (n : ℕ) (d d' : Device) (e : EntryData) → HasAccepted n d → Step R d e d' → HasAccepted (n + accepted_by e.event) d'
+pub step_accepts : (R : HandlerRelation) (n : ℕ) (d d' : Device) (e : EntryData) → HasAccepted n d → Step R d e d' → HasAccepted (n + accepted_by e.event) d'
 step_accepts R n d d' e h s = record { sound = sound_step R d d' e h.sound s; few = omega (arith, makes_accepts R d d' e.event e.answer s.makes, h.few) }
 
 silent_line : (l : LineData) (ls : List LineData) → sends l ≡ false → sent (l ∷ ls) ≡ sent ls
@@ -162,24 +162,8 @@ plays R devices n l (line.Makes event) d d' es lt few h is carried p =
     } in
     subst (λ (xs : List EntryData). Makes devices (n + 1) xs (made l.device event ∷ []) d') (sym p.4) made_one
   where
-    one : (e : EventData) → accepted_by e ≤ 1
-    one (ev.Submit c) = omega arith
-    one ev.Dispatch = omega arith
-    one (ev.Handle s) = omega arith
-    one (ev.Respond s) = omega arith
-    one ev.Publish = omega arith
-    one ev.Clean = omega arith
-    one (ev.Tick k) = omega arith
-    one ev.Block = omega arith
-    one ev.Unblock = omega arith
-    one (ev.Reset k) = omega arith
-    one ev.Restart = omega arith
-    one (ev.Tmr k ss) = omega arith
-    one ev.Stat = omega arith
-    one ev.Enter = omega arith
-
     at_most : (e : EventData) → n + accepted_by e ≤ n + 1
-    at_most e = omega (arith, one e)
+    at_most e = omega (arith, accepts_one e)
 plays R devices n l line.Drains d d' es lt few h is carried p =
     let all = drained R devices l.device n d d' es lt few h p in
     record { entries = all.made.entries; sends_these = all.made.sends_these; after = more_accepted n (n + 1) d' (omega arith) all.made.after }

@@ -120,7 +120,7 @@ last_words t is = go (nat_eq t.qfull 0) (nat_eq t.pages 1)
     go false true = (q, tt)
     go false false = (q, (p, tt))
 
-blocks_few : (t : SettingsData) → IsSettings t → t.blocks ≤ 4096
+pub blocks_few : (t : SettingsData) → IsSettings t → t.blocks ≤ 4096
 blocks_few t is =
     let more : t.blocks ≤ t.blocks * t.pages = le-mul_of_pos_right t.blocks (omega (arith, is.pages_low)) in
     omega (arith, more, is.area)

@@ -15,13 +15,13 @@ use Rattle.tcmu_model.specs.Text.{spaced, line, payload_text, numbers_text, kind
 use Rattle.tcmu_model.proofs.Readings.{same_some}
 use Rattle.text_laws.specs.Configs.{is_other}
 use Rattle.text_laws.specs.Words.{is_field_byte}
-use Rattle.text_laws.specs.Dumps.{IsWrittenItem, IsWrittenHeld, DumpsTold}
+use Rattle.text_laws.specs.Dumps.{IsItemValue, IsHeldValue, IsDumpValue, DumpsTold}
+use Rattle.text_laws.proofs.Apart.{head_or, behind_same, told_apart}
 use Rattle.text_laws.proofs.Cuts.{cut_again}
 use Rattle.text_laws.proofs.Fields.{name_word, joined_pass}
 use Rattle.text_laws.proofs.Lists.{EachLacks, pieces_again, number_lacks}
 use Rattle.text_laws.proofs.Numbers.{all_digits}
 use Rattle.text_laws.proofs.Reading.{first_line}
-use Rattle.text_laws.proofs.Spoken.{head_or, behind_same, told_apart}
 use Rattle.text_laws.proofs.Told.{decimal_told, payload_told}
 use Rattle.text_laws.proofs.Unbroken as unbroken
 use Rattle.text_laws.proofs.Unbroken.{Unbroken, AreUnbroken}
@@ -44,7 +44,7 @@ field_told a b x y h k e =
 digit_other : (x : ℕ) → is_digit x ≡ true → is_other 32 x ≡ true
 digit_other x h = let low : 48 ≤ x = leb-true 48 x (and_parts (nat_le 48 x) (nat_le x 57) h).0 in ap not (ne_eqb x 32 (λ e. omega (arith, low, e)))
 
-number_spaceless : (n : ℕ) → n < 2 ^ 60 → LacksSpace (decimal n)
+number_spaceless : (n : ℕ) → n < 2 ^ 64 → LacksSpace (decimal n)
 number_spaceless n lt = weaker is_digit (is_other 32) digit_other (decimal n) (all_digits n (omega (arith, lt)))
 
 field_other : (x : ℕ) → is_field_byte x ≡ true → is_other 32 x ≡ true
@@ -82,7 +82,7 @@ kind_told kind.Tmr kind.Pad e = absurd (eqb-false 116 112 refl (ap (λ (l : List
 kind_told kind.Tmr kind.Cmd e = absurd (eqb-false 116 99 refl (ap (λ (l : List ℕ). get_or l 0 0) e))
 
 abbrev AreShort : List ℕ → Type 0
-AreShort ns = Every (λ n. n < 2 ^ 60) ns
+AreShort ns = Every (λ n. n < 2 ^ 64) ns
 
 shorts_lack : (ns : List ℕ) → AreShort ns → EachLacks 44 (map decimal ns)
 shorts_lack [] h = tt
@@ -104,14 +104,14 @@ each_number_told (m ∷ ms) (n ∷ ns) h k e =
     ap (λ (x : ℕ). x ∷ ms) (decimal_told m n h.0 k.0 (ap (head_or []) e)) ∙ ap (λ (xs : List ℕ). n ∷ xs) (each_number_told ms ns h.1 k.1 (ap (λ (l : List (List ℕ)). drop 1 l) e))
 
 -- the first byte of a number is a digit
-first_digit : (n : ℕ) (rest : List ℕ) → n < 2 ^ 60 → 48 ≤ get_or (decimal n ++ rest) 0 0
+first_digit : (n : ℕ) (rest : List ℕ) → n < 2 ^ 64 → 48 ≤ get_or (decimal n ++ rest) 0 0
 first_digit n rest lt = go (decimal n) (decimal_nonempty n (omega (arith, lt))) (all_digits n (omega (arith, lt)))
   where
     go : (ds : List ℕ) → 0 < length ds → list_all is_digit ds ≡ true → 48 ≤ get_or (ds ++ rest) 0 0
     go [] some all = absurd (omega (arith, some))
     go (d ∷ ds) some all = leb-true 48 d (and_parts (nat_le 48 d) (nat_le d 57) (and_parts (is_digit d) (list_all is_digit ds) all).0).0
 
-joined_digit : (n : ℕ) (ns : List ℕ) → n < 2 ^ 60 → 48 ≤ get_or (join_with_byte 44 (map decimal (n ∷ ns))) 0 0
+joined_digit : (n : ℕ) (ns : List ℕ) → n < 2 ^ 64 → 48 ≤ get_or (join_with_byte 44 (map decimal (n ∷ ns))) 0 0
 joined_digit n [] lt = subst (λ (l : List ℕ). 48 ≤ get_or l 0 0) (append-nil (decimal n)) (first_digit n [] lt)
 joined_digit n (m ∷ ns) lt = first_digit n (44 ∷ join_with_byte 44 (map decimal (m ∷ ns))) lt
 
@@ -143,13 +143,13 @@ blocks_line (n ∷ ns) = subst Unbroken (sym (blocks_shown n ns)) (unbroken.join
 
 -- ---- lines
 
-abbrev item_line : ItemData → List ℕ
+abbrev pub item_line : ItemData → List ℕ
 item_line i = spaced (codes "# item") (decimal i.at ∷ kind_word i.kind ∷ decimal (length i.bytes) ∷ payload_text i.bytes ∷ [])
 
-abbrev held_line : HeldData → List ℕ
+abbrev pub held_line : HeldData → List ℕ
 held_line h = spaced (codes "# held") (decimal h.serial ∷ blocks_text h.blocks ∷ payload_text h.payload ∷ [])
 
-item_told : (i j : ItemData) → IsWrittenItem i → IsWrittenItem j → item_line i ≡ item_line j → i ≡ j
+item_told : (i j : ItemData) → IsItemValue i → IsItemValue j → item_line i ≡ item_line j → i ≡ j
 item_told i j h k e =
     let at = field_told (decimal i.at) (decimal j.at) _ _ (number_spaceless i.at h.at) (number_spaceless j.at k.at) (ap (λ (l : List ℕ). drop 7 l) e) in
     let word = field_told (kind_word i.kind) (kind_word j.kind) _ _ (kind_spaceless i.kind) (kind_spaceless j.kind) at.1 in
@@ -159,7 +159,7 @@ item_told i j h k e =
     ∙ ap (λ (x : ItemKind). let y : ItemData = record { at = j.at; kind = x; bytes = i.bytes } in y) (kind_told i.kind j.kind word.0)
     ∙ ap (λ (x : List ℕ). let y : ItemData = record { at = j.at; kind = j.kind; bytes = x } in y) bytes
 
-held_told : (i j : HeldData) → IsWrittenHeld i → IsWrittenHeld j → held_line i ≡ held_line j → i ≡ j
+held_told : (i j : HeldData) → IsHeldValue i → IsHeldValue j → held_line i ≡ held_line j → i ≡ j
 held_told i j h k e =
     let serial = field_told (decimal i.serial) (decimal j.serial) _ _ (number_spaceless i.serial h.serial) (number_spaceless j.serial k.serial) (ap (λ (l : List ℕ). drop 7 l) e) in
     let blocks = field_told (blocks_text i.blocks) (blocks_text j.blocks) _ _ (blocks_spaceless i.blocks h.blocks) (blocks_spaceless j.blocks k.blocks) serial.1 in
@@ -168,14 +168,14 @@ held_told i j h k e =
     ∙ ap (λ (x : List ℕ). let y : HeldData = record { serial = j.serial; blocks = x; payload = i.payload } in y) (blocks_told i.blocks j.blocks h.blocks k.blocks blocks.0)
     ∙ ap (λ (x : List ℕ). let y : HeldData = record { serial = j.serial; blocks = j.blocks; payload = x } in y) payload
 
-items_told : (xs ys : List ItemData) → Every IsWrittenItem xs → Every IsWrittenItem ys → map item_line xs ≡ map item_line ys → xs ≡ ys
+items_told : (xs ys : List ItemData) → Every IsItemValue xs → Every IsItemValue ys → map item_line xs ≡ map item_line ys → xs ≡ ys
 items_told [] [] h k e = refl
 items_told [] (y ∷ ys) h k e = absurd (cc)
 items_told (x ∷ xs) [] h k e = absurd (cc)
 items_told (x ∷ xs) (y ∷ ys) h k e =
     ap (λ (i : ItemData). i ∷ xs) (item_told x y h.0 k.0 (ap (head_or []) e)) ∙ ap (λ (is : List ItemData). y ∷ is) (items_told xs ys h.1 k.1 (ap (λ (l : List (List ℕ)). drop 1 l) e))
 
-helds_told : (xs ys : List HeldData) → Every IsWrittenHeld xs → Every IsWrittenHeld ys → map held_line xs ≡ map held_line ys → xs ≡ ys
+helds_told : (xs ys : List HeldData) → Every IsHeldValue xs → Every IsHeldValue ys → map held_line xs ≡ map held_line ys → xs ≡ ys
 helds_told [] [] h k e = refl
 helds_told [] (y ∷ ys) h k e = absurd (cc)
 helds_told (x ∷ xs) [] h k e = absurd (cc)
@@ -184,7 +184,7 @@ helds_told (x ∷ xs) (y ∷ ys) h k e =
 
 -- ---- the lines of a dump are cut again
 
-abbrev Cuts : List ℕ → List (List ℕ) → Type 0
+abbrev pub Cuts : List ℕ → List (List ℕ) → Type 0
 Cuts text ts = (rest : List ℕ) → pieces 10 (text ++ rest) ≡ ts ++ pieces 10 rest
 
 one_cut : (t : List ℕ) → Unbroken t → Cuts (line t) (t ∷ [])
@@ -208,16 +208,16 @@ helds_cut (h ∷ hs) =
     let clean = unbroken.fields (codes "# held") (decimal h.serial ∷ blocks_text h.blocks ∷ payload_text h.payload ∷ []) (record { bytes = refl }) (unbroken.number h.serial, (blocks_line h.blocks, (unbroken.payload h.payload, tt))) in
     both_cut (held_text h) (flat_map held_text hs) (held_line h ∷ []) (map held_line hs) (one_cut (held_line h) clean) (helds_cut hs)
 
-abbrev first_of_dump : List ℕ → DumpData → List ℕ
+abbrev pub first_of_dump : List ℕ → DumpData → List ℕ
 first_of_dump name d = codes "dump " ++ name ++ codes " # shown " ++ decimal (1 + length d.items + length d.held)
 
-abbrev box_line : DumpData → List ℕ
+abbrev pub box_line : DumpData → List ℕ
 box_line d = codes "# box " ++ payload_text d.mailbox
 
-abbrev dump_lines : List ℕ → DumpData → List (List ℕ)
+abbrev pub dump_lines : List ℕ → DumpData → List (List ℕ)
 dump_lines name d = first_of_dump name d ∷ box_line d ∷ (map item_line d.items ++ map held_line d.held)
 
-dump_cut : (name : List ℕ) (d : DumpData) → is_name name ≡ true → Cuts (dump_text name d) (dump_lines name d)
+pub dump_cut : (name : List ℕ) (d : DumpData) → is_name name ≡ true → Cuts (dump_text name d) (dump_lines name d)
 unfolding dump_text
 dump_cut name d n =
     let first = unbroken.joins (codes "dump " ++ name ++ codes " # shown ") (decimal (1 + length d.items + length d.held))
@@ -240,7 +240,7 @@ are_helds : (hs : List HeldData) → Every (λ t. is_item_line t ≡ false) (map
 are_helds [] = tt
 are_helds (h ∷ hs) = (refl, are_helds hs)
 
-name_told : (name other : List ℕ) (d e : DumpData) → is_name name ≡ true → is_name other ≡ true → first_of_dump name d ≡ first_of_dump other e → name ≡ other
+pub name_told : (name other : List ℕ) (d e : DumpData) → is_name name ≡ true → is_name other ≡ true → first_of_dump name d ≡ first_of_dump other e → name ≡ other
 name_told name other d e n m q =
     let rest = ap (λ (l : List ℕ). drop 5 l) q in
     let cut = field_told name other (codes "# shown " ++ decimal (1 + length d.items + length d.held)) (codes "# shown " ++ decimal (1 + length e.items + length e.held)) (name_spaceless name n) (name_spaceless other m)
@@ -255,9 +255,9 @@ cut_same (x ∷ []) [] e = absurd (cc)
 cut_same (x ∷ z ∷ xs) [] e = absurd (cc)
 cut_same (x ∷ xs) (y ∷ ys) e = ap (λ (t : List ℕ). t ∷ xs) (ap (head_or []) e) ∙ ap (λ (l : List (List ℕ)). y ∷ l) (cut_same xs ys (ap (λ (l : List (List ℕ)). drop 1 l) e))
 
-pub dumps_told : DumpsTold
-dumps_told name other d e n m h k q =
-    let lines : dump_lines name d ≡ dump_lines other e = cut_same (dump_lines name d) (dump_lines other e) (sym (dump_cut name d n []) ∙ ap (λ (t : List ℕ). pieces 10 (t ++ [])) q ∙ dump_cut other e m []) in
+-- lines of dumps that are the same
+pub dump_lines_told : (name other : List ℕ) (d e : DumpData) → is_name name ≡ true → is_name other ≡ true → IsDumpValue d → IsDumpValue e → dump_lines name d ≡ dump_lines other e → (name ≡ other) × (d ≡ e)
+dump_lines_told name other d e n m h k lines =
     let box = behind_same (codes "# box ") (payload_text d.mailbox) (payload_text e.mailbox) (ap (λ (l : List (List ℕ)). head_or [] (drop 1 l)) lines) in
     let parts = told_apart is_item_line (map item_line d.items) (map held_line d.held) (map item_line e.items) (map held_line e.held) (are_items d.items) (are_helds d.held) (are_items e.items) (are_helds e.held) (ap (λ (l : List (List ℕ)). drop 2 l) lines) in (
       name_told name other d e n m (ap (head_or []) lines),
@@ -265,3 +265,8 @@ dumps_told name other d e n m h k q =
           ∙ ap (λ (x : List ItemData). let y : DumpData = record { mailbox = e.mailbox; items = x; held = d.held } in y) (items_told d.items e.items h.items k.items parts.0)
           ∙ ap (λ (x : List HeldData). let y : DumpData = record { mailbox = e.mailbox; items = e.items; held = x } in y) (helds_told d.held e.held h.held k.held parts.1),
     )
+
+pub dumps_told : DumpsTold
+dumps_told name other d e n m h k q =
+    dump_lines_told name other d e n m h k
+    (cut_same (dump_lines name d) (dump_lines other e) (sym (dump_cut name d n []) ∙ ap (λ (t : List ℕ). pieces 10 (t ++ [])) q ∙ dump_cut other e m []))

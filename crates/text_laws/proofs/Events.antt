@@ -22,7 +22,7 @@ use Rattle.text_laws.specs.Words.{IsWord, AreWords}
 use Rattle.text_laws.specs.Lines.{IsCarried, made, EventsAgain}
 use Rattle.text_laws.proofs.Numbers.{number_again}
 use Rattle.text_laws.proofs.Hex.{cdb_again}
-use Rattle.text_laws.proofs.Lists.{serials_again}
+use Rattle.text_laws.proofs.Lists.{serials_again, rising_numbers}
 use Rattle.text_laws.proofs.Runs.{runs_again}
 use Rattle.text_laws.proofs.Words.{before_again, fields_again, all_allowed}
 use Rattle.text_laws.proofs.Fields.{name_word, number_word, words_join, hex_word, serials_word, runs_fit}
@@ -106,7 +106,7 @@ tmr_again : (s : ScenarioData) (at : ℕ) (name answer : List ℕ) (kind : ℕ) 
 unfolding event_text with_fields verb_of said_by tmr_line
 tmr_again s at name answer kind serials d n is =
     line_again s (codes "tmr") (name ∷ decimal kind ∷ serials_text serials ∷ []) (32 ∷ answer) (record { some = omega arith; bytes = refl })
-    (name_word name n, (number_word kind (omega (arith, is.known.most)), (serials_word serials is.rising, tt)))
+    (name_word name n, (number_word kind (omega (arith, is.known.most)), (serials_word serials (rising_numbers serials is.rising), tt)))
     ∙ rw (d, number_again 1 7 kind is.known.least is.known.most (omega arith), serials_again serials is.rising) refl
 
 -- ---- submits
@@ -128,16 +128,16 @@ data_words c is h = go (takes_payload c.cdb)
     go false = into (nat_eq c.in_len 0)
 
 -- what the last field of a submit says, where there is one
-record SaysPayload (c : CommandData) (fields : List (List ℕ)) : Type 0 where
-  payload : PayloadField
-  field : payload_fields fields ≡ Some payload
-  says : payload_of payload ≡ Ok (c.sent, c.in_len)
+pub record SaysPayload (c : CommandData) (fields : List (List ℕ)) : Type 0 where
+  pub payload : PayloadField
+  pub field : payload_fields fields ≡ Some payload
+  pub says : payload_of payload ≡ Ok (c.sent, c.in_len)
 
 no_bytes : (xs : List ℕ) → nat_eq (length xs) 0 ≡ true → xs ≡ []
 no_bytes [] e = refl
 no_bytes (x ∷ xs) e = absurd (omega (arith, eqb-true (length (x ∷ xs)) 0 e))
 
-payload_again : (c : CommandData) → IsCommand c → IsCarried c → SaysPayload c (data_fields c)
+pub payload_again : (c : CommandData) → IsCommand c → IsCarried c → SaysPayload c (data_fields c)
 unfolding data_fields
 payload_again c is h = go (takes_payload c.cdb) is.directed
   where

@@ -7,13 +7,13 @@ use Rattle.std.proofs.lemmas.Fmt.{decimal_nonempty}
 use Rattle.std.proofs.lemmas.List.Folds.{list_all-append}
 use Rattle.tcmu_types.specs.Naming.{is_name, is_letter, is_name_byte}
 use Rattle.tcmu_model.specs.Fields.{is_digit}
-use Rattle.tcmu_model.specs.ScenarioRules.{IsWithin, IsRisingTo}
 use Rattle.tcmu_model.specs.Sound.{Every}
 use Rattle.tcmu_model.specs.Text.{hex_digit, hex_byte, runs, run_text, runs_text, numbers_text, serials_text}
 use Rattle.text_laws.specs.Bytes.{AreBytes}
+use Rattle.text_laws.specs.Values.{IsNumber, AreNumbers}
 use Rattle.text_laws.specs.Words.{is_field_byte, IsWord}
 use Rattle.text_laws.proofs.Numbers.{all_digits}
-use Rattle.text_laws.proofs.Lists.{within_each, shown}
+use Rattle.text_laws.proofs.Lists.{shown}
 use Rattle.text_laws.proofs.Runs.{AreRuns, are_runs}
 use Rattle.text_laws.proofs.Words.{weaker}
 
@@ -59,10 +59,8 @@ name_word name h =
     let some : 1 ≤ length name = leb-true _ _ p3.0 in
     record { some = omega (arith, some); bytes = weaker is_name_byte is_field_byte name_byte name p1.1 }
 
-pub number_word : (n : ℕ) → n < 2 ^ 60 → IsWord (decimal n)
-number_word n lt =
-    let small : n < 2 ^ 64 = omega (arith, lt) in
-    record { some = decimal_nonempty n small; bytes = weaker is_digit is_field_byte digit_in_field (decimal n) (all_digits n small) }
+pub number_word : (n : ℕ) → IsNumber n → IsWord (decimal n)
+number_word n lt = record { some = decimal_nonempty n lt; bytes = weaker is_digit is_field_byte digit_in_field (decimal n) (all_digits n lt) }
 
 -- a word behind a word
 pub words_join : (a b : List ℕ) → list_all is_field_byte a ≡ true → IsWord b → IsWord (a ++ b)
@@ -124,21 +122,19 @@ pub runs_fit : (bytes : List ℕ) → AreBytes bytes → length bytes ≤ 104857
 unfolding runs_text
 runs_fit bytes h few = joined_pass is_field_byte 44 (map run_text (runs bytes)) refl (run_fits (length bytes) (runs bytes) (omega (arith, few)) (are_runs bytes h))
 
-numbers_fit : (high : ℕ) (ns : List ℕ) → high < 2 ^ 60 → Every (IsWithin 1 high) ns → Every (λ t. list_all is_field_byte t ≡ true) (map decimal ns)
-numbers_fit high [] lt h = tt
-numbers_fit high (n ∷ ns) lt h = (w.bytes, numbers_fit high ns lt h.1)
+numbers_fit : (ns : List ℕ) → AreNumbers ns → Every (λ t. list_all is_field_byte t ≡ true) (map decimal ns)
+numbers_fit [] h = tt
+numbers_fit (n ∷ ns) h = (w.bytes, numbers_fit ns h.1)
   where
     w : IsWord (decimal n)
-    w = number_word n (omega (arith, lt, h.0.most))
+    w = number_word n h.0
 
-pub numbers_word : (at high n : ℕ) (ns : List ℕ) → is_field_byte at ≡ true → high < 2 ^ 60 → IsRisingTo high (n ∷ ns) → IsWord (numbers_text at (n ∷ ns))
+numbers_word : (at n : ℕ) (ns : List ℕ) → is_field_byte at ≡ true → AreNumbers (n ∷ ns) → IsWord (numbers_text at (n ∷ ns))
 unfolding numbers_text
-numbers_word at high n ns a lt is =
-    let each = within_each high (n ∷ ns) is.each in
-    record { some = go ns; bytes = joined_pass is_field_byte at (map decimal (n ∷ ns)) a (numbers_fit high (n ∷ ns) lt each) }
+numbers_word at n ns a h = record { some = go ns; bytes = joined_pass is_field_byte at (map decimal (n ∷ ns)) a (numbers_fit (n ∷ ns) h) }
   where
     first : IsWord (decimal n)
-    first = number_word n (omega (arith, lt, (within_each high (n ∷ ns) is.each).0.most))
+    first = number_word n h.0
 
     longer : (xs ys : List ℕ) → 0 < length xs → 0 < length (xs ++ ys)
     longer [] ys h = absurd (omega (arith, h))
@@ -152,6 +148,6 @@ none_word : IsWord (serials_text [])
 unfolding serials_text
 none_word = record { some = omega arith; bytes = refl }
 
-pub serials_word : (ns : List ℕ) → IsRisingTo 1000000000 ns → IsWord (serials_text ns)
-serials_word [] is = none_word
-serials_word (n ∷ ns) is = subst IsWord (sym (shown n ns)) (numbers_word 44 1000000000 n ns refl (omega arith) is)
+pub serials_word : (ns : List ℕ) → AreNumbers ns → IsWord (serials_text ns)
+serials_word [] h = none_word
+serials_word (n ∷ ns) h = subst IsWord (sym (shown n ns)) (numbers_word 44 n ns refl h)

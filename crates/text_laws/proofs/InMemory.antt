@@ -8,7 +8,6 @@ use Rattle.tcmu_model.specs.Device.{Device, opening}
 use Rattle.tcmu_model.specs.Medium.{memory_below, opened_medium}
 use Rattle.tcmu_model.specs.Config.{MediumData, InMemory, InFile}
 use Rattle.tcmu_model.specs.ScenarioData.{DeviceLineData, ScenarioData}
-use Rattle.tcmu_model.specs.ScenarioRules.{IsEvent}
 use Rattle.tcmu_model.specs.Scenario.{scenario_of}
 use Rattle.tcmu_model.specs.Scsi.{Serves}
 use Rattle.tcmu_model.specs.Several.{Journaled, IsReplayOf}
@@ -17,13 +16,13 @@ use Rattle.tcmu_model.proofs.Everies.{every-mapped, every-weaker}
 use Rattle.tcmu_model.proofs.Readings.{same_some, same_ok, both, mapped}
 use Rattle.tcmu_model.proofs.ScenarioLaws.{scenario_is}
 use Rattle.block_engine.specs.Determined.{IsInMemory}
-use Rattle.text_laws.specs.Lines.{CarriesBytes}
 use Rattle.text_laws.specs.Replays.{entries_of, written, OpenAs, IsJournalOf}
-use Rattle.text_laws.specs.Readings.{HaveLines}
+use Rattle.text_laws.specs.Values.{IsEventValue}
 use Rattle.text_laws.specs.InMemory.{memory_device, IsTextOf, IsOwnText, LawOfReplay, LawOfJournals, HasOneText, HasOneJournal}
 use Rattle.text_laws.proofs.Asked.{IsWithinLines}
+use Rattle.text_laws.proofs.Asks.{line_value}
 use Rattle.text_laws.proofs.Carried.{spelled_read}
-use Rattle.text_laws.proofs.OneReading.{one_reading}
+use Rattle.text_laws.proofs.OneReading.{one_journal}
 use Rattle.text_laws.proofs.Replays.{read_back, replayed_again, scenario_again, replay_asked, replay_journal}
 use Rattle.text_laws.proofs.Settled.{one_text}
 
@@ -85,12 +84,12 @@ law_of_journals bytes text s js read is keeps =
     let replay = replayed_again Serves s.devices is.opened js is.ends text is.journal is.done in
     (back, own_text text (written s.devices (entries_of js)) is.opened back is.memory replay)
 
--- the events of a scenario's replay are within the limits of lines
-have_lines : (bytes text : List ℕ) (s : ScenarioData) → scenario_of bytes ≡ Ok s → (is : IsTextOf s text) → HaveLines is.replay.journal
-have_lines bytes text s read is =
+-- the events of a scenario's replay are events of the code
+are_values : (bytes text : List ℕ) (s : ScenarioData) → scenario_of bytes ≡ Ok s → (is : IsTextOf s text) → Every (λ j. IsEventValue j.entry.event) is.replay.journal
+are_values bytes text s read is =
     let starts = all_open s.devices is.opened is.memory in
     let asked = replay_asked Serves bytes text s is.opened read starts.0 is.replay in
-    every-mapped (λ (j : Journaled). j.entry) (λ (e : EntryData). IsEvent e.event × CarriesBytes e.event) is.replay.journal (every-weaker (IsWithinLines (length s.devices)) (λ (e : EntryData). IsEvent e.event × CarriesBytes e.event) (entries_of is.replay.journal) (λ e h. (h.event, h.bytes)) asked.entries)
+    every-mapped (λ (j : Journaled). j.entry) (λ (e : EntryData). IsEventValue e.event) is.replay.journal (every-weaker (IsWithinLines (length s.devices)) (λ (e : EntryData). IsEventValue e.event) (entries_of is.replay.journal) (λ e h. line_value e.event h.event h.bytes) asked.entries)
 
 journal_of : (bytes text : List ℕ) (s : ScenarioData) → scenario_of bytes ≡ Ok s → (is : IsTextOf s text) → IsJournalOf Serves s.devices is.opened is.replay.journal is.replay.ends text
 journal_of bytes text s read is = let starts = all_open s.devices is.opened is.memory in replay_journal Serves bytes text s is.opened read starts.0 is.replay
@@ -99,7 +98,6 @@ pub has_one_journal : HasOneJournal
 has_one_journal bytes others text s t read read' is it =
     let first = scenario_is bytes s read in
     let other = scenario_is others t read' in
-    let one = one_reading Serves Serves s.devices t.devices is.opened it.opened is.replay.journal it.replay.journal is.replay.ends it.replay.ends text
+    one_journal Serves Serves s.devices t.devices is.opened it.opened is.replay.journal it.replay.journal is.replay.ends it.replay.ends text
     (record { spelled = spelled_read bytes s read; names = first.names }) (record { spelled = spelled_read others t read'; names = other.names })
-    (have_lines bytes text s read is) (have_lines others text t read' it) (journal_of bytes text s read is) (journal_of others text t read' it) in
-    (one.0, one.1)
+    (are_values bytes text s read is) (are_values others text t read' it) (journal_of bytes text s read is) (journal_of others text t read' it)

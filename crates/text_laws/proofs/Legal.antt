@@ -1,5 +1,5 @@
 -- Journals that are legal on each of several devices, one entry after another.
-use Rattle.std.proofs.Common.{◌≡◌, ℕ, ◌<◌, Bool, true, false, nat_eq, List, [], ◌∷◌, ◌++◌, map, slice_get, slice_set, Some, refl, sym, ap, ◌∙◌, subst}
+use Rattle.std.proofs.Common.{◌≡◌, ℕ, ◌<◌, Bool, true, false, cond, nat_eq, List, [], ◌∷◌, ◌++◌, map, slice_get, slice_set, Some, refl, sym, ap, ◌∙◌, subst}
 use Rattle.std.specs.List.{filter}
 use Rattle.std.proofs.lemmas.Bool.{eq-eqb, eqb-true, eqb-false, cond-true, cond-false}
 use Rattle.tcmu_types.specs.Data.{DoneData}
@@ -60,13 +60,14 @@ completions_keep R P d d' (j ∷ js) r h =
     let both : Every P (d.state.log ++ j.completions) = subst (Every P) r.2 rest.1 in
     ((every-back P d.state.log j.completions both, rest.0), every-front P d.state.log j.completions both)
 
--- what holds of the entries of each device holds of all
-pub each_of : (P : Journaled → Type 0) (n : ℕ) (js : List Journaled) → Every (λ j. j.entry.device < n) js → ((k : ℕ) → k < n → Every P (filter (is_of k) js)) → Every P js
-each_of P n [] within h = tt
-each_of P n (j ∷ js) within h =
-    let first : Every P (j ∷ filter (is_of j.entry.device) js) = subst (Every P) (own j.entry.device j js refl) (h j.entry.device within.0) in
-    (first.0, each_of P n js within.1 (λ k lt. drop_first k (nat_eq j.entry.device k) refl (h k lt)))
+-- what holds of the items of each number holds of all
+pub each_of : {X : Type 0} (number : X → ℕ) (P : X → Type 0) (n : ℕ) (xs : List X) → Every (λ x. number x < n) xs → ((k : ℕ) → k < n → Every P (filter (λ x. nat_eq (number x) k) xs)) → Every P xs
+each_of number P n [] within h = tt
+each_of {X} number P n (x ∷ xs) within h =
+    let own : filter (λ y. nat_eq (number y) (number x)) (x ∷ xs) ≡ x ∷ filter (λ y. nat_eq (number y) (number x)) xs = cond-true _ _ _ (eq-eqb (number x) (number x) refl) in
+    let first : Every P (x ∷ filter (λ y. nat_eq (number y) (number x)) xs) = subst (Every P) own (h (number x) within.0) in
+    (first.0, each_of number P n xs within.1 (λ k lt. drop_first k (nat_eq (number x) k) (h k lt)))
   where
-    drop_first : (k : ℕ) (b : Bool) → nat_eq j.entry.device k ≡ b → Every P (filter (is_of k) (j ∷ js)) → Every P (filter (is_of k) js)
-    drop_first k true e p = let q : Every P (j ∷ filter (is_of k) js) = subst (Every P) (own k j js (eqb-true _ _ e)) p in q.1
-    drop_first k false e p = subst (Every P) (other k j js e) p
+    drop_first : (k : ℕ) (b : Bool) → Every P (cond b (x ∷ filter (λ y. nat_eq (number y) k) xs) (filter (λ y. nat_eq (number y) k) xs)) → Every P (filter (λ y. nat_eq (number y) k) xs)
+    drop_first k true p = p.1
+    drop_first k false p = p

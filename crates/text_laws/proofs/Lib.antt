@@ -1,6 +1,8 @@
 pub mod Numbers
 pub mod Hex
 pub mod Lists
+pub mod Apart
+pub mod Asks
 pub mod Runs
 pub mod Flags
 pub mod Words
@@ -22,9 +24,14 @@ pub mod WholeLines
 pub mod Reading
 pub mod Replays
 pub mod Told
+pub mod EventLines
+pub mod Prints
 pub mod SameEvent
 pub mod Spoken
+pub mod Telling
 pub mod OneReading
 pub mod Settled
 pub mod InMemory
 pub mod Dumped
+pub mod Pictured
+pub mod PrintValues

@@ -15,7 +15,9 @@ use Rattle.tcmu_model.specs.Fields.{pieces, is_digit, number_of, is_rising, risi
 use Rattle.tcmu_model.specs.Text.{numbers_text, serials_text}
 use Rattle.tcmu_model.specs.ScenarioRules.{IsWithin, IsRisingTo}
 use Rattle.tcmu_model.specs.Sound.{Every}
+use Rattle.tcmu_model.proofs.Everies.{every-weaker}
 use Rattle.text_laws.specs.Pieces.{RisingAgain, SerialsAgain}
+use Rattle.text_laws.specs.Values.{IsNumber, AreNumbers}
 use Rattle.text_laws.proofs.Numbers.{all_digits, number_again}
 
 abbrev pub Lacks : ℕ → List ℕ → Type 0
@@ -43,6 +45,10 @@ pub within_each : (high : ℕ) (ns : List ℕ) → All (IsWithin 1 high) ns → 
 within_each high [] h = tt
 within_each high (n ∷ ns) h = (All-head (IsWithin 1 high) n ns h, within_each high ns (All-tail (IsWithin 1 high) n ns h))
 
+-- rising serials of lines are numbers of the code
+pub rising_numbers : (ns : List ℕ) → IsRisingTo 1000000000 ns → AreNumbers ns
+rising_numbers ns is = every-weaker (IsWithin 1 1000000000) IsNumber ns (λ n w. omega (arith, w.most)) (within_each 1000000000 ns is.each)
+
 numbers_lack : (at high : ℕ) (ns : List ℕ) → at < 48 → high < 2 ^ 60 → AreWithin high ns → EachLacks at (map decimal ns)
 numbers_lack at high [] low lt h = tt
 numbers_lack at high (n ∷ ns) low lt h = (number_lacks at n low (omega (arith, lt, h.0.most)), numbers_lack at high ns low lt h.1)
@@ -63,8 +69,8 @@ rising_again at high (n ∷ ns) low lt is some =
     ∙ cond-true _ _ _ (and_from _ _ is.rising (le-leb _ _ is.few))
 
 -- a text that begins with a digit is not the word `none`
-not_none : (n : ℕ) (rest : List ℕ) → n < 2 ^ 60 → bytes_eq (decimal n ++ rest) (codes "none") ≡ false
-not_none n rest lt = go (decimal n) (decimal_nonempty n (omega (arith, lt))) (all_digits n (omega (arith, lt)))
+pub not_none : (n : ℕ) (rest : List ℕ) → IsNumber n → bytes_eq (decimal n ++ rest) (codes "none") ≡ false
+not_none n rest lt = go (decimal n) (decimal_nonempty n lt) (all_digits n lt)
   where
     go : (ds : List ℕ) → 0 < length ds → list_all is_digit ds ≡ true → bytes_eq (ds ++ rest) (codes "none") ≡ false
     go [] some all = absurd (omega (arith, some))
@@ -72,7 +78,7 @@ not_none n rest lt = go (decimal n) (decimal_nonempty n (omega (arith, lt))) (al
         let small : d ≤ 57 = leb-true d 57 (and_parts (nat_le 48 d) (nat_le d 57) (and_parts (is_digit d) (list_all is_digit ds) all).0).1 in
         ap (λ b. b && bytes_eq (ds ++ rest) (codes "one")) (ne_eqb d 110 (λ e. omega (arith, small, e)))
 
-joined : (at n : ℕ) (ns : List ℕ) → (rest : List ℕ) × (numbers_text at (n ∷ ns) ≡ decimal n ++ rest)
+pub joined : (at n : ℕ) (ns : List ℕ) → (rest : List ℕ) × (numbers_text at (n ∷ ns) ≡ decimal n ++ rest)
 unfolding numbers_text
 joined at n [] = ([], sym (append-nil (decimal n)))
 joined at n (m ∷ ns) = (at ∷ join_with_byte at (map decimal (m ∷ ns)), refl)

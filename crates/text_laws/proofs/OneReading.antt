@@ -1,9 +1,10 @@
--- Two journals that have one text are the same.
-use Rattle.std.proofs.Common.{◌≡◌, ◌≢◌, ℕ, zero, suc, ◌<◌, Bool, true, false, nat_eq, List, [], ◌∷◌, ◌++◌, length, map, drop, slice_get, slice_set, Some, refl, sym, ap, ◌∙◌, subst, arith}
-use Rattle.std.specs.List.{filter, AllPairs}
+-- Two lists of entries and dumps that have one text are the same.
+use Rattle.std.proofs.Common.{◌≡◌, ℕ, zero, suc, ◌<◌, Bool, true, false, nat_eq, List, [], ◌∷◌, ◌++◌, length, map, drop, slice_get, slice_set, Some, refl, sym, ap, ◌∙◌, subst, arith}
+use Rattle.std.specs.List.{filter, flat_map}
 use Rattle.std.proofs.lemmas.Bool.{eqb-true, eqb-false}
 use Rattle.std.proofs.lemmas.List.{append-nil}
 use Rattle.tcmu_types.specs.Data.{DoneData}
+use Rattle.tcmu_types.specs.Dumps.{DumpData}
 use Rattle.tcmu_types.specs.Events.{EventData, AnswerData, EntryData}
 use Rattle.tcmu_model.specs.Device.{DeviceState, Device, opening_state}
 use Rattle.tcmu_model.specs.Fields.{pieces}
@@ -16,15 +17,22 @@ use Rattle.tcmu_model.proofs.Everies.{every-weaker}
 use Rattle.tcmu_model.proofs.Readings.{same_some}
 use Rattle.tcmu_model.proofs.Runs.{sound_step}
 use Rattle.text_laws.specs.Devices.{IsSpelledDevice}
+use Rattle.text_laws.specs.Printed.{Printed, AnEntry, ADump, device_of, entries_in, IsValue, IsListOf}
 use Rattle.text_laws.specs.Replays.{OpenAs, IsJournalOf}
-use Rattle.text_laws.specs.Readings.{HaveLines, AreAlike, HasOneReading}
-use Rattle.text_laws.proofs.Asked.{IsWithinLines, HasAccepted}
+use Rattle.text_laws.specs.Readings.{AreNamed, AreAlike, HasOneReading, HasOneReadingOfAny}
+use Rattle.text_laws.specs.Values.{IsEventValue}
+use Rattle.text_laws.proofs.Asked.{HasAccepted}
+use Rattle.text_laws.proofs.Asks.{AsksCommand}
 use Rattle.text_laws.proofs.Legal.{first_step}
-use Rattle.text_laws.proofs.Replays.{opened_count, accepted_none, journal_named}
+use Rattle.text_laws.proofs.Apart.{behind_same}
+use Rattle.text_laws.proofs.PrintValues.{all_values}
+use Rattle.text_laws.proofs.Prints.{own_text, entries_journal, undumped, entries_again, every_undumped, journal_list}
+use Rattle.text_laws.proofs.Replays.{opened_count, accepted_none, journal_named, journal_asks}
 use Rattle.text_laws.proofs.SameEvent.{same_event}
 use Rattle.text_laws.proofs.Sets.{get_within, get_found, get_set, get_other, every_get, every_set, length_set}
-use Rattle.text_laws.proofs.Spoken.{is_spoken, told, spoken_whole, two_parts, devices_told, behind_same, head_or, Tells, entry_told}
-use Rattle.text_laws.proofs.WholeLines.{told_device}
+use Rattle.text_laws.proofs.Spoken.{is_telling, told_lines, IsReadable, spoken_whole}
+use Rattle.text_laws.proofs.Telling.{two_parts, devices_told, Tells, AllTell, lines_tell}
+use Rattle.text_laws.proofs.WholeLines.{Named, told_device}
 
 -- ---- entries
 
@@ -124,22 +132,14 @@ behind R ls ds j js ends h =
     }
 
 -- entry for entry, both tell the same
-abbrev pub AllTell : List DeviceLineData → List Journaled → List Journaled → Type 0
-AllTell ls [] [] = Unit {0}
-AllTell ls [] (f ∷ fs) = ⊥
-AllTell ls (j ∷ js) [] = ⊥
-AllTell ls (j ∷ js) (f ∷ fs) = Tells ls j f × AllTell ls js fs
-
-lines_tell : (ls : List DeviceLineData) (js fs : List Journaled) → AllPairs (λ d e. d.name ≢ e.name) ls → Every IsSpelledDevice ls → Every (λ j. IsWithinLines (length ls) j.entry) js → Every (λ j. IsWithinLines (length ls) j.entry) fs
-    → map (told ls) js ≡ map (told ls) fs → AllTell ls js fs
-lines_tell ls [] [] pairs sp h k e = tt
-lines_tell ls [] (f ∷ fs) pairs sp h k e = absurd (cc)
-lines_tell ls (j ∷ js) [] pairs sp h k e = absurd (cc)
-lines_tell ls (j ∷ js) (f ∷ fs) pairs sp h k e =
-    (entry_told ls j f pairs sp h.0 k.0 (ap (head_or []) e), lines_tell ls js fs pairs sp h.1 k.1 (ap (λ (l : List (List ℕ)). drop 1 l) e))
+abbrev pub EntriesTell : List DeviceLineData → List Journaled → List Journaled → Type 0
+EntriesTell ls [] [] = Unit {0}
+EntriesTell ls [] (f ∷ fs) = ⊥
+EntriesTell ls (j ∷ js) [] = ⊥
+EntriesTell ls (j ∷ js) (f ∷ fs) = Tells ls j f × EntriesTell ls js fs
 
 pub journals_same : (R Q : HandlerRelation) (ls : List DeviceLineData) (ds es : List Device) (js fs : List Journaled) (ends lasts : List Device) → AreAlike ds es
-    → GoesOn R ls ds js ends → GoesOn Q ls es fs lasts → AllTell ls js fs → (js ≡ fs) × AreAlike ends lasts
+    → GoesOn R ls ds js ends → GoesOn Q ls es fs lasts → EntriesTell ls js fs → (js ≡ fs) × AreAlike ends lasts
 journals_same R Q ls ds es [] [] ends lasts alike h k e = (
   refl,
   λ at x y p q.
@@ -162,30 +162,81 @@ journals_same R Q ls ds es (j ∷ js) (f ∷ fs) ends lasts alike h k e =
     let rest = journals_same R Q ls (slice_set ds j.entry.device a.mid) (slice_set es j.entry.device b.mid) js fs ends lasts later a.rest goes e.1 in
     (ap (λ (x : Journaled). x ∷ js) one.0 ∙ ap (λ (xs : List Journaled). f ∷ xs) rest.0, rest.1)
 
+-- ---- dumps between the entries
+
+entries_tell : (ls : List DeviceLineData) (ps qs : List Printed) → AllTell ls ps qs → EntriesTell ls (entries_in ps) (entries_in qs)
+entries_tell ls [] [] e = tt
+entries_tell ls [] (q ∷ qs) e = absurd e
+entries_tell ls (p ∷ ps) [] e = absurd e
+entries_tell ls (AnEntry j ∷ ps) (AnEntry f ∷ qs) e = (e.0, entries_tell ls ps qs e.1)
+entries_tell ls (AnEntry j ∷ ps) (ADump to d ∷ qs) e = absurd e.0
+entries_tell ls (ADump at d ∷ ps) (AnEntry f ∷ qs) e = absurd e.0
+entries_tell ls (ADump at d ∷ ps) (ADump to c ∷ qs) e = entries_tell ls ps qs e.1
+
+abbrev first_entry : Journaled → List Journaled → Journaled
+first_entry j [] = j
+first_entry j (f ∷ fs) = f
+
+-- lists that tell the same are the same where their entries are
+prints_same : (ls : List DeviceLineData) (ps qs : List Printed) → AllTell ls ps qs → entries_in ps ≡ entries_in qs → ps ≡ qs
+prints_same ls [] [] e same = refl
+prints_same ls [] (q ∷ qs) e same = absurd e
+prints_same ls (p ∷ ps) [] e same = absurd e
+prints_same ls (AnEntry j ∷ ps) (AnEntry f ∷ qs) e same =
+    ap (λ (x : Journaled). AnEntry x ∷ ps) (ap (first_entry j) same)
+    ∙ ap (λ (xs : List Printed). AnEntry f ∷ xs) (prints_same ls ps qs e.1 (ap (λ (xs : List Journaled). drop 1 xs) same))
+prints_same ls (AnEntry j ∷ ps) (ADump to d ∷ qs) e same = absurd e.0
+prints_same ls (ADump at d ∷ ps) (AnEntry f ∷ qs) e same = absurd e.0
+prints_same ls (ADump at d ∷ ps) (ADump to c ∷ qs) e same =
+    ap (λ (n : ℕ). ADump n d ∷ ps) e.0.0 ∙ ap (λ (x : DumpData). ADump to x ∷ ps) e.0.1 ∙ ap (λ (xs : List Printed). ADump to c ∷ xs) (prints_same ls ps qs e.1 same)
+
 -- ---- texts
 
-within_lines : (n : ℕ) (js : List Journaled) → Every (λ j. j.entry.device < n) js → HaveLines js → Every (λ j. IsWithinLines n j.entry) js
-within_lines n [] h k = tt
-within_lines n (j ∷ js) h k = (record { device = h.0; event = k.0.0; bytes = k.0.1 }, within_lines n js h.1 k.1)
+-- what holds of the entries of a list holds of each that is printed
+readable : (n : ℕ) (ps : List Printed) → Every (λ p. device_of p < n) ps → Every IsValue ps → Every (λ j. AsksCommand j.entry.event) (entries_in ps) → Every (λ j. Every Named j.completions) (entries_in ps) → Every (IsReadable n) ps
+readable n [] h v a m = tt
+readable n (AnEntry j ∷ ps) h v a m = (record { device = h.0; asks = a.0; value = v.0; named = m.0 }, readable n ps h.1 v.1 a.1 m.1)
+readable n (ADump at d ∷ ps) h v a m = (record { device = h.0; asks = tt; value = v.0; named = tt }, readable n ps h.1 v.1 a m)
 
-goes_on : (R : HandlerRelation) (ls : List DeviceLineData) (opened : List Device) (js : List Journaled) (ends : List Device) (text : List ℕ) → Every IsSpelledDevice ls → IsJournalOf R ls opened js ends text → GoesOn R ls opened js ends
-goes_on R ls opened js ends text sp is = record { count = opened_count ls opened is.opens; last = is.count; sound = opened_sound ls opened sp is.opens; within = is.devices; legal = is.legal }
+all_readable : (R : HandlerRelation) (ls : List DeviceLineData) (opened : List Device) (ps : List Printed) (ends : List Device) (text : List ℕ) → Every IsValue ps → IsListOf R ls opened ps ends text → Every (IsReadable (length ls)) ps
+all_readable R ls opened ps ends text values is =
+    let journal = entries_journal R ls opened ps ends text is in
+    readable (length ls) ps is.devices values (journal_asks R ls opened (entries_in ps) ends (own_text ls ps ends) journal) (journal_named R ls opened (entries_in ps) ends (own_text ls ps ends) journal)
 
-pub one_reading : (R Q : HandlerRelation) → HasOneReading R Q
-one_reading R Q ls ks opened started js fs ends lasts text named named' lines lines' is it =
-    let spoken = spoken_whole ls js ends named.spelled (within_lines (length ls) js is.devices lines) (journal_named R ls opened js ends text is) in
-    let spoken' = spoken_whole ks fs lasts named'.spelled (within_lines (length ks) fs it.devices lines') (journal_named Q ks started fs lasts text it) in
-    let whole : (map told_device ls ++ map (told ls) js) ++ [] ++ [] ≡ (map told_device ks ++ map (told ks) fs) ++ [] ++ [] =
-    sym spoken ∙ ap (λ (t : List ℕ). filter is_spoken (pieces 10 (t ++ []))) (sym is.whole ∙ it.whole) ∙ spoken' in
-    let lists : map told_device ls ++ map (told ls) js ≡ map told_device ks ++ map (told ks) fs =
-    sym (bare (map told_device ls ++ map (told ls) js)) ∙ whole ∙ bare (map told_device ks ++ map (told ks) fs) in
-    let parts = two_parts ls ks js fs lists in
+goes_on : (R : HandlerRelation) (ls : List DeviceLineData) (opened : List Device) (ps : List Printed) (ends : List Device) (text : List ℕ) → Every IsSpelledDevice ls → IsListOf R ls opened ps ends text → GoesOn R ls opened (entries_in ps) ends
+goes_on R ls opened ps ends text sp is =
+    let journal = entries_journal R ls opened ps ends text is in
+    record { count = opened_count ls opened is.opens; last = is.count; sound = opened_sound ls opened sp is.opens; within = journal.devices; legal = journal.legal }
+
+-- lists of events and dumps of the code
+pub one_list : (R Q : HandlerRelation) → HasOneReadingOfAny R Q
+one_list R Q ls ks opened started ps qs ends lasts text named named' values values' is it =
+    let spoken = spoken_whole ls ps ends named.spelled (all_readable R ls opened ps ends text values is) in
+    let spoken' = spoken_whole ks qs lasts named'.spelled (all_readable Q ks started qs lasts text values' it) in
+    let whole : (map told_device ls ++ flat_map (told_lines ls) ps) ++ [] ++ [] ≡ (map told_device ks ++ flat_map (told_lines ks) qs) ++ [] ++ [] =
+    sym spoken ∙ ap (λ (t : List ℕ). filter is_telling (pieces 10 (t ++ []))) (sym is.whole ∙ it.whole) ∙ spoken' in
+    let lists : map told_device ls ++ flat_map (told_lines ls) ps ≡ map told_device ks ++ flat_map (told_lines ks) qs =
+    sym (bare (map told_device ls ++ flat_map (told_lines ls) ps)) ∙ whole ∙ bare (map told_device ks ++ flat_map (told_lines ks) qs) in
+    let parts = two_parts ls ks ps qs lists in
     let devices : ls ≡ ks = devices_told ls ks named.spelled named'.spelled parts.0 in
-    let it_is : IsJournalOf Q ls started fs lasts text = subst (λ (x : List DeviceLineData). IsJournalOf Q x started fs lasts text) (sym devices) it in
-    let told_is : map (told ls) js ≡ map (told ls) fs = parts.1 ∙ ap (λ (x : List DeviceLineData). map (told x) fs) (sym devices) in
-    let tell = lines_tell ls js fs named.names named.spelled (within_lines (length ls) js is.devices lines) (within_lines (length ls) fs it_is.devices lines') told_is in
-    let rest = journals_same R Q ls opened started js fs ends lasts (opened_alike ls opened started is.opens it_is.opens) (goes_on R ls opened js ends text named.spelled is) (goes_on Q ls started fs lasts text named.spelled it_is) tell in
-    (devices, rest.0, rest.1)
+    let it_is : IsListOf Q ls started qs lasts text = subst (λ (x : List DeviceLineData). IsListOf Q x started qs lasts text) (sym devices) it in
+    let told_is : flat_map (told_lines ls) ps ≡ flat_map (told_lines ls) qs = parts.1 ∙ ap (λ (x : List DeviceLineData). flat_map (told_lines x) qs) (sym devices) in
+    let tell = lines_tell ls ps qs named.names named.spelled (all_readable R ls opened ps ends text values is) (all_readable Q ls started qs lasts text values' it_is) told_is in
+    let rest = journals_same R Q ls opened started (entries_in ps) (entries_in qs) ends lasts (opened_alike ls opened started is.opens it_is.opens) (goes_on R ls opened ps ends text named.spelled is) (goes_on Q ls started qs lasts text named.spelled it_is) (entries_tell ls ps qs tell) in
+    record { devices = devices; printed = prints_same ls ps qs tell rest.0; states = rest.1 }
   where
     bare : (xs : List (List ℕ)) → xs ++ [] ++ [] ≡ xs
     bare xs = append-nil (xs ++ []) ∙ append-nil xs
+
+-- lists whose dumps are pictures
+pub one_reading : (R Q : HandlerRelation) → HasOneReading R Q
+one_reading R Q ls ks opened started ps qs ends lasts text named named' values values' is it =
+    one_list R Q ls ks opened started ps qs ends lasts text named named' (all_values R ls opened ps ends text named.spelled values is) (all_values Q ks started qs lasts text named'.spelled values' it) is.list it.list
+
+-- journals without dumps
+pub one_journal : (R Q : HandlerRelation) (ls ks : List DeviceLineData) (opened started : List Device) (js fs : List Journaled) (ends lasts : List Device) (text : List ℕ) → AreNamed ls → AreNamed ks
+    → Every (λ j. IsEventValue j.entry.event) js → Every (λ j. IsEventValue j.entry.event) fs → IsJournalOf R ls opened js ends text → IsJournalOf Q ks started fs lasts text → (ls ≡ ks) × (js ≡ fs)
+one_journal R Q ls ks opened started js fs ends lasts text named named' values values' is it =
+    let one = one_list R Q ls ks opened started (undumped js) (undumped fs) ends lasts text named named' (every_undumped IsValue js values) (every_undumped IsValue fs values')
+    (journal_list R ls opened js ends text is) (journal_list Q ks started fs lasts text it) in
+    (one.devices, sym (entries_again js) ∙ ap entries_in one.printed ∙ entries_again fs)

@@ -28,6 +28,7 @@ use Rattle.text_laws.specs.Devices.{IsSpelledDevice, IsNew}
 use Rattle.text_laws.specs.Lines.{CarriesBytes, made}
 use Rattle.text_laws.specs.Replays.{lines_of, entries_of, written}
 use Rattle.text_laws.proofs.Asked.{IsWithinLines}
+use Rattle.text_laws.proofs.Asks.{line_asks, line_value}
 use Rattle.text_laws.proofs.Comments.{comments_ignored, empty_ignored}
 use Rattle.text_laws.proofs.Devices.{devices_again, same_text}
 use Rattle.text_laws.proofs.Events.{events_again}
@@ -171,7 +172,7 @@ reads_event : (ls : List DeviceLineData) (l : DeviceLineData) (front : List Line
 unfolding event_line
 reads_event ls l front e rest t pairs found n is h fits k =
     let shown = answer_text l.settings.qfull e.event e.answer in
-    reads_line (so_far ls front) (so_far ls (front ++ made e.device e.event ∷ [])) t (told_event l.name l.settings.qfull e.event e.answer) rest (told_line l.name l.settings.qfull e.event e.answer n is h)
+    reads_line (so_far ls front) (so_far ls (front ++ made e.device e.event ∷ [])) t (told_event l.name l.settings.qfull e.event e.answer) rest (told_line l.name l.settings.qfull e.event e.answer n (line_asks e.event is) (line_value e.event is h))
     (ap (with_text (so_far ls front)) (append_assoc (event_text l.name e.event) (codes " # ") shown)
     ∙ events_again (so_far ls front) e.device l.name e.event shown (its_number ls front e.device l pairs found) n is h ∙ adds ls front e.device e.event fits) k
 

@@ -28,6 +28,7 @@ use Rattle.text_laws.specs.Devices.{IsSpelledDevice}
 use Rattle.text_laws.specs.Lines.{CarriesBytes, made}
 use Rattle.text_laws.specs.Replays.{entries_of, lines_of, OpenAs, IsJournalOf, IsReadBack, IsReplayedAgain, IsScenarioAgain}
 use Rattle.text_laws.proofs.Asked.{HasAccepted, IsAskable, IsWithinLines, IsAsked, replays_asked}
+use Rattle.text_laws.proofs.Asks.{AsksCommand, run_asks}
 use Rattle.text_laws.proofs.Carried.{carried_read, spelled_read}
 use Rattle.text_laws.proofs.Kept.{replay_keeps}
 use Rattle.text_laws.proofs.Legal.{first_step, run_entries, completions_keep, each_of}
@@ -89,7 +90,7 @@ accepted_none (l ∷ ls) [] sp h = absurd h
 accepted_none (l ∷ ls) (d ∷ ds) sp h =
     (subst (HasAccepted 0) (sym h.0.1) (record { sound = sound_opening l.settings sp.0.line.settings; few = omega arith }), accepted_none ls ds sp.1 h.1)
 
--- ---- what a journal tells of its completions
+-- ---- what a journal tells of its completions and commands
 
 run_named : (R : HandlerRelation) (d d' : Device) (js : List Journaled) → Opened d → RunLogs R d js d' → Every (λ j. Every Named j.completions) js
 run_named R d d' js o run =
@@ -98,13 +99,22 @@ run_named R d d' js o run =
     (completions_keep R Named (opening o.0.settings o.0.name o.1) d' js started log).0
 
 pub journal_named : (R : HandlerRelation) (ls : List DeviceLineData) (opened : List Device) (js : List Journaled) (ends : List Device) (text : List ℕ) → IsJournalOf R ls opened js ends text → Every (λ j. Every Named j.completions) js
-journal_named R ls opened js ends text is = each_of (λ j. Every Named j.completions) (length ls) js is.devices own
+journal_named R ls opened js ends text is = each_of (λ (j : Journaled). j.entry.device) (λ j. Every Named j.completions) (length ls) js is.devices own
   where
     own : (k : ℕ) → k < length ls → Every (λ j. Every Named j.completions) (filter (is_of k) js)
     own k lt =
         let first = get_found opened k (omega (arith, lt, opened_count ls opened is.opens)) in
         let last = get_found ends k (omega (arith, lt, is.count)) in
         run_named R first.0 last.0 (filter (is_of k) js) (every_get Opened opened k first.0 (each_opened ls opened is.opens) first.1) (is.legal k first.0 last.0 first.1 last.1)
+
+pub journal_asks : (R : HandlerRelation) (ls : List DeviceLineData) (opened : List Device) (js : List Journaled) (ends : List Device) (text : List ℕ) → IsJournalOf R ls opened js ends text → Every (λ j. AsksCommand j.entry.event) js
+journal_asks R ls opened js ends text is = each_of (λ (j : Journaled). j.entry.device) (λ j. AsksCommand j.entry.event) (length ls) js is.devices own
+  where
+    own : (k : ℕ) → k < length ls → Every (λ j. AsksCommand j.entry.event) (filter (is_of k) js)
+    own k lt =
+        let first = get_found opened k (omega (arith, lt, opened_count ls opened is.opens)) in
+        let last = get_found ends k (omega (arith, lt, is.count)) in
+        run_asks R first.0 last.0 (filter (is_of k) js) (is.legal k first.0 last.0 first.1 last.1)
 
 -- ---- the text is a scenario
 

@@ -34,7 +34,7 @@ both_told {A} answer d e a b same p q = p ∙ ap answer same ∙ sym q
 
 -- ---- handle
 
-payload_fits : (R : HandlerRelation) (d m : Device) (s : ℕ) (u : Unfinished) (reply : ReplyData) → IsSound d.state → Replies R d s u reply m → length reply.payload < 2 ^ 60
+payload_fits : (R : HandlerRelation) (d m : Device) (s : ℕ) (u : Unfinished) (reply : ReplyData) → IsSound d.state → Replies R d s u reply m → length reply.payload < 2 ^ 64
 payload_fits R d m s u reply sound h =
     let command = every-first (is_at s Out) (λ v. IsCommand v.command) d.state.unfinished u (rows_commands d.state sound) h.found in
     omega (arith, h.payload, command.in_len)

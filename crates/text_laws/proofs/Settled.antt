@@ -26,7 +26,7 @@ use Rattle.block_engine.proofs.Settling.{stays_in_memory}
 use Rattle.text_laws.specs.Replays.{entries_of}
 use Rattle.text_laws.specs.Settled.{OneText}
 use Rattle.text_laws.proofs.Carried.{spelled_read}
-use Rattle.text_laws.proofs.OneReading.{entry_same, GoesOn, AllTell, journals_same, opened_alike, opened_sound}
+use Rattle.text_laws.proofs.OneReading.{entry_same, GoesOn, EntriesTell, journals_same, opened_alike, opened_sound}
 use Rattle.text_laws.proofs.Replays.{opened_count, replay_journal}
 use Rattle.text_laws.proofs.Sets.{get_found, every_get, every_set}
 
@@ -183,7 +183,7 @@ first_or e [] = e
 first_or e (f ∷ fs) = f
 
 -- the same entries tell the same
-entries_tell : (ls : List DeviceLineData) (js fs : List Journaled) → Every (λ j. j.entry.device < length ls) js → entries_of js ≡ entries_of fs → AllTell ls js fs
+entries_tell : (ls : List DeviceLineData) (js fs : List Journaled) → Every (λ j. j.entry.device < length ls) js → entries_of js ≡ entries_of fs → EntriesTell ls js fs
 entries_tell ls [] [] h e = tt
 entries_tell ls [] (f ∷ fs) h e = absurd (cc)
 entries_tell ls (j ∷ js) [] h e = absurd (cc)

@@ -12,6 +12,7 @@ use Rattle.tcmu_model.specs.Fields.{pieces}
 use Rattle.tcmu_model.specs.Text.{hex_digit, hex_byte, onto_run, runs, run_text, runs_text, sense_text, payload_text, handle_text}
 use Rattle.tcmu_model.specs.Sound.{Every}
 use Rattle.tcmu_model.proofs.Everies.{every-weaker}
+use Rattle.text_laws.proofs.Apart.{head_or}
 use Rattle.text_laws.proofs.Lists.{EachLacks, pieces_again}
 use Rattle.text_laws.proofs.Runs.{hex_big, run_lacks, of_run, runs_whole, none_left}
 
@@ -29,30 +30,23 @@ hex_digit_told m n e = go (nat_lt m 10) (nat_lt n 10) refl refl e
 pub byte_told : (a b : ℕ) → hex_digit (a / 16) ≡ hex_digit (b / 16) → hex_digit (a % 16) ≡ hex_digit (b % 16) → a ≡ b
 byte_told a b e f = omega (arith, hex_digit_told (a / 16) (b / 16) e, hex_digit_told (a % 16) (b % 16) f)
 
-pub decimal_told : (m n : ℕ) → m < 2 ^ 60 → n < 2 ^ 60 → decimal m ≡ decimal n → m ≡ n
-decimal_told m n p q e =
-    let small : m < 2 ^ 64 = omega (arith, p) in
-    let few : n < 2 ^ 64 = omega (arith, q) in
-    sym (decimal_is_IsNumeral m small).1 ∙ ap (digits_value 10) e ∙ (decimal_is_IsNumeral n few).1
+pub decimal_told : (m n : ℕ) → m < 2 ^ 64 → n < 2 ^ 64 → decimal m ≡ decimal n → m ≡ n
+decimal_told m n p q e = sym (decimal_is_IsNumeral m p).1 ∙ ap (digits_value 10) e ∙ (decimal_is_IsNumeral n q).1
 
 -- ---- runs
 
 abbrev AreShort : List (ℕ × ℕ) → Type 0
-AreShort rs = Every (λ r. r.1 < 2 ^ 60) rs
+AreShort rs = Every (λ r. r.1 < 2 ^ 64) rs
 
 abbrev AreUpTo : ℕ → List (ℕ × ℕ) → Type 0
 AreUpTo most rs = Every (λ r. r.1 ≤ most) rs
 
-run_told : (r q : ℕ × ℕ) → r.1 < 2 ^ 60 → q.1 < 2 ^ 60 → run_text r ≡ run_text q → r ≡ q
+run_told : (r q : ℕ × ℕ) → r.1 < 2 ^ 64 → q.1 < 2 ^ 64 → run_text r ≡ run_text q → r ≡ q
 unfolding run_text hex_byte
 run_told r q p s e =
     let byte : r.0 ≡ q.0 = byte_told r.0 q.0 (ap (λ (l : List ℕ). get_or l 0 0) e) (ap (λ (l : List ℕ). get_or l 1 0) e) in
     let count : r.1 ≡ q.1 = decimal_told r.1 q.1 p s (ap (λ (l : List ℕ). drop 3 l) e) in
     ap (λ (x : ℕ). let y : ℕ × ℕ = (x, r.1) in y) byte ∙ ap (λ (x : ℕ). let y : ℕ × ℕ = (q.0, x) in y) count
-
-abbrev head_or : List ℕ → List (List ℕ) → List ℕ
-head_or d [] = d
-head_or d (x ∷ xs) = x
 
 each_run_told : (rs qs : List (ℕ × ℕ)) → AreShort rs → AreShort qs → map run_text rs ≡ map run_text qs → rs ≡ qs
 each_run_told [] [] h k e = refl
@@ -63,7 +57,7 @@ each_run_told (r ∷ rs) (q ∷ qs) h k e =
 
 short_lack : (rs : List (ℕ × ℕ)) → AreShort rs → EachLacks 44 (map run_text rs)
 short_lack [] h = tt
-short_lack (r ∷ rs) h = (run_lacks r.0 r.1 (omega (arith, h.0)), short_lack rs h.1)
+short_lack (r ∷ rs) h = (run_lacks r.0 r.1 h.0, short_lack rs h.1)
 
 up_to : (bytes : List ℕ) → AreUpTo (length bytes) (runs bytes)
 unfolding runs
@@ -78,8 +72,8 @@ up_to (b ∷ bytes) = onto (runs bytes) (up_to bytes)
     onto [] k = (omega arith, tt)
     onto (r ∷ rs) k = pick r rs (nat_eq r.0 b) k
 
-short : (bytes : List ℕ) → length bytes < 2 ^ 60 → AreShort (runs bytes)
-short bytes few = every-weaker (λ (x : ℕ × ℕ). x.1 ≤ length bytes) (λ (x : ℕ × ℕ). x.1 < 2 ^ 60) (runs bytes) (λ x h. omega (arith, h, few)) (up_to bytes)
+short : (bytes : List ℕ) → length bytes < 2 ^ 64 → AreShort (runs bytes)
+short bytes few = every-weaker (λ (x : ℕ × ℕ). x.1 ≤ length bytes) (λ (x : ℕ × ℕ). x.1 < 2 ^ 64) (runs bytes) (λ x h. omega (arith, h, few)) (up_to bytes)
 
 joined_told : (rs qs : List (ℕ × ℕ)) → AreShort rs → AreShort qs → (rs ≡ [] → ⊥) → (qs ≡ [] → ⊥) → join_with_byte 44 (map run_text rs) ≡ join_with_byte 44 (map run_text qs) → rs ≡ qs
 joined_told [] qs h k some other e = absurd (some refl)
@@ -89,7 +83,7 @@ joined_told (r ∷ rs) (q ∷ qs) h k some other e =
     let b = short_lack (q ∷ qs) k in
     each_run_told (r ∷ rs) (q ∷ qs) h k (sym (pieces_again 44 (run_text r) (map run_text rs) a.0 a.1) ∙ ap (pieces 44) e ∙ pieces_again 44 (run_text q) (map run_text qs) b.0 b.1)
 
-pub runs_told : (a b : List ℕ) → length a < 2 ^ 60 → length b < 2 ^ 60 → 0 < length a → 0 < length b → runs_text a ≡ runs_text b → a ≡ b
+pub runs_told : (a b : List ℕ) → length a < 2 ^ 64 → length b < 2 ^ 64 → 0 < length a → 0 < length b → runs_text a ≡ runs_text b → a ≡ b
 unfolding runs_text
 runs_told a b few less some other e =
     let same = joined_told (runs a) (runs b) (short a few) (short b less) (none_left a some) (none_left b other) e in
@@ -115,7 +109,7 @@ nothing : (a : List ℕ) → nat_eq (length a) 0 ≡ true → a ≡ []
 nothing [] e = refl
 nothing (x ∷ a) e = absurd (omega (arith, eqb-true (length (x ∷ a)) 0 e))
 
-pub payload_told : (a b : List ℕ) → length a < 2 ^ 60 → length b < 2 ^ 60 → payload_text a ≡ payload_text b → a ≡ b
+pub payload_told : (a b : List ℕ) → length a < 2 ^ 64 → length b < 2 ^ 64 → payload_text a ≡ payload_text b → a ≡ b
 unfolding payload_text
 payload_told a b few less e = go (nat_eq (length a) 0) (nat_eq (length b) 0) refl refl e
   where
@@ -144,7 +138,7 @@ sense_told (Some s) (Some t) x y e =
     let ascq = byte_told s.ascq t.ascq (ap (λ (l : List ℕ). get_or l 6 0) e) (ap (λ (l : List ℕ). get_or l 7 0) e) in
     (ap (λ (z : SenseData). Some z) (sense_same s t key asc ascq), ap (λ (l : List ℕ). drop 9 l) e)
 
-pub reply_told : (r q : ReplyData) → length r.payload < 2 ^ 60 → length q.payload < 2 ^ 60 → handle_text (handle_answer.Done r) ≡ handle_text (handle_answer.Done q) → r ≡ q
+pub reply_told : (r q : ReplyData) → length r.payload < 2 ^ 64 → length q.payload < 2 ^ 64 → handle_text (handle_answer.Done r) ≡ handle_text (handle_answer.Done q) → r ≡ q
 unfolding handle_text hex_byte
 reply_told r q few less e =
     let status = byte_told r.status q.status (ap (λ (l : List ℕ). get_or l 6 0) e) (ap (λ (l : List ℕ). get_or l 7 0) e) in

@@ -7,10 +7,10 @@ use Rattle.tcmu_types.specs.Data.{DoneData}
 use Rattle.tcmu_types.specs.Events.{EventData, AnswerData}
 use Rattle.tcmu_types.specs.Events as ev
 use Rattle.tcmu_model.specs.ScenarioData.{DeviceLineData}
-use Rattle.tcmu_model.specs.ScenarioRules.{IsEvent}
 use Rattle.tcmu_model.specs.Text.{spaced, hex_byte, sense_text, payload_text, serials_text, config_text, device_spelling, event_text, command_text, data_fields, answer_text}
 use Rattle.text_laws.specs.Devices.{IsSpelledDevice}
-use Rattle.text_laws.specs.Lines.{CarriesBytes}
+use Rattle.text_laws.specs.Values.{IsEventValue}
+use Rattle.text_laws.proofs.Asks.{AsksCommand}
 use Rattle.text_laws.proofs.Fields.{name_word, hex_word}
 use Rattle.text_laws.proofs.Devices.{spelled, config_word, settings_words, settings_list}
 use Rattle.text_laws.proofs.Events.{data_words}
@@ -35,7 +35,7 @@ done_line name c n h =
 pub end_line : (name : List ℕ) (k : ℕ) → is_name name ≡ true → Unbroken (spaced (codes "# open") (name ∷ decimal k ∷ []))
 end_line name k n = unbroken.fields (codes "# open") (name ∷ decimal k ∷ []) (record { bytes = refl }) (name_line name n, (unbroken.number k, tt))
 
-event_alone : (name : List ℕ) (e : EventData) → is_name name ≡ true → IsEvent e → CarriesBytes e → Unbroken (event_text name e)
+event_alone : (name : List ℕ) (e : EventData) → is_name name ≡ true → AsksCommand e → IsEventValue e → Unbroken (event_text name e)
 unfolding event_text command_text
 event_alone name (ev.Submit c) n is h =
     unbroken.fields (codes "submit") (name ∷ c.init ∷ decimal c.tag ∷ flat_map hex_byte c.cdb ∷ data_fields c) (record { bytes = refl })
@@ -58,7 +58,7 @@ event_alone name ev.Stat n is h = unbroken.fields (codes "stat") (name ∷ []) (
 abbrev pub told_event : List ℕ → ℕ → EventData → AnswerData → List ℕ
 told_event name qfull e a = event_text name e ++ codes " # " ++ answer_text qfull e a
 
-pub told_line : (name : List ℕ) (qfull : ℕ) (e : EventData) (a : AnswerData) → is_name name ≡ true → IsEvent e → CarriesBytes e → Unbroken (told_event name qfull e a)
+pub told_line : (name : List ℕ) (qfull : ℕ) (e : EventData) (a : AnswerData) → is_name name ≡ true → AsksCommand e → IsEventValue e → Unbroken (told_event name qfull e a)
 told_line name qfull e a n is h =
     unbroken.joins (event_text name e ++ codes " # ") (answer_text qfull e a) (unbroken.joins (event_text name e) (codes " # ") (event_alone name e n is h) (record { bytes = refl })) (unbroken.answer qfull e a)
 

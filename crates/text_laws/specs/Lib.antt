@@ -5,6 +5,8 @@ pub mod Lines
 pub mod Configs
 pub mod Devices
 pub mod Replays
+pub mod Values
+pub mod Printed
 pub mod Carried
 pub mod Readings
 pub mod Settled

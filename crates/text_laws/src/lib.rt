@@ -8,7 +8,7 @@ mod replay;
 
 pub use lines::{
     comments_ignored, completions_ignored, configs_again, devices_again, dumps_told, ends_ignored,
-    events_again,
+    events_again, pictures_whole,
 };
 pub use memory::{replay_in_memory_law, text_in_memory_law};
 pub use pieces::{

@@ -1,7 +1,7 @@
 //! Whole lines: what is written of each is read again.
 ghost use Rattle.text_laws.specs.Configs.{ConfigsAgain};
 ghost use Rattle.text_laws.specs.Devices.{DevicesAgain};
-ghost use Rattle.text_laws.specs.Dumps.{DumpsTold};
+ghost use Rattle.text_laws.specs.Dumps.{DumpsTold, PicturesWhole};
 ghost use Rattle.text_laws.specs.Lines.{EventsAgain, CommentsIgnored, CompletionsIgnored, EndsIgnored};
 
 /// A config is read from its text.
@@ -37,4 +37,9 @@ pub fn ends_ignored()
 /// The text of a dump has one reading: the device, the mailbox, the items and the commands that are held.
 pub fn dumps_told()
     ensures { DumpsTold }
+{}
+
+/// A picture shows only numbers of 64 bits, and fewer than 2^64 bytes at once, so its text tells all of it.
+pub fn pictures_whole()
+    ensures { PicturesWhole }
 {}

@@ -1,6 +1,6 @@
 //! The law of replay.
 ghost use Rattle.text_laws.specs.Carried.{CarriedRead, SpelledRead};
-ghost use Rattle.text_laws.specs.Readings.{HasOneReading};
+ghost use Rattle.text_laws.specs.Readings.{HasOneReading, HasOneReadingOfAny};
 ghost use Rattle.text_laws.specs.Replays.{IsReadBack, IsReplayedAgain, IsScenarioAgain};
 ghost use Rattle.text_laws.specs.Settled.{OneText};
 
@@ -32,10 +32,12 @@ pub fn scenario_replay_law<H: Handler>()
     ensures { IsScenarioAgain H.relation }
 {}
 
-/// One text of a journal has one reading, whichever handlers served its devices: the devices, the entries with their answers, and the
-/// completions of each.
+/// One text has one reading, whichever handlers served its devices: the devices, the entries with their answers, the completions of each,
+/// and the dumps between them. Of what it tells nothing is asked but what the types of the code keep of every value, and where dumps are
+/// pictures, this is asked of events alone.
 pub fn reading_law<H: Handler, K: Handler>()
-    ensures { HasOneReading H.relation K.relation }
+    ensures pictures { HasOneReading H.relation K.relation }
+    ensures any { HasOneReadingOfAny H.relation K.relation }
 {}
 
 /// A scenario whose devices are over media in memory has one text.

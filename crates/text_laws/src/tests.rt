@@ -45,6 +45,7 @@ fn lines_are_read_again() {
     completions_ignored();
     ends_ignored();
     dumps_told();
+    pictures_whole();
     carried_law();
     spelled_law();
 }

@@ -1,0 +1,44 @@
+-- The dumps of a list are dumps of the code, since each is a picture of a sound device that has accepted fewer than 2^64 commands.
+use Rattle.std.proofs.Common.{ℕ, suc, ◌+◌, ◌<◌, ◌≤◌, Bool, true, false, cond, List, [], ◌∷◌, length, sym, subst, arith}
+use Rattle.std.specs.List.{filter}
+use Rattle.tcmu_model.specs.Device.{Device}
+use Rattle.tcmu_model.specs.ScenarioData.{DeviceLineData}
+use Rattle.tcmu_model.specs.Sound.{Every}
+use Rattle.tcmu_model.specs.Steps.{HandlerRelation}
+use Rattle.tcmu_model.proofs.Everies.{every-filter}
+use Rattle.text_laws.specs.Devices.{IsSpelledDevice}
+use Rattle.text_laws.specs.Dumps.{IsDumpValue}
+use Rattle.text_laws.specs.Printed.{Printed, AnEntry, ADump, device_of, is_about, HasEventValue, IsValue, AreValues, RunPrints, IsPrintOf}
+use Rattle.text_laws.specs.Values.{IsNumber}
+use Rattle.text_laws.proofs.Accepted.{accepted_by, accepts_one}
+use Rattle.text_laws.proofs.Asked.{HasAccepted, more_accepted, step_accepts}
+use Rattle.text_laws.proofs.Legal.{each_of}
+use Rattle.text_laws.proofs.Pictured.{picture_value}
+use Rattle.text_laws.proofs.Replays.{opened_count, accepted_none}
+use Rattle.text_laws.proofs.Sets.{get_found, every_get}
+
+run_values : (R : HandlerRelation) (n : ℕ) (d d' : Device) (ps : List Printed) → HasAccepted n d → IsNumber (n + length ps) → Every HasEventValue ps → RunPrints R d ps d' → Every IsValue ps
+run_values R n d d' [] h lt v r = tt
+run_values R n d d' (AnEntry j ∷ ps) h lt v r =
+    let after = more_accepted (n + accepted_by j.entry.event) (n + 1) r.0 (omega (arith, accepts_one j.entry.event)) (step_accepts R n d r.0 j.entry h r.1) in
+    (v.0, run_values R (n + 1) r.0 d' ps after (omega (arith, lt)) v.1 r.3)
+run_values R n d d' (ADump at dump ∷ ps) h lt v r =
+    (subst IsDumpValue (sym r.0.shows) (picture_value d.state r.0.lists h.sound r.0.sound (omega (arith, h.few, lt))), run_values R n d d' ps h (omega (arith, lt)) v.1 r.1)
+
+fewer : (p : Printed → Bool) (ps : List Printed) → length (filter p ps) ≤ length ps
+fewer p [] = omega arith
+fewer p (q ∷ ps) = go (p q) (fewer p ps)
+  where
+    go : (b : Bool) → length (filter p ps) ≤ length ps → length (cond b (q ∷ filter p ps) (filter p ps)) ≤ suc (length ps)
+    go true h = omega (arith, h)
+    go false h = omega (arith, h)
+
+pub all_values : (R : HandlerRelation) (ls : List DeviceLineData) (opened : List Device) (ps : List Printed) (ends : List Device) (text : List ℕ) → Every IsSpelledDevice ls → AreValues ps → IsPrintOf R ls opened ps ends text → Every IsValue ps
+all_values R ls opened ps ends text sp values is = each_of device_of IsValue (length ls) ps is.list.devices own
+  where
+    own : (k : ℕ) → k < length ls → Every IsValue (filter (is_about k) ps)
+    own k lt =
+        let first = get_found opened k (omega (arith, lt, opened_count ls opened is.list.opens)) in
+        let last = get_found ends k (omega (arith, lt, is.list.count)) in
+        let start = every_get (HasAccepted 0) opened k first.0 (accepted_none ls opened sp is.list.opens) first.1 in
+        run_values R 0 first.0 last.0 (filter (is_about k) ps) start (omega (arith, fewer (is_about k) ps, values.few)) (every-filter (is_about k) HasEventValue ps values.events) (is.pictures k first.0 last.0 first.1 last.1)
