@@ -1,8 +1,12 @@
-pub mod RingNumbers
-pub mod Rooms
-pub mod Placings
-pub mod Turns
 pub mod Bounds
 pub mod Cleared
-pub mod Plains
 pub mod Keeping
+pub mod Placings
+pub mod Plains
+pub mod RingNumbers
+pub mod Rising
+pub mod Rooms
+pub mod RowsAfter
+pub mod Taking
+pub mod Tallying
+pub mod Turns

@@ -8,8 +8,10 @@ mod path;
 mod placing;
 mod plain;
 mod ring;
+mod row;
 mod rows;
 mod state;
+mod tally;
 mod waiting;
 
 pub use path::Path;
