@@ -6,11 +6,13 @@ use Rattle.std.proofs.lemmas.List.Sums.{sum_by-cons, count_by-le-length}
 use Rattle.std.proofs.lemmas.List.Folds.{list_any-append}
 use Rattle.tcmu_model.specs.Lists.{RisesAbove, IsRising}
 use Rattle.tcmu_model.specs.RingState.{serials_in, used}
-use Rattle.tcmu_model.specs.Device.{Unfinished, DeviceState, has_serial}
+use Rattle.tcmu_model.specs.Device.{Unfinished, Delayed, DeviceState, has_serial}
 use Rattle.tcmu_model.specs.Events.{is_among, unknown_serial}
 use Rattle.tcmu_model.specs.Sound.{IsSound, Every, Rise, Differ, finished, delayed_serials}
 use Rattle.tcmu_path.specs.Fresh.{AreAway}
 use Rattle.tcmu_model.proofs.Facts.{bounded_rows}
+use Rattle.tcmu_model.proofs.Everies.{every-filter}
+use Rattle.tcmu_path.specs.Tallies.{serials_of}
 
 -- ==== few commands are unfinished
 
@@ -141,3 +143,34 @@ pub away : (d : DeviceState) → IsSound d → AreAway (finished d) d.unfinished
 away d h =
     let p : ℕ → Bool = λ s. not (is_among (finished d) s) in
     away-map (finished d) d.unfinished (subst (λ (xs : List ℕ). Every (λ s. p s ≡ true) xs) (sym h.serials.order) (filter-passes p (serials_in d.ring.laid)))
+
+-- ==== a command that is laid comes behind the others
+
+rise-bound : (low : ℕ) (xs : List ℕ) (high : ℕ) → Rise low xs high → low ≤ high
+rise-bound low [] high r = r
+rise-bound low (x ∷ xs) high r = omega (arith, r.0, rise-bound x xs high r.1)
+
+below-high : (low : ℕ) (xs ys : List ℕ) (high : ℕ) → Rise low (xs ++ ys) high → Every (λ s. s < high + 1) xs
+below-high low [] ys high r = tt
+below-high low (x ∷ xs) ys high r = (omega (arith, rise-bound x (xs ++ ys) high r.1), below-high x xs ys high r.1)
+
+before-next : (low : ℕ) (xs : List ℕ) (y : ℕ) (ys : List ℕ) (high : ℕ) → Rise low (xs ++ y ∷ ys) high → (low < y) × Every (λ s. s < y) xs
+before-next low [] y ys high r = (r.0, tt)
+before-next low (x ∷ xs) y ys high r =
+    let t = before-next x xs y ys high r.1 in
+    (omega (arith, r.0, t.0), (t.0, t.1))
+
+-- the next serial is above those of all commands
+pub rows_below : (d : DeviceState) → IsSound d → Every (λ s. s < d.accepted + 1) (serials_of d.unfinished)
+rows_below d h =
+    let laid = serials_in d.ring.laid in
+    let all : Every (λ s. s < d.accepted + 1) laid = below-high 0 laid (delayed_serials d.delayed) d.accepted h.serials.rise in
+    subst (λ (xs : List ℕ). Every (λ s. s < d.accepted + 1) xs) (sym h.serials.order) (every-filter (λ s. not (is_among (finished d) s)) (λ s. s < d.accepted + 1) laid all)
+
+-- and so is that of the first delayed command
+pub rows_before : (d : DeviceState) (w : Delayed) (ws : List Delayed) → IsSound d → d.delayed ≡ w ∷ ws → Every (λ s. s < w.serial) (serials_of d.unfinished)
+rows_before d w ws h e =
+    let laid = serials_in d.ring.laid in
+    let rise : Rise 0 (laid ++ w.serial ∷ delayed_serials ws) d.accepted = subst (λ (xs : List Delayed). Rise 0 (laid ++ delayed_serials xs) d.accepted) e h.serials.rise in
+    let all : Every (λ s. s < w.serial) laid = (before-next 0 laid w.serial (delayed_serials ws) d.accepted rise).1 in
+    subst (λ (xs : List ℕ). Every (λ s. s < w.serial) xs) (sym h.serials.order) (every-filter (λ s. not (is_among (finished d) s)) (λ s. s < w.serial) laid all)

@@ -1,8 +1,8 @@
 -- What laying, publishing and clearing do to the numbers that a plain ring keeps.
-use Rattle.std.proofs.Common.{◌≡◌, ℕ, ◌+◌, ◌-◌, ◌%◌, ◌<◌, ◌≤◌, List, [], ◌∷◌, ◌++◌, length, drop, take, refl, sym, ap, ◌∙◌, arith, eqb, true, false, cond, ⊎_elim, length-append, append_assoc, add-one, suc, zero}
+use Rattle.std.proofs.Common.{◌≡◌, ℕ, ◌+◌, ◌-◌, ◌%◌, ◌<◌, ◌≤◌, List, [], ◌∷◌, ◌++◌, length, drop, take, refl, sym, ap, ◌∙◌, arith, eqb, true, false, cond, ⊎_elim, length-append, append_assoc, add-one, suc, zero, get_or, nat_lt, ◌⊎◌, inl, inr}
 use Rattle.std.proofs.lemmas.List.Sums.{sum_by-append, sum_by-take-drop, sum_by_push, sum_by-cons}
-use Rattle.std.proofs.lemmas.List.{drop-drop, drop-append-le, take-append-le, take-take, drop-take, length-take-le}
-use Rattle.std.proofs.lemmas.Bool.{cases_Bool, eqb-true, ne_eqb}
+use Rattle.std.proofs.lemmas.List.{drop-drop, drop-append-le, take-append-le, take-take, drop-take, length-take-le, drop_more}
+use Rattle.std.proofs.lemmas.Bool.{cases_Bool, false≢true, eqb-true, eq-eqb, ne_eqb, le-ltb, lt-ltb, ltb-true, ltb-false}
 use Rattle.std.proofs.Math.Nat.{mod-add-mod}
 use Rattle.std.proofs.Math.Seq.{take-add}
 use Rattle.std.specs.List.{sum_by}
@@ -148,3 +148,51 @@ more_commands p k d laid h =
     let a : commands_in (take (p + k) laid) ≡ commands_in (take p laid ++ take k (drop p laid)) = ap commands_in (take-add p k laid) in
     let b : commands_in (take p laid ++ take k (drop p laid)) ≡ commands_in (take p laid) + commands_in (take k (drop p laid)) = sum_by-append f (take p laid) (take k (drop p laid)) in
     omega (arith, t, a, b)
+
+-- whether more may be published: the next item is dispatched, and is no command or has an answer
+pub none_more : (n kept p d : ℕ) (laid : List Item) → p ≡ d → d ≤ length laid → kept ≡ commands_in (take p laid) → kept ≤ n → nat_lt p (front_with n (take d laid)) ≡ false
+none_more n kept p d laid e m k h =
+    let f : p + front_with (n - commands_in (take p laid)) (take (d - p) (drop p laid)) ≡ front_with n (take d laid) = more_items n p d laid (omega (arith, e)) m (omega (arith, k, h)) in
+    let z : d - p ≡ 0 = omega (arith, e) in
+    let nothing : front_with (n - commands_in (take p laid)) (take (d - p) (drop p laid)) ≡ 0 = ap (λ i. front_with (n - commands_in (take p laid)) (take i (drop p laid))) z in
+    le-ltb p (front_with n (take d laid)) (omega (arith, f, nothing))
+
+some-front : (n : ℕ) (x : Item) (xs : List Item) → (is_command x ≡ false) ⊎ (0 < n) → 0 < front_with n (x ∷ xs)
+some-front n x xs h =
+    ⊎_elim
+    (λ (e : is_command x ≡ true).
+    let some : eqb n 0 ≡ false = ne_eqb n 0 (λ z. ⊎_elim (λ (k : is_command x ≡ false). false≢true (sym k ∙ e)) (λ (k : 0 < n). omega (arith, k, z)) h) in
+    rw (e, some) (omega arith))
+    (λ (e : is_command x ≡ false). rw e (omega arith))
+    (cases_Bool (is_command x))
+
+no-front : (n : ℕ) (x : Item) (xs : List Item) → is_command x ≡ true → n ≡ 0 → front_with n (x ∷ xs) ≡ 0
+no-front n x xs e z = let y : eqb n 0 ≡ true = eq-eqb n 0 z in rw (e, y) refl
+
+next-item : (p d : ℕ) (laid : List Item) (x : Item) → p < d → d ≤ length laid → x ≡ get_or laid p x → take (d - p) (drop p laid) ≡ x ∷ take (d - p - 1) (drop (p + 1) laid)
+next-item p d laid x l m e =
+    let cut : drop p laid ≡ x ∷ drop (p + 1) laid = drop_more laid p x (omega (arith, l, m)) ∙ ap (λ y. y ∷ drop (p + 1) laid) (sym e) in
+    let one : d - p ≡ suc (d - p - 1) = omega (arith, l) in
+    ap (λ ys. take (d - p) ys) cut ∙ ap (λ i. take i (x ∷ drop (p + 1) laid)) one
+
+pub some_more : (n kept p d : ℕ) (laid : List Item) (x : Item) → p < d → d ≤ length laid → kept ≡ commands_in (take p laid) → kept ≤ n → x ≡ get_or laid p x → (is_command x ≡ false) ⊎ (kept < n) → nat_lt p (front_with n (take d laid)) ≡ true
+some_more n kept p d laid x l m k h e o =
+    let f : p + front_with (n - commands_in (take p laid)) (take (d - p) (drop p laid)) ≡ front_with n (take d laid) = more_items n p d laid (omega (arith, l)) m (omega (arith, k, h)) in
+    let more : 0 < front_with (n - commands_in (take p laid)) (x ∷ take (d - p - 1) (drop (p + 1) laid)) = some-front (n - commands_in (take p laid)) x (take (d - p - 1) (drop (p + 1) laid)) (⊎_elim (λ (c : is_command x ≡ false). inl c) (λ (c : kept < n). inr (omega (arith, k, c))) o) in
+    let same : front_with (n - commands_in (take p laid)) (take (d - p) (drop p laid)) ≡ front_with (n - commands_in (take p laid)) (x ∷ take (d - p - 1) (drop (p + 1) laid)) = ap (front_with (n - commands_in (take p laid))) (next-item p d laid x l m e) in
+    lt-ltb p (front_with n (take d laid)) (omega (arith, f, more, same))
+
+pub no_more : (n kept p d : ℕ) (laid : List Item) (x : Item) → p < d → d ≤ length laid → kept ≡ commands_in (take p laid) → n ≡ kept → x ≡ get_or laid p x → is_command x ≡ true → nat_lt p (front_with n (take d laid)) ≡ false
+no_more n kept p d laid x l m k h e c =
+    let f : p + front_with (n - commands_in (take p laid)) (take (d - p) (drop p laid)) ≡ front_with n (take d laid) = more_items n p d laid (omega (arith, l)) m (omega (arith, k, h)) in
+    let same : front_with (n - commands_in (take p laid)) (take (d - p) (drop p laid)) ≡ front_with (n - commands_in (take p laid)) (x ∷ take (d - p - 1) (drop (p + 1) laid)) = ap (front_with (n - commands_in (take p laid))) (next-item p d laid x l m e) in
+    let nothing : front_with (n - commands_in (take p laid)) (x ∷ take (d - p - 1) (drop (p + 1) laid)) ≡ 0 = no-front (n - commands_in (take p laid)) x (take (d - p - 1) (drop (p + 1) laid)) c (omega (arith, k, h)) in
+    le-ltb p (front_with n (take d laid)) (omega (arith, f, same, nothing))
+
+-- where the next item is a command, it wants an answer
+pub command_may : (n kept p d : ℕ) (laid : List Item) (x : Item) → p < d → d ≤ length laid → kept ≡ commands_in (take p laid) → kept ≤ n → x ≡ get_or laid p x → is_command x ≡ true → nat_lt kept n ≡ nat_lt p (front_with n (take d laid))
+command_may n kept p d laid x l m k h e c =
+    ⊎_elim
+    (λ (t : nat_lt kept n ≡ true). t ∙ sym (some_more n kept p d laid x l m k h e (inr (ltb-true kept n t))))
+    (λ (t : nat_lt kept n ≡ false). t ∙ sym (no_more n kept p d laid x l m k (omega (arith, h, ltb-false kept n t)) e c))
+    (cases_Bool (nat_lt kept n))

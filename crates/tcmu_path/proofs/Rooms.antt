@@ -69,14 +69,14 @@ one_place from to u e h =
     (λ (t : is_placeable to ≡ false). rw t (omega arith))
     (cases_Bool (is_placeable to))
 
-expire_same : (now : ℕ) (u : Unfinished) (g : Unfinished → ℕ) → g (record u { expired = true }) ≡ g u → g (expire now u) ≡ g u
+pub expire_same : (now : ℕ) (u : Unfinished) (g : Unfinished → ℕ) → g (record u { expired = true }) ≡ g u → g (expire now u) ≡ g u
 expire_same now u g h =
     ⊎_elim
     (λ (e : is_due now u ≡ true). rw e h)
     (λ (e : is_due now u ≡ false). rw e refl)
     (cases_Bool (is_due now u))
 
-lose_same : (ps : List ℕ) (u : Unfinished) (g : Unfinished → ℕ) → g (record u { state = Lost; reply = if has_state Placed u then u.reply else None }) ≡ g u → g (lose ps u) ≡ g u
+pub lose_same : (ps : List ℕ) (u : Unfinished) (g : Unfinished → ℕ) → g (record u { state = Lost; reply = if has_state Placed u then u.reply else None }) ≡ g u → g (lose ps u) ≡ g u
 lose_same ps u g h =
     ⊎_elim
     (λ (e : is_losing ps u ≡ true). rw e h)

@@ -2,7 +2,7 @@
 use Rattle.std.specs.Prelude.{ℕ, ◌+◌, ◌≤◌, List, length, Option}
 use Rattle.std.specs.Option.{option_map}
 use Rattle.tcmu_types.specs.Data.{ReplyData, Spared}
-use Rattle.tcmu_path.specs.declared.rows.Head.{Head}
+use Rattle.tcmu_path.specs.declared.row.Head.{Head}
 
 -- the reply whose bytes lie elsewhere
 abbrev pub reply_of : Option Head → List ℕ → Option ReplyData

@@ -10,25 +10,16 @@ ghost use Rattle.tcmu_path.specs.Room.{to_place, to_log, held_by, KeepsRoom};
 
 use crate::closings::reset_completion;
 use crate::ring::Ring;
-use crate::rows::{Row, place_of};
+use crate::row::Row;
+use crate::rows::Rows;
 use std::alloc::Global;
-use tcmu_model::{CommandState, blocks_of};
+use std::collections::VecDeque;
+use tcmu_model::blocks_of;
 use tcmu_types::{Done, Listed, Serials, Settings};
-
-/// Takes out the placed command of a serial, where it is there.
-fn take_placed(rows: &mut Vec<Row>, serial: u64) -> Option<Row>
-    ensures row { result ≡ first_of (is_at serial CommandState.Placed) rows.old.items }
-    ensures rest { rows.new.items ≡ without_first (is_at serial CommandState.Placed) rows.old.items }
-{
-    match place_of(rows.as_slice(), serial, CommandState::Placed) {
-        Some(at) => Some(rows.remove(at)),
-        None => None,
-    }
-}
 
 /// Finishes the placed command of a serial, where it is there, and logs its completion.
 fn finish(
-    rows: &mut Vec<Row>,
+    rows: &mut Rows,
     log: &mut Listed<Done>,
     held: &mut u32,
     serial: u64,
@@ -47,7 +38,7 @@ fn finish(
     ensures to_place { to_place rows.new.items ≤ to_place rows.old.items }
     ensures grows { length log.old.items ≤ length log.new.items }
 {
-    if let Some(row) = take_placed(rows, serial) {
+    if let Some(row) = rows.take_placed(serial) {
         *held -= blocks_of(row.command(), pages);
         if let Some(done) = row.into_completion(read_len) {
             log.push(done);
@@ -57,7 +48,7 @@ fn finish(
 
 /// Finishes the placed commands of these serials, one after another.
 fn finish_all(
-    rows: &mut Vec<Row>,
+    rows: &mut Rows,
     log: &mut Listed<Done>,
     held: &mut u32,
     serials: &[u64],
@@ -82,78 +73,71 @@ fn finish_all(
 }
 
 /// Logs the commands that are due.
-fn log_due(rows: &[Row], log: &mut Listed<Done>, alloc: Global, now: u64)
-    requires { count_by (is_due now) rows.now ≤ log.old.spare }
-    ensures log { log.new.items ≡ log.old.items ++ map expiry (filter (is_due now) rows.now) }
-    ensures room { log.old.spare ≤ log.new.spare + count_by (is_due now) rows.now }
+fn log_due(rows: &VecDeque<Row>, log: &mut Listed<Done>, alloc: Global, now: u64)
+    requires { count_by (is_due now) rows.now.items ≤ log.old.spare }
+    ensures log { log.new.items ≡ log.old.items ++ map expiry (filter (is_due now) rows.now.items) }
+    ensures room { log.old.spare ≤ log.new.spare + count_by (is_due now) rows.now.items }
 {
-    for row in rows.iter() {
+    for at in 0..rows.len() {
+        let row = &rows[at];
         if row.is_due(now) {
             log.push(row.expiry(alloc));
         }
     }
 }
 
-/// Marks the commands that are due.
-fn mark_due(rows: &mut Vec<Row>, now: u64)
-    ensures rows { rows.new.items ≡ map (expire now) rows.old.items }
-{
-    for row in rows.iter_mut() {
-        row.expire(now);
-    }
-}
-
 /// Logs the commands that are due, and marks them expired.
-pub fn expire_all(rows: &mut Vec<Row>, log: &mut Listed<Done>, alloc: Global, now: u64)
+pub fn expire_all(rows: &mut Rows, log: &mut Listed<Done>, alloc: Global, now: u64)
     requires { to_log rows.old.items ≤ log.old.spare }
     ensures rows { rows.new.items ≡ map (expire now) rows.old.items }
     ensures log { log.new.items ≡ log.old.items ++ map expiry (filter (is_due now) rows.old.items) }
     ensures room { to_log rows.new.items + log.old.spare ≤ log.new.spare + to_log rows.old.items }
     ensures kept { KeepsRoom rows.old.items rows.new.items }
 {
-    log_due(rows.as_slice(), log, alloc, now);
-    mark_due(rows, now);
+    log_due(rows.all(), log, alloc, now);
+    rows.mark_due(now);
+}
+
+/// Logs each command that is open as a reset ends it.
+fn log_open(rows: &VecDeque<Row>, log: &mut Listed<Done>, alloc: Global, level: u8)
+    requires { to_log rows.now.items ≤ log.old.spare }
+    ensures log { log.new.items ≡ log.old.items ++ map (λ u. reset_completion level u.serial u.command) (filter is_open rows.now.items) }
+    ensures room { log.old.spare ≤ log.new.spare + to_log rows.now.items }
+{
+    for at in 0..rows.len() {
+        let row = &rows[at];
+        if !row.is_expired() {
+            log.push(reset_completion(alloc, level, row.serial(), row.command()));
+        }
+    }
 }
 
 /// Logs each command that is open as a reset ends it, and forgets all.
-pub fn close_all(rows: &mut Vec<Row>, log: &mut Listed<Done>, alloc: Global, level: u8)
+pub fn close_all(rows: &mut Rows, log: &mut Listed<Done>, alloc: Global, level: u8)
     requires { to_log rows.old.items ≤ log.old.spare }
     ensures rows { rows.new.items ≡ [] }
     ensures log { log.new.items ≡ log.old.items ++ map (λ u. reset_completion level u.serial u.command) (filter is_open rows.old.items) }
     ensures room { log.old.spare ≤ log.new.spare + to_log rows.old.items }
 {
-    for row in rows.iter() {
-        if !row.is_expired() {
-            log.push(reset_completion(alloc, level, row.serial(), row.command()));
-        }
-    }
+    log_open(rows.all(), log, alloc, level);
     rows.clear();
 }
 
 /// How many commands a restart takes.
-fn losing(rows: &[Row], answered: &[u64]) -> u64
-    ensures { result ≡ count_by (is_losing answered.now) rows.now }
+fn losing(rows: &VecDeque<Row>, answered: &[u64]) -> u64
+    ensures { result ≡ count_by (is_losing answered.now) rows.now.items }
 {
     rows.iter().filter(|row| row.is_losing(answered)).count() as u64
 }
 
-/// Loses the commands that a restart takes.
-fn mark_lost(rows: &mut Vec<Row>, answered: &[u64])
-    ensures rows { rows.new.items ≡ map (lose answered.now) rows.old.items }
-{
-    for row in rows.iter_mut() {
-        row.lose(answered);
-    }
-}
-
 /// Loses the commands that a restart takes, and counts them.
-fn lose_all(rows: &mut Vec<Row>, answered: &[u64]) -> u64
+fn lose_all(rows: &mut Rows, answered: &[u64]) -> u64
     ensures rows { rows.new.items ≡ map (lose answered.now) rows.old.items }
     ensures count { result ≡ count_by (is_losing answered.now) rows.old.items }
     ensures kept { KeepsRoom rows.old.items rows.new.items }
 {
-    let count = losing(rows.as_slice(), answered);
-    mark_lost(rows, answered);
+    let count = losing(rows.all(), answered);
+    rows.mark_lost(answered);
     count
 }
 
@@ -170,7 +154,7 @@ fn published<'a>(placed: &'a Serials, ring: &Ring) -> &'a [u64]
 
 /// Finishes the commands whose answers are published. Those whose answers are cleared are finished, so it does not go over them.
 pub fn finish_published(
-    rows: &mut Vec<Row>,
+    rows: &mut Rows,
     log: &mut Listed<Done>,
     held: &mut u32,
     placed: &Serials,
@@ -200,7 +184,7 @@ pub fn finish_published(
 }
 
 /// Loses the commands that a restart takes, and counts them. Of the answers that are cleared no command is left.
-pub fn lose_unpublished(rows: &mut Vec<Row>, placed: &Serials, ring: &Ring) -> u64
+pub fn lose_unpublished(rows: &mut Rows, placed: &Serials, ring: &Ring) -> u64
     requires published { published_commands ring.now ≤ length placed.now.items }
     requires away { AreAway (take (cleared_commands ring.now) placed.now.items) rows.old.items }
     ensures rows { rows.new.items ≡ map (lose (take (published_commands ring.now) placed.now.items)) rows.old.items }

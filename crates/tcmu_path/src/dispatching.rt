@@ -1,42 +1,47 @@
 //! What dispatch and handle do to the rows.
-ghost use Rattle.std.specs.Prelude.{◌≡◌, ℕ, ◌+◌, ◌<◌, ◌≤◌, [], ◌∷◌, ◌++◌, length, vec_len, IfOk, OnOk, OnErr, Some};
+ghost use Rattle.std.specs.Prelude.{◌≡◌, ℕ, ◌+◌, ◌<◌, ◌≤◌, [], ◌∷◌, ◌++◌, length, IfOk, OnOk, OnErr, Some};
 ghost use Rattle.std.specs.List.{filter};
-ghost use Rattle.std.specs.Vec.{vec_capacity};
 ghost use Rattle.tcmu_types.specs.Views.{dispatch_data};
+ghost use Rattle.tcmu_model.specs.declared.state.CommandState.TheVariants.{Waiting, Out};
 ghost use Rattle.tcmu_model.specs.Lists.{first_of, with_first};
 ghost use Rattle.tcmu_model.specs.Lengths.{blocks_of};
 ghost use Rattle.tcmu_model.specs.Device.{Unfinished, is_at};
 ghost use Rattle.tcmu_model.specs.Events.{turned, is_running, item_answer, after_item, with_reply};
+ghost use Rattle.tcmu_model.specs.Sound.{Every};
+ghost use Rattle.tcmu_path.specs.Tallies.{serials_of};
 ghost use Rattle.tcmu_path.specs.Room.{to_place, to_log, held_by, KeepsRoom};
 
 use crate::ring::{Content, RingItem};
-use crate::rows::{Row, any_at, place_of, turn};
+use crate::row::Row;
+use crate::rows::Rows;
 use std::alloc::Global;
 use tcmu_model::CommandState;
 use tcmu_types::{Dispatch, NoMemory, Reply, Serials};
 
 /// Appends a row where there is room for it.
 #[tactic(auto, using(crate::proofs::Rooms::pushes))]
-pub fn append(rows: &mut Vec<Row>, row: Row)
-    requires { vec_len rows.old < vec_capacity rows.old }
+pub fn append(rows: &mut Rows, row: Row)
+    requires room { 1 ≤ rows.old.spare }
+    requires waits { row.state ≡ Waiting }
+    requires above { Every (λ s. s < row.serial) (serials_of rows.old.items) }
     ensures rows { rows.new.items ≡ rows.old.items ++ row ∷ [] }
     ensures blocks { (pages : ℕ) → held_by pages rows.new.items ≡ held_by pages rows.old.items + blocks_of pages row.command }
     ensures to_log { to_log rows.new.items ≤ to_log rows.old.items + 1 }
     ensures to_place { to_place rows.new.items ≤ to_place rows.old.items + 1 }
 {
-    let _ = rows.push(row);
+    rows.push(row);
 }
 
 /// Whether an unfinished command of this serial is out or handled.
-fn is_running(rows: &[Row], serial: u64) -> bool
-    ensures { result ≡ is_running rows.now serial }
+fn is_running(rows: &Rows, serial: u64) -> bool
+    ensures { result ≡ is_running rows.now.items serial }
 {
-    any_at(rows, serial, CommandState::Out) || any_at(rows, serial, CommandState::Handled)
+    rows.has(serial, CommandState::Out) || rows.has(serial, CommandState::Handled)
 }
 
 /// Those of the serials whose commands are out or handled.
-fn running(alloc: Global, rows: &[Row], serials: &[u64]) -> Result<Serials, NoMemory>
-    ensures { IfOk result (λ r. r.items ≡ filter (is_running rows.now) serials.now) }
+fn running(alloc: Global, rows: &Rows, serials: &[u64]) -> Result<Serials, NoMemory>
+    ensures { IfOk result (λ r. r.items ≡ filter (is_running rows.now.items) serials.now) }
 {
     let mut listed = Serials::new(alloc);
     listed.reserve(serials.len() as u64)?;
@@ -49,19 +54,15 @@ fn running(alloc: Global, rows: &[Row], serials: &[u64]) -> Result<Serials, NoMe
 }
 
 /// Sends the waiting command of a serial out.
-fn send(rows: &mut Vec<Row>, serial: u64)
+fn send(rows: &mut Rows, serial: u64)
     ensures rows { rows.new.items ≡ turned serial CommandState.Waiting CommandState.Out rows.old.items }
     ensures kept { KeepsRoom rows.old.items rows.new.items }
 {
-    let _ = turn(rows, serial, CommandState::Waiting, CommandState::Out);
+    rows.send(serial);
 }
 
 /// Hands an item of the ring out.
-pub fn dispatch_item(
-    alloc: Global,
-    rows: &mut Vec<Row>,
-    item: &RingItem,
-) -> Result<Dispatch, NoMemory>
+pub fn dispatch_item(alloc: Global, rows: &mut Rows, item: &RingItem) -> Result<Dispatch, NoMemory>
     ensures answer { IfOk result (λ a. dispatch_data a ≡ item_answer rows.old.items item.now) }
     ensures rows { OnOk result (rows.new.items ≡ after_item rows.old.items item.now) }
     ensures err { OnErr result (rows.new.items ≡ rows.old.items) }
@@ -74,7 +75,7 @@ pub fn dispatch_item(
             Ok(Dispatch::Job(*serial))
         }
         Content::Note { kind, serials } => {
-            let listed = running(alloc, rows.as_slice(), serials.as_slice())?;
+            let listed = running(alloc, rows, serials.as_slice())?;
             Ok(Dispatch::Note {
                 kind: *kind,
                 serials: listed,
@@ -84,13 +85,10 @@ pub fn dispatch_item(
 }
 
 /// Keeps the reply to the command of a serial that is out.
-pub fn keep_reply(rows: &mut Vec<Row>, serial: u64, reply: &Reply)
+pub fn keep_reply(rows: &mut Rows, serial: u64, reply: &Reply)
     requires { (u : Unfinished) → first_of (is_at serial CommandState.Out) rows.old.items ≡ Some u → length reply.now.payload ≤ u.command.in_len }
     ensures rows { rows.new.items ≡ with_first (is_at serial CommandState.Out) (with_reply reply.now) rows.old.items }
     ensures kept { KeepsRoom rows.old.items rows.new.items }
 {
-    if let Some(at) = place_of(rows.as_slice(), serial, CommandState::Out) {
-        let row = &mut rows[at];
-        row.keep(reply);
-    }
+    rows.keep(serial, reply);
 }

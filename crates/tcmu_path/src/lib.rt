@@ -10,8 +10,10 @@ mod path;
 mod placing;
 mod plain;
 mod ring;
+mod row;
 mod rows;
 mod state;
+mod tally;
 mod waiting;
 
 pub use count::open_count;

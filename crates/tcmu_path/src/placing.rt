@@ -2,37 +2,37 @@
 ghost use Rattle.std.specs.Prelude.{◌≡◌, ℕ, ◌≤◌, List, [], ◌∷◌, ◌++◌, length, take, true, false, if◌then◌else◌};
 ghost use Rattle.std.specs.List.{list_any};
 ghost use Rattle.tcmu_model.specs.RingState.{serial_in, serials_in};
+ghost use Rattle.tcmu_model.specs.declared.state.CommandState.TheVariants.{Handled, Parked, Placed};
 ghost use Rattle.tcmu_model.specs.Device.{is_at};
 ghost use Rattle.tcmu_model.specs.Events.{turned, with_placed, run_placed, is_among};
 ghost use Rattle.tcmu_model.specs.Sound.{Every, Differ};
 ghost use Rattle.tcmu_path.specs.Room.{to_place, KeepsRoom};
 
 use crate::ring::{Ring, RingItem};
-use crate::rows::{Row, turn};
-use tcmu_model::CommandState;
+use crate::rows::Rows;
 use tcmu_types::Serials;
 
 /// Parks the handled command of a serial, where it is there.
-pub fn park(rows: &mut Vec<Row>, serial: u64) -> bool
-    ensures found { result ≡ list_any (is_at serial CommandState.Handled) rows.old.items }
-    ensures rows { rows.new.items ≡ turned serial CommandState.Handled CommandState.Parked rows.old.items }
+pub fn park(rows: &mut Rows, serial: u64) -> bool
+    ensures found { result ≡ list_any (is_at serial Handled) rows.old.items }
+    ensures rows { rows.new.items ≡ turned serial Handled Parked rows.old.items }
     ensures none { result ≡ false → rows.new.items ≡ rows.old.items }
-    ensures parked { result ≡ true → list_any (is_at serial CommandState.Parked) rows.new.items ≡ true }
+    ensures parked { result ≡ true → list_any (is_at serial Parked) rows.new.items ≡ true }
     ensures kept { KeepsRoom rows.old.items rows.new.items }
 {
-    turn(rows, serial, CommandState::Handled, CommandState::Parked)
+    rows.park(serial)
 }
 
 /// Places one parked command, and tells whether it was there.
-fn place_one(rows: &mut Vec<Row>, placed: &mut Serials, serial: u64) -> bool
+fn place_one(rows: &mut Rows, placed: &mut Serials, serial: u64) -> bool
     requires { to_place rows.old.items ≤ placed.old.spare }
-    ensures found { result ≡ list_any (is_at serial CommandState.Parked) rows.old.items }
-    ensures rows { rows.new.items ≡ (if result then turned serial CommandState.Parked CommandState.Placed rows.old.items else rows.old.items) }
+    ensures found { result ≡ list_any (is_at serial Parked) rows.old.items }
+    ensures rows { rows.new.items ≡ (if result then turned serial Parked Placed rows.old.items else rows.old.items) }
     ensures placed { placed.new.items ≡ (if result then placed.old.items ++ serial ∷ [] else placed.old.items) }
     ensures room { to_place rows.new.items ≤ placed.new.spare }
     ensures kept { KeepsRoom rows.old.items rows.new.items }
 {
-    if turn(rows, serial, CommandState::Parked, CommandState::Placed) {
+    if rows.place(serial) {
         placed.push(serial);
         true
     } else {
@@ -41,9 +41,9 @@ fn place_one(rows: &mut Vec<Row>, placed: &mut Serials, serial: u64) -> bool
 }
 
 /// Places the parked command of a serial.
-pub fn place(rows: &mut Vec<Row>, placed: &mut Serials, serial: u64)
+pub fn place(rows: &mut Rows, placed: &mut Serials, serial: u64)
     requires room { to_place rows.old.items ≤ placed.old.spare }
-    requires parked { list_any (is_at serial CommandState.Parked) rows.old.items ≡ true }
+    requires parked { list_any (is_at serial Parked) rows.old.items ≡ true }
     ensures rows { rows.new.items ≡ (with_placed (record { placed = placed.old.items; unfinished = rows.old.items }) serial).unfinished }
     ensures placed { placed.new.items ≡ (with_placed (record { placed = placed.old.items; unfinished = rows.old.items }) serial).placed }
     ensures room { to_place rows.new.items ≤ placed.new.spare }
@@ -53,7 +53,7 @@ pub fn place(rows: &mut Vec<Row>, placed: &mut Serials, serial: u64)
 }
 
 /// Places the parked command of an item whose answer is not placed; the answer is whether the item may be passed.
-fn pass_item(rows: &mut Vec<Row>, placed: &mut Serials, item: &RingItem) -> bool
+fn pass_item(rows: &mut Rows, placed: &mut Serials, item: &RingItem) -> bool
     requires room { to_place rows.old.items ≤ placed.old.spare }
     requires apart { Every (λ s. is_among placed.old.items s ≡ false) (serial_in item.now) }
     ensures goes { result ≡ true → (rest : List ℕ) → run_placed (record { placed = placed.old.items; unfinished = rows.old.items }) (serial_in item.now ++ rest) ≡ run_placed (record { placed = placed.new.items; unfinished = rows.new.items }) rest }
@@ -71,7 +71,7 @@ fn pass_item(rows: &mut Vec<Row>, placed: &mut Serials, item: &RingItem) -> bool
 
 /// Places the parked commands along these items, the first that are not placed, up to one that is not parked; the answer is how
 /// many items that passed.
-fn place_run(rows: &mut Vec<Row>, placed: &mut Serials, items: &[RingItem]) -> usize
+fn place_run(rows: &mut Rows, placed: &mut Serials, items: &[RingItem]) -> usize
     requires room { to_place rows.old.items ≤ placed.old.spare }
     requires differ { Differ (placed.old.items ++ serials_in items.now) }
     ensures rows { rows.new.items ≡ (run_placed (record { placed = placed.old.items; unfinished = rows.old.items }) (serials_in items.now)).unfinished }
@@ -91,12 +91,7 @@ fn place_run(rows: &mut Vec<Row>, placed: &mut Serials, items: &[RingItem]) -> u
 
 /// In order places all that are parked from the first whose answer is not placed. `passed` items stand before that one, and the
 /// answer is how many do then.
-pub fn place_in_order(
-    rows: &mut Vec<Row>,
-    placed: &mut Serials,
-    ring: &Ring,
-    passed: usize,
-) -> usize
+pub fn place_in_order(rows: &mut Rows, placed: &mut Serials, ring: &Ring, passed: usize) -> usize
     requires room { to_place rows.old.items ≤ placed.old.spare }
     requires within { passed ≤ length ring.now.laid }
     requires ordered { placed.old.items ≡ serials_in (take passed ring.now.laid) }

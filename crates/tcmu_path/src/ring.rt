@@ -302,7 +302,12 @@ impl Ring {
         requires { published_commands self.now ≤ placed }
         ensures { result ≡ nat_lt self.now.published (front_with placed (take self.now.dispatched self.now.laid)) }
     {
-        self.more(placed).0 > 0
+        if self.published == self.dispatched {
+            return false;
+        }
+        let _count = self.laid.len();
+        let next = &self.laid[self.published];
+        !next.is_command() || self.published_commands < placed
     }
 
     /// Publishes what so many placed answers allow, and tells how many items that moved and how many commands among them.

@@ -1,344 +1,304 @@
-//! The unfinished commands of a plain device, each with the room that its completion needs.
-ghost use Rattle.std.specs.Prelude.{◌≡◌, ◌≤◌, ◌^◌, [], length, IfOk, Option, None, true, false, MatchOption};
-ghost use Rattle.std.specs.List.{list_any, position, count_by};
-ghost use Rattle.std.specs.Option.{option_to_list, option_map};
-ghost use Rattle.tcmu_model.specs.Lists.{IsFirst, first_of};
-ghost use Rattle.tcmu_model.specs.Device.{is_at, has_state, has_serial};
-ghost use Rattle.tcmu_model.specs.Events.{unknown_serial, is_among, is_in_hand, is_losing, lose, expire, in_state, with_reply, turned, completions, expiry, is_due};
-ghost use Rattle.tcmu_model.specs.Steps.{asked};
+//! The unfinished commands of a plain device, in rising serial. One is found by bisection, and the first is taken out without moving
+//! the others; of the states that the drain asks for, the least serial is kept.
+ghost use Rattle.std.specs.Prelude.{◌≡◌, ℕ, ◌<◌, ◌≤◌, ◌^◌, [], ◌∷◌, ◌++◌, length, map, false, None, Some, OnOk, MatchOption, slice_index_or};
+ghost use Rattle.std.specs.List.{list_any, count_by};
+ghost use Rattle.tcmu_model.specs.declared.state.CommandState.TheVariants.{Waiting, Out, Handled, Parked, Placed};
+ghost use Rattle.tcmu_model.specs.Lists.{IsFirst, first_of, with_first, without_first};
+ghost use Rattle.tcmu_model.specs.Device.{Unfinished, is_at, has_state, has_serial};
+ghost use Rattle.tcmu_model.specs.Events.{unknown_serial, is_in_hand, lose, expire, with_reply, turned};
+ghost use Rattle.tcmu_model.specs.Sound.{Every};
+ghost use Rattle.tcmu_path.specs.Tallies.{serials_of, least_in};
 
-use crate::closings::closing;
-use handler_trait::Request;
+use crate::row::Row;
+use crate::tally::Tally;
 use std::alloc::Global;
+use std::collections::VecDeque;
 use std::marker::Model;
 use tcmu_model::CommandState;
-use tcmu_types::{Bytes, Command, Done, NoMemory, Reply, ScsiStatus, Sense};
+use tcmu_types::{NoMemory, Reply};
 
-/// What a reply says beside its bytes.
-#[derive(Clone, Copy, Debug)]
-pub struct Head {
-    pub status: ScsiStatus,
-    pub sense: Option<Sense>,
-}
-
-/// An unfinished command.
-#[derive(Drop)]
-pub struct Row {
-    serial: u64,
-    command: Command,
-    state: CommandState,
-    deadline: Option<u64>,
-    expired: bool,
-    head: Option<Head>,
-    buffer: Bytes,
-}
-
-impl Model for Row {
-    ghost use Rattle.tcmu_model.specs.Device.{Unfinished};
-
-    ghost Value = { Unfinished };
-
-    ghost use Rattle.tcmu_path.specs.Kept.{reply_of, HasRoom};
-
-    ghost view = { λ a. record { serial = a.serial; command = a.command; state = a.state; deadline = a.deadline; expired = a.expired; reply = reply_of a.head a.buffer.items } };
-
-    ghost invariant = { λ a. HasRoom a.command.in_len a.buffer };
-}
-
-/// Room for the completion of a command.
-pub fn room_for(alloc: Global, command: &Command) -> Result<Bytes, NoMemory>
-    ensures empty { IfOk result (λ room. room.items ≡ []) }
-    ensures room { IfOk result (λ room. command.now.in_len ≤ room.spare) }
+/// Marks the commands that are due.
+fn expire_each(rows: &mut VecDeque<Row>, now: u64)
+    ensures { rows.new.items ≡ map (expire now) rows.old.items }
 {
-    let mut room = Bytes::new(alloc);
-    room.reserve(command.in_len() as u64)?;
-    Ok(room)
+    for at in 0..rows.len() {
+        let row = &mut rows[at];
+        row.expire(now);
+    }
 }
 
-impl Row {
-    /// A command that waits, with room for its completion.
-    pub fn new(serial: u64, command: Command, deadline: Option<u64>, room: Bytes) -> Row
-        requires empty { room.items ≡ [] }
-        requires room { command.in_len ≤ room.spare }
-        ensures { result ≡ record { serial = serial; command = command; state = CommandState.Waiting; deadline = deadline; expired = false; reply = None } }
+/// Loses the commands that a restart takes.
+fn lose_each(rows: &mut VecDeque<Row>, answered: &[u64])
+    ensures { rows.new.items ≡ map (lose answered.now) rows.old.items }
+{
+    for at in 0..rows.len() {
+        let row = &mut rows[at];
+        row.lose(answered);
+    }
+}
+
+/// The unfinished commands, in rising serial.
+#[derive(Drop)]
+pub struct Rows {
+    rows: VecDeque<Row>,
+    out: Tally,
+    handled: Tally,
+}
+
+impl Model for Rows {
+    ghost use Rattle.std.specs.Prelude.{◌-◌};
+    ghost use Rattle.std.specs.VecDeque.{deque_len, deque_capacity};
+    ghost use Rattle.tcmu_types.specs.Data.{Spared};
+    ghost use Rattle.tcmu_model.specs.Device.{Unfinished};
+    ghost use Rattle.tcmu_path.specs.Tallies.{AreRows};
+
+    ghost Value = { Spared Unfinished };
+
+    ghost view = { λ a. record { items = a.rows.items; spare = deque_capacity a.rows - deque_len a.rows } };
+
+    ghost invariant = { λ a. AreRows a.rows.items a.out a.handled };
+}
+
+impl Rows {
+    pub fn new(alloc: Global) -> Rows
+        ensures { result.items ≡ [] }
     {
-        Row {
-            serial,
-            command,
-            state: CommandState::Waiting,
-            deadline,
-            expired: false,
-            head: None,
-            buffer: room,
+        Rows {
+            rows: VecDeque::new(alloc),
+            out: Tally::new(),
+            handled: Tally::new(),
         }
     }
 
-    pub fn serial(&self) -> u64
-        ensures { result ≡ self.now.serial }
+    pub fn len(&self) -> usize
+        ensures value { result ≡ length self.now.items }
+        ensures few { result < 2 ^ 63 }
     {
-        self.serial
+        self.rows.len()
     }
 
-    pub fn command(&self) -> &Command
-        ensures { result.now ≡ self.now.command }
+    /// All of them.
+    pub fn all(&self) -> &VecDeque<Row>
+        ensures { result.now.items ≡ self.now.items }
     {
-        &self.command
+        &self.rows
     }
 
-    /// What the command asks of its handler.
-    pub fn request(&self, alloc: Global) -> Result<Request, NoMemory>
-        ensures { IfOk result (λ r. r ≡ asked self.now.command) }
+    /// The least serial of those that are out.
+    pub fn least_out(&self) -> Option<u64>
+        ensures { result ≡ least_in Out self.now.items }
     {
-        let sent = Bytes::from_slice(alloc, self.command.sent().as_slice())?;
-        Ok(Request {
-            cdb: self.command.cdb().copy(),
-            sent,
-            in_len: self.command.in_len(),
-        })
+        self.out.least
     }
 
-    pub fn state(&self) -> CommandState
-        ensures { result ≡ self.now.state }
+    /// The least serial of those that are handled.
+    pub fn least_handled(&self) -> Option<u64>
+        ensures { result ≡ least_in Handled self.now.items }
     {
-        self.state
+        self.handled.least
     }
 
-    pub fn is_at(&self, serial: u64, state: CommandState) -> bool
-        ensures { result ≡ is_at serial state self.now }
+    /// The place of the first command of a serial or of one above it.
+    fn place_from(&self, serial: u64) -> usize
+        ensures below { (k : ℕ) (d : Unfinished) → k < result → (slice_index_or self.now.items k d).serial < serial }
+        ensures above { (k : ℕ) (d : Unfinished) → result ≤ k → k < length self.now.items → serial ≤ (slice_index_or self.now.items k d).serial }
+        ensures within { result ≤ length self.now.items }
     {
-        self.serial == serial && self.state.is(state)
+        self.rows.partition_point(|row| row.serial() < serial)
     }
 
-    pub fn is_expired(&self) -> bool
-        ensures { result ≡ self.now.expired }
+    /// The place of the command of a serial in a state.
+    fn place_of(&self, serial: u64, state: CommandState) -> Option<usize>
+        ensures { MatchOption result (list_any (is_at serial state) self.now.items ≡ false) (IsFirst (is_at serial state) self.now.items) }
     {
-        self.expired
+        let at = self.place_from(serial);
+        if at == self.rows.len() {
+            return None;
+        }
+        let row = &self.rows[at];
+        if row.is_at(serial, state) {
+            Some(at)
+        } else {
+            None
+        }
     }
 
-    pub fn set_state(&mut self, state: CommandState)
-        ensures { self.new ≡ in_state state self.old }
+    /// Whether the command of a serial is in a state.
+    pub fn has(&self, serial: u64, state: CommandState) -> bool
+        ensures { result ≡ list_any (is_at serial state) self.now.items }
     {
-        self.state = state;
+        self.place_of(serial, state).is_some()
     }
 
-    /// Keeps the reply of the command's handler.
-    pub fn keep(&mut self, reply: &Reply)
-        requires { length reply.now.payload ≤ self.old.command.in_len }
-        ensures { self.new ≡ with_reply reply.now self.old }
+    /// The command of a serial in a state.
+    pub fn find(&self, serial: u64, state: CommandState) -> Option<&Row>
+        ensures { MatchOption result (first_of (is_at serial state) self.now.items ≡ None) (λ r. first_of (is_at serial state) self.now.items ≡ Some r.now) }
     {
-        self.state = CommandState::Handled;
-        self.head = Some(Head {
-            status: reply.status,
-            sense: reply.sense,
-        });
-        self.buffer.clear();
-        self.buffer.extend(reply.payload.as_slice());
+        match self.place_of(serial, state) {
+            Some(at) => Some(&self.rows[at]),
+            None => None,
+        }
     }
 
-    pub fn is_due(&self, now: u64) -> bool
-        ensures { result ≡ is_due now self.now }
+    /// Whether an unfinished command has this serial.
+    pub fn is_known(&self, serial: u64) -> bool
+        ensures { result ≡ list_any (has_serial serial) self.now.items }
     {
-        match self.deadline {
-            Some(at) => !self.expired && at <= now,
+        let at = self.place_from(serial);
+        if at == self.rows.len() {
+            return false;
+        }
+        let row = &self.rows[at];
+        row.serial() == serial
+    }
+
+    /// Makes room for one more.
+    pub fn reserve(&mut self) -> Result<(), NoMemory>
+        ensures items { self.new.items ≡ self.old.items }
+        ensures room { OnOk result (1 ≤ self.new.spare) }
+    {
+        self.rows.reserve(1)?;
+        Ok(())
+    }
+
+    /// Appends a command that waits, in the room that is there.
+    pub fn push(&mut self, row: Row)
+        requires room { 1 ≤ self.old.spare }
+        requires waits { row.state ≡ Waiting }
+        requires above { Every (λ s. s < row.serial) (serials_of self.old.items) }
+        ensures { self.new.items ≡ self.old.items ++ row ∷ [] }
+    {
+        self.rows.push_back_reserved(row);
+    }
+
+    /// Sends the waiting command of a serial out, where it is there.
+    pub fn send(&mut self, serial: u64)
+        ensures { self.new.items ≡ turned serial Waiting Out self.old.items }
+    {
+        let _few = self.len();
+        if let Some(at) = self.place_of(serial, CommandState::Waiting) {
+            self.out.enter(serial);
+            let row = &mut self.rows[at];
+            row.set_state(CommandState::Out);
+        }
+    }
+
+    /// Keeps the reply to the command of a serial that is out, where it is there.
+    pub fn keep(&mut self, serial: u64, reply: &Reply)
+        requires { (u : Unfinished) → first_of (is_at serial Out) self.old.items ≡ Some u → length reply.now.payload ≤ u.command.in_len }
+        ensures { self.new.items ≡ with_first (is_at serial Out) (with_reply reply.now) self.old.items }
+    {
+        let _few = self.len();
+        if let Some(at) = self.place_of(serial, CommandState::Out) {
+            self.out.leave(&self.rows, at, serial, CommandState::Out);
+            self.handled.enter(serial);
+            let row = &mut self.rows[at];
+            row.keep(reply);
+        }
+    }
+
+    /// Parks the handled command of a serial, where it is there.
+    pub fn park(&mut self, serial: u64) -> bool
+        ensures found { result ≡ list_any (is_at serial Handled) self.old.items }
+        ensures turned { self.new.items ≡ turned serial Handled Parked self.old.items }
+        ensures none { result ≡ false → self.new.items ≡ self.old.items }
+    {
+        match self.place_of(serial, CommandState::Handled) {
+            Some(at) => {
+                self.handled
+                    .leave(&self.rows, at, serial, CommandState::Handled);
+                let row = &mut self.rows[at];
+                row.set_state(CommandState::Parked);
+                true
+            }
             None => false,
         }
     }
 
-    /// Marks the command expired where it is due.
-    pub fn expire(&mut self, now: u64)
-        ensures { self.new ≡ expire now self.old }
+    /// The parked command of a serial becomes one whose answer is placed, where it is there.
+    pub fn place(&mut self, serial: u64) -> bool
+        ensures found { result ≡ list_any (is_at serial Parked) self.old.items }
+        ensures turned { self.new.items ≡ turned serial Parked Placed self.old.items }
+        ensures none { result ≡ false → self.new.items ≡ self.old.items }
     {
-        if self.is_due(now) {
-            self.expired = true;
-        }
-    }
-
-    /// Whether its handler has the command, or the daemon that waits with its answer.
-    pub fn is_in_hand(&self) -> bool
-        ensures { result ≡ is_in_hand self.now }
-    {
-        self.state.is(CommandState::Out)
-            || self.state.is(CommandState::Handled)
-            || self.state.is(CommandState::Parked)
-    }
-
-    /// Whether a restart takes the command.
-    pub fn is_losing(&self, answered: &[u64]) -> bool
-        ensures { result ≡ is_losing answered.now self.now }
-    {
-        self.is_in_hand() || self.state.is(CommandState::Placed) && !is_among(answered, self.serial)
-    }
-
-    /// Loses the command where a restart takes it, but keeps its answer where that was placed.
-    pub fn lose(&mut self, answered: &[u64])
-        ensures { self.new ≡ lose answered.now self.old }
-    {
-        if self.is_losing(answered) {
-            if !self.state.is(CommandState::Placed) {
-                self.head = None;
+        match self.place_of(serial, CommandState::Parked) {
+            Some(at) => {
+                let row = &mut self.rows[at];
+                row.set_state(CommandState::Placed);
+                true
             }
-            self.state = CommandState::Lost;
+            None => false,
         }
     }
 
-    /// The completion of a command whose time is over: LOGICAL UNIT COMMUNICATION TIME-OUT (SPC-4, 4.5.6).
-    pub fn expiry(&self, alloc: Global) -> Done
-        ensures { result ≡ expiry self.now }
+    /// Takes out the placed command of a serial, where it is there.
+    pub fn take_placed(&mut self, serial: u64) -> Option<Row>
+        ensures row { result ≡ first_of (is_at serial Placed) self.old.items }
+        ensures rest { self.new.items ≡ without_first (is_at serial Placed) self.old.items }
     {
-        closing(
-            alloc,
-            0x02,
-            Some(Sense {
-                key: 0x0b,
-                asc: 0x08,
-                ascq: 0x01,
-            }),
-            self.serial,
-            &self.command,
-        )
+        match self.place_of(serial, CommandState::Placed) {
+            Some(at) => self.rows.remove(at),
+            None => None,
+        }
     }
 
-    /// The completion of a command that is answered, where it is not expired.
-    pub fn into_completion(self, read_len: bool) -> Option<Done>
-        ensures { option_to_list result ≡ completions read_len self }
+    /// Marks the commands that are due.
+    pub fn mark_due(&mut self, now: u64)
+        ensures { self.new.items ≡ map (expire now) self.old.items }
     {
-        let Row {
-            serial,
-            command,
-            state: _,
-            deadline: _,
-            expired,
-            head,
-            mut buffer,
-        } = self;
-        if expired {
-            return None;
-        }
-        let head = head?;
-        if head.status.0 != 0 {
-            buffer.clear();
-        } else if !read_len {
-            let missing = command.in_len() as usize - buffer.len();
-            buffer.fill(0, missing);
-        }
-        Some(Done {
-            serial,
-            init: command.init().copy(),
-            tag: command.tag(),
-            status: head.status,
-            sense: head.sense,
-            payload: buffer,
-        })
+        expire_each(&mut self.rows, now);
     }
-}
 
-/// Whether a serial stands in a list.
-pub fn is_among(serials: &[u64], serial: u64) -> bool
-    ensures { result ≡ is_among serials.now serial }
-{
-    serials.iter().any(|k| *k == serial)
-}
-
-/// The place of the command of a serial in a state.
-pub fn place_of(rows: &[Row], serial: u64, state: CommandState) -> Option<usize>
-    ensures { MatchOption result (list_any (is_at serial state) rows.now ≡ false) (IsFirst (is_at serial state) rows.now) }
-{
-    first_place(rows, serial, state)
-}
-
-/// Whether the command of a serial is in a state.
-pub fn any_at(rows: &[Row], serial: u64, state: CommandState) -> bool
-    ensures { result ≡ list_any (is_at serial state) rows.now }
-{
-    rows.iter().any(|row| row.is_at(serial, state))
-}
-
-/// The least serial of a command in a state.
-pub fn least(rows: &[Row], state: CommandState) -> Option<u64>
-    ensures { result ≡ option_map (λ u. u.serial) (first_of (has_state state) rows.now) }
-{
-    match first_in(rows, state) {
-        Some(at) => Some(rows[at].serial()),
-        None => None,
+    /// Loses the commands that a restart takes: those in hand are among them.
+    pub fn mark_lost(&mut self, answered: &[u64])
+        ensures { self.new.items ≡ map (lose answered.now) self.old.items }
+    {
+        lose_each(&mut self.rows, answered);
+        self.out = Tally::new();
+        self.handled = Tally::new();
     }
-}
 
-fn first_in(rows: &[Row], state: CommandState) -> Option<usize>
-    ensures { result ≡ position (has_state state) rows.now }
-{
-    rows.iter().position(|row| row.state().is(state))
-}
-
-/// How many commands are in a state.
-pub fn count_in(rows: &[Row], state: CommandState) -> u32
-    requires { length rows.now ≤ 2 ^ 30 }
-    ensures { result ≡ count_by (has_state state) rows.now }
-{
-    rows.iter().filter(|row| row.state().is(state)).count() as u32
-}
-
-/// How many commands are expired.
-pub fn count_expired(rows: &[Row]) -> u32
-    requires { length rows.now ≤ 2 ^ 30 }
-    ensures { result ≡ count_by (λ u. u.expired) rows.now }
-{
-    rows.iter().filter(|row| row.is_expired()).count() as u32
-}
-
-/// Whether an unfinished command has this serial.
-pub fn is_known(rows: &[Row], serial: u64) -> bool
-    ensures { result ≡ list_any (has_serial serial) rows.now }
-{
-    rows.iter().any(|row| row.serial() == serial)
+    /// Forgets all of them.
+    pub fn clear(&mut self)
+        ensures { self.new.items ≡ [] }
+    {
+        self.rows.clear();
+        self.out = Tally::new();
+        self.handled = Tally::new();
+    }
 }
 
 /// The first serial of a list that no unfinished command has.
-pub fn unknown(rows: &[Row], serials: &[u64]) -> Option<u64>
-    ensures { result ≡ unknown_serial rows.now serials.now }
+pub fn unknown(rows: &Rows, serials: &[u64]) -> Option<u64>
+    ensures { result ≡ unknown_serial rows.now.items serials.now }
 {
     for serial in serials {
-        if !is_known(rows, *serial) {
+        if !rows.is_known(*serial) {
             return Some(*serial);
         }
     }
     None
 }
 
+/// How many commands are in a state.
+pub fn count_in(rows: &VecDeque<Row>, state: CommandState) -> u32
+    requires { length rows.now.items ≤ 2 ^ 30 }
+    ensures { result ≡ count_by (has_state state) rows.now.items }
+{
+    rows.iter().filter(|row| row.state().is(state)).count() as u32
+}
+
+/// How many commands are expired.
+pub fn count_expired(rows: &VecDeque<Row>) -> u32
+    requires { length rows.now.items ≤ 2 ^ 30 }
+    ensures { result ≡ count_by (λ u. u.expired) rows.now.items }
+{
+    rows.iter().filter(|row| row.is_expired()).count() as u32
+}
+
 /// How many commands handlers hold.
-pub fn handlers_out(rows: &[Row]) -> usize
-    ensures { result ≡ count_by is_in_hand rows.now }
+pub fn handlers_out(rows: &VecDeque<Row>) -> usize
+    ensures { result ≡ count_by is_in_hand rows.now.items }
 {
     rows.iter().filter(|row| row.is_in_hand()).count()
-}
-
-fn first_place(rows: &[Row], serial: u64, state: CommandState) -> Option<usize>
-    ensures { result ≡ position (is_at serial state) rows.now }
-{
-    rows.iter().position(|row| row.is_at(serial, state))
-}
-
-/// The command of a serial in a state.
-pub fn find(rows: &[Row], serial: u64, state: CommandState) -> Option<&Row>
-    ensures { MatchOption result (first_of (is_at serial state) rows.now ≡ None) (λ r. first_of (is_at serial state) rows.now ≡ Some r.now) }
-{
-    match place_of(rows, serial, state) {
-        Some(at) => Some(&rows[at]),
-        None => None,
-    }
-}
-
-/// Turns the command of a serial from one state to another, where it is in the one.
-pub fn turn(rows: &mut Vec<Row>, serial: u64, from: CommandState, to: CommandState) -> bool
-    ensures found { result ≡ list_any (is_at serial from) rows.old.items }
-    ensures turned { rows.new.items ≡ turned serial from to rows.old.items }
-    ensures none { result ≡ false → rows.new.items ≡ rows.old.items }
-{
-    match place_of(rows.as_slice(), serial, from) {
-        Some(at) => {
-            let row = &mut rows[at];
-            row.set_state(to);
-            true
-        }
-        None => false,
-    }
 }

@@ -18,7 +18,7 @@ use crate::books::{close_all, expire_all, finish_published, lose_unpublished};
 use crate::dispatching::{dispatch_item, keep_reply};
 use crate::placing::{park, place, place_in_order};
 use crate::ring::Ring;
-use crate::rows::{Row, any_at, find, handlers_out};
+use crate::rows::{Rows, handlers_out};
 use crate::waiting::Queue;
 use handler_trait::Request;
 use std::alloc::Global;
@@ -39,7 +39,7 @@ pub struct State {
     attached: bool,
     ring: Ring,
     accepted: u64,
-    rows: Vec<Row>,
+    rows: Rows,
     held: u32,
     delayed: Queue,
     placed: Serials,
@@ -67,7 +67,7 @@ fn later(now: u64, n: u32) -> u64
 }
 
 /// Logs what a moment ends: commands expire, and delayed ones leave.
-fn end_by(rows: &mut Vec<Row>, delayed: &mut Queue, log: &mut Listed<Done>, alloc: Global, now: u64)
+fn end_by(rows: &mut Rows, delayed: &mut Queue, log: &mut Listed<Done>, alloc: Global, now: u64)
     requires { to_log rows.old.items + length delayed.old.items ≤ log.old.spare }
     ensures rows { rows.new.items ≡ map (expire now) rows.old.items }
     ensures delayed { delayed.new.items ≡ filter (λ w. not (has_left now w)) delayed.old.items }
@@ -80,13 +80,7 @@ fn end_by(rows: &mut Vec<Row>, delayed: &mut Queue, log: &mut Listed<Done>, allo
 }
 
 /// Logs all that is open as a reset of a level ends it, and forgets all.
-fn end_all(
-    rows: &mut Vec<Row>,
-    delayed: &mut Queue,
-    log: &mut Listed<Done>,
-    alloc: Global,
-    level: u8,
-)
+fn end_all(rows: &mut Rows, delayed: &mut Queue, log: &mut Listed<Done>, alloc: Global, level: u8)
     requires { to_log rows.old.items + length delayed.old.items ≤ log.old.spare }
     ensures rows { rows.new.items ≡ [] }
     ensures delayed { delayed.new.items ≡ [] }
@@ -108,7 +102,7 @@ impl State {
             attached: true,
             ring: Ring::new(alloc, settings.ring),
             accepted: 0,
-            rows: Vec::new(alloc),
+            rows: Rows::new(alloc),
             held: 0,
             delayed: Queue::new(alloc),
             placed: Serials::new(alloc),
@@ -245,7 +239,7 @@ impl State {
             return Respond::NotHandled(serial);
         }
         self.place(serial);
-        if any_at(self.rows.as_slice(), serial, CommandState::Placed) {
+        if self.rows.has(serial, CommandState::Placed) {
             Respond::Placed
         } else {
             Respond::Parked
@@ -275,7 +269,7 @@ impl State {
     pub fn request(&self, serial: u64) -> Result<Option<Request>, NoMemory>
         ensures { IfOk result (λ o. MatchOption o (command_out self.entry.now serial ≡ None) (IsRequest self.entry.now serial)) }
     {
-        match find(self.rows.as_slice(), serial, CommandState::Out) {
+        match self.rows.find(serial, CommandState::Out) {
             Some(row) => {
                 let request = row.request(self.alloc)?;
                 Ok(Some(request))
@@ -339,7 +333,7 @@ impl State {
         if !self.blocked {
             return Reset::NotBlocked;
         }
-        let count = handlers_out(self.rows.as_slice());
+        let count = handlers_out(self.rows.all());
         if count > 0 {
             return Reset::HandlersOut(count as u64);
         }

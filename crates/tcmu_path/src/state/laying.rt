@@ -11,7 +11,8 @@ ghost use Rattle.tcmu_path.specs.Waits.{NextFits};
 use super::State;
 use crate::dispatching::append;
 use crate::ring::{Content, RingItem};
-use crate::rows::{Row, room_for, unknown};
+use crate::row::{Row, room_for};
+use crate::rows::unknown;
 use crate::waiting::DelayedCommand;
 use std::snapshot::Snapshot;
 use tcmu_model::{blocks_of, entry_length, tmr_length};
@@ -118,6 +119,7 @@ impl State {
     /// Lays a command for which there is room, under the next serial.
     #[tactic(auto, unfolding(tcmu_model::specs::Events::with_command))]
     fn accept(&mut self, command: &Command, len: u32) -> Result<(), NoMemory>
+        requires sound { IsSound self.old }
         requires count { self.old.accepted < 2 ^ 63 }
         requires now { self.old.now ≤ 2 ^ 63 }
         requires len { len ≡ entry_length_in self.old command.now }
@@ -134,7 +136,7 @@ impl State {
         let completions = self.completions();
         self.placed.reserve(places)?;
         self.log.reserve(completions)?;
-        self.rows.reserve(1)?;
+        self.rows.reserve()?;
         let room = room_for(self.alloc, command)?;
         let row = Row::new(
             serial,
@@ -181,6 +183,7 @@ impl State {
     /// Accepts a command where there is room, and else refuses it.
     #[tactic(auto, unfolding(tcmu_model::specs::Events::queued_or_full, tcmu_model::specs::Events::after_submit))]
     fn queue_or_refuse(&mut self, command: &Command) -> Result<Submit, NoMemory>
+        requires sound { IsSound self.old }
         requires count { self.old.accepted < 2 ^ 63 }
         requires now { self.old.now ≤ 2 ^ 63 }
         ensures answer { IfOk result (λ a. a ≡ queued_or_full self.old command.now) }
@@ -211,6 +214,7 @@ impl State {
     /// Accepts a command where there is room and none waits, and else lets it wait.
     #[tactic(auto, unfolding(tcmu_model::specs::Events::queued_or_delayed, tcmu_model::specs::Events::after_submit))]
     fn queue_or_delay(&mut self, command: &Command) -> Result<Submit, NoMemory>
+        requires sound { IsSound self.old }
         requires count { self.old.accepted < 2 ^ 63 }
         requires now { self.old.now ≤ 2 ^ 63 }
         ensures answer { IfOk result (λ a. a ≡ queued_or_delayed self.old command.now) }
@@ -234,6 +238,7 @@ impl State {
 
     #[tactic(auto, unfolding(tcmu_model::specs::Events::submit_answer, tcmu_model::specs::Events::after_submit))]
     pub fn submit(&mut self, command: &Command) -> Result<Submit, NoMemory>
+        requires sound { IsSound self.old }
         requires count { self.old.accepted < 2 ^ 63 }
         requires now { self.old.now ≤ 2 ^ 63 }
         ensures answer { IfOk result (λ a. a ≡ submit_answer self.old command.now) }
@@ -273,6 +278,7 @@ impl State {
     /// The first delayed command enters the ring, where there is room for it.
     #[tactic(auto, unfolding(tcmu_model::specs::Events::with_command))]
     fn enter_first(&mut self, len: u32, blocks: u32) -> Result<(), NoMemory>
+        requires sound { IsSound self.old }
         requires now { self.old.now ≤ 2 ^ 63 }
         requires small { len ≤ 4160 }
         requires next { NextFits self.old len blocks }
@@ -288,7 +294,7 @@ impl State {
         };
         let room = room_for(self.alloc, &first.command)?;
         self.placed.reserve(places)?;
-        self.rows.reserve(1)?;
+        self.rows.reserve()?;
         self.ring.lay(RingItem {
             len,
             content: Content::Command {
@@ -308,7 +314,8 @@ impl State {
 
     #[tactic(auto, unfolding(tcmu_model::specs::Events::enter_answer, tcmu_model::specs::Events::after_enter))]
     pub fn enter(&mut self) -> Result<Enter, NoMemory>
-        requires { self.old.now ≤ 2 ^ 63 }
+        requires sound { IsSound self.old }
+        requires now { self.old.now ≤ 2 ^ 63 }
         ensures answer { IfOk result (λ a. a ≡ enter_answer self.old) }
         ensures after { IfOk result (λ a. self.new ≡ after_enter self.old a) }
         ensures err { OnErr result (self.new ≡ self.old) }

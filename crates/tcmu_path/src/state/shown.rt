@@ -6,7 +6,7 @@ ghost use Rattle.tcmu_model.specs.Drain.{todo_of, can_enter};
 ghost use Rattle.tcmu_model.specs.Sound.{IsSound};
 
 use super::State;
-use crate::rows::{Row, count_expired, count_in, least};
+use crate::rows::{Rows, count_expired, count_in};
 use tcmu_model::CommandState;
 use tcmu_types::{Stat, Todo};
 
@@ -40,8 +40,8 @@ impl State {
             };
         }
         Todo {
-            handle: least(self.rows.as_slice(), CommandState::Out),
-            respond: least(self.rows.as_slice(), CommandState::Handled),
+            handle: self.rows.least_out(),
+            respond: self.rows.least_handled(),
             publish: self.ring.may_publish(self.placed.len()),
             clean: self.ring.may_clear(),
             enter: self.can_enter(),
@@ -50,12 +50,12 @@ impl State {
     }
 
     /// The unfinished commands, which are few.
-    pub(super) fn few(&self) -> &[Row]
+    pub(super) fn few(&self) -> &Rows
         requires { IsSound self.now }
-        ensures value { result.now ≡ self.entry.now.unfinished }
-        ensures few { length result.now ≤ 65536 }
+        ensures value { result.now.items ≡ self.entry.now.unfinished }
+        ensures few { length result.now.items ≤ 65536 }
     {
-        self.rows.as_slice()
+        &self.rows
     }
 
     #[tactic(auto, unfolding(tcmu_model::specs::Events::stat_answer))]
@@ -63,7 +63,7 @@ impl State {
         requires { length self.now.unfinished ≤ 65536 }
         ensures { result ≡ stat_answer self.entry.now }
     {
-        let rows = self.rows.as_slice();
+        let rows = self.rows.all();
         Stat {
             now: self.now,
             blocked: self.blocked,

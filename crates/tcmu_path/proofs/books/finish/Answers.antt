@@ -30,7 +30,7 @@ returns-in-Some-into_completion-clause-room c =
     let k : to_log (without_first p c.args.rows.now.items) + cond (is_open c.in-Some.row) 1 0 ≡ to_log c.args.rows.now.items = to_log_taken p c.args.rows.now.items c.in-Some.row (sym c.in-Some.ensures.row) in
     let o : is_open c.in-Some.row ≡ true = open_logs c.args.read_len c.in-Some.row c.in-Some-into_completion.done c.in-Some-into_completion.ensures in
     let one : ◌≡◌ {A = ℕ} (cond (is_open c.in-Some.row) 1 0) 1 = ap (λ b. cond b 1 0) o in
-    let e : to_log c.take_placed.new.rows.items ≡ to_log (without_first p c.args.rows.now.items) = ap to_log c.take_placed.ensures.rest in
+    let e : to_log c.take_placed.new.self.items ≡ to_log (without_first p c.args.rows.now.items) = ap to_log c.take_placed.ensures.rest in
     omega (arith, k, one, e, c.requires.room, c.push.ensures.room)
 
 pub returns-in-Some-into_completion-clause-held : goal.returns-in-Some-into_completion-clause-held
@@ -38,14 +38,14 @@ returns-in-Some-into_completion-clause-held c =
     let p = is_at c.args.serial Placed in
     let k : held_by c.args.pages (without_first p c.args.rows.now.items) + blocks_of c.args.pages c.in-Some.row.command ≡ held_by c.args.pages c.args.rows.now.items = held_by_taken c.args.pages p c.args.rows.now.items c.in-Some.row (sym c.in-Some.ensures.row) in
     let b : c.blocks_of.result ≡ blocks_of c.args.pages c.in-Some.row.command = c.blocks_of.ensures.value ∙ ap (blocks_of c.args.pages) c.command.ensures in
-    let e : held_by c.args.pages c.take_placed.new.rows.items ≡ held_by c.args.pages (without_first p c.args.rows.now.items) = ap (held_by c.args.pages) c.take_placed.ensures.rest in
+    let e : held_by c.args.pages c.take_placed.new.self.items ≡ held_by c.args.pages (without_first p c.args.rows.now.items) = ap (held_by c.args.pages) c.take_placed.ensures.rest in
     omega (arith, k, b, e, c.requires.held)
 
 pub returns-in_default-into_completion-clause-room : goal.returns-in_default-into_completion-clause-room
 returns-in_default-into_completion-clause-room c =
     let p = is_at c.args.serial Placed in
     let k : to_log (without_first p c.args.rows.now.items) + cond (is_open c.in-Some.row) 1 0 ≡ to_log c.args.rows.now.items = to_log_taken p c.args.rows.now.items c.in-Some.row (sym c.in-Some.ensures.row) in
-    let e : to_log c.take_placed.new.rows.items ≡ to_log (without_first p c.args.rows.now.items) = ap to_log c.take_placed.ensures.rest in
+    let e : to_log c.take_placed.new.self.items ≡ to_log (without_first p c.args.rows.now.items) = ap to_log c.take_placed.ensures.rest in
     omega (arith, k, e, c.requires.room)
 
 pub returns-in_default-into_completion-clause-held : goal.returns-in_default-into_completion-clause-held
@@ -53,7 +53,7 @@ returns-in_default-into_completion-clause-held c =
     let p = is_at c.args.serial Placed in
     let k : held_by c.args.pages (without_first p c.args.rows.now.items) + blocks_of c.args.pages c.in-Some.row.command ≡ held_by c.args.pages c.args.rows.now.items = held_by_taken c.args.pages p c.args.rows.now.items c.in-Some.row (sym c.in-Some.ensures.row) in
     let b : c.blocks_of.result ≡ blocks_of c.args.pages c.in-Some.row.command = c.blocks_of.ensures.value ∙ ap (blocks_of c.args.pages) c.command.ensures in
-    let e : held_by c.args.pages c.take_placed.new.rows.items ≡ held_by c.args.pages (without_first p c.args.rows.now.items) = ap (held_by c.args.pages) c.take_placed.ensures.rest in
+    let e : held_by c.args.pages c.take_placed.new.self.items ≡ held_by c.args.pages (without_first p c.args.rows.now.items) = ap (held_by c.args.pages) c.take_placed.ensures.rest in
     omega (arith, k, b, e, c.requires.held)
 
 pub returns-in_default-clause-rows : goal.returns-in_default-clause-rows
@@ -64,7 +64,7 @@ returns-in_default-clause-rows c =
 pub returns-in_default-clause-room : goal.returns-in_default-clause-room
 returns-in_default-clause-room c =
     let n : first_of (is_at c.args.serial Placed) c.args.rows.now.items ≡ None = sym c.in_default.ensures.row in
-    let e : to_log c.take_placed.new.rows.items ≡ to_log c.args.rows.now.items = ap to_log (c.take_placed.ensures.rest ∙ without_first_missing (is_at c.args.serial Placed) c.args.rows.now.items n) in
+    let e : to_log c.take_placed.new.self.items ≡ to_log c.args.rows.now.items = ap to_log (c.take_placed.ensures.rest ∙ without_first_missing (is_at c.args.serial Placed) c.args.rows.now.items n) in
     omega (arith, e, c.requires.room)
 
 pub returns-in_default-clause-held : goal.returns-in_default-clause-held
@@ -76,18 +76,18 @@ pub returns-in-Some-into_completion-clause-to_place : goal.returns-in-Some-into_
 returns-in-Some-into_completion-clause-to_place c =
     let p = is_at c.args.serial Placed in
     let k : to_place (without_first p c.args.rows.now.items) ≤ to_place c.args.rows.now.items = to_place_taken p c.args.rows.now.items c.in-Some.row (sym c.in-Some.ensures.row) in
-    let e : to_place c.take_placed.new.rows.items ≡ to_place (without_first p c.args.rows.now.items) = ap to_place c.take_placed.ensures.rest in
+    let e : to_place c.take_placed.new.self.items ≡ to_place (without_first p c.args.rows.now.items) = ap to_place c.take_placed.ensures.rest in
     omega (arith, k, e)
 
 pub returns-in_default-into_completion-clause-to_place : goal.returns-in_default-into_completion-clause-to_place
 returns-in_default-into_completion-clause-to_place c =
     let p = is_at c.args.serial Placed in
     let k : to_place (without_first p c.args.rows.now.items) ≤ to_place c.args.rows.now.items = to_place_taken p c.args.rows.now.items c.in-Some.row (sym c.in-Some.ensures.row) in
-    let e : to_place c.take_placed.new.rows.items ≡ to_place (without_first p c.args.rows.now.items) = ap to_place c.take_placed.ensures.rest in
+    let e : to_place c.take_placed.new.self.items ≡ to_place (without_first p c.args.rows.now.items) = ap to_place c.take_placed.ensures.rest in
     omega (arith, k, e)
 
 pub returns-in_default-clause-to_place : goal.returns-in_default-clause-to_place
 returns-in_default-clause-to_place c =
     let n : first_of (is_at c.args.serial Placed) c.args.rows.now.items ≡ None = sym c.in_default.ensures.row in
-    let e : to_place c.take_placed.new.rows.items ≡ to_place c.args.rows.now.items = ap to_place (c.take_placed.ensures.rest ∙ without_first_missing (is_at c.args.serial Placed) c.args.rows.now.items n) in
+    let e : to_place c.take_placed.new.self.items ≡ to_place c.args.rows.now.items = ap to_place (c.take_placed.ensures.rest ∙ without_first_missing (is_at c.args.serial Placed) c.args.rows.now.items n) in
     omega (arith, e)

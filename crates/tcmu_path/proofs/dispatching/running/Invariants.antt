@@ -5,6 +5,6 @@ use Rattle.tcmu_path.proofs.dispatching.running.Given as goal
 
 abbrev pub invariant-loop-serial : goal.invariant-loop-serial
 invariant-loop-serial l = record {
-  list : l.listed.items ≡ filter (is_running l.rows) (take l.serial-index l.serials);
+  list : l.listed.items ≡ filter (is_running l.rows.items) (take l.serial-index l.serials);
   room : length l.serials ≤ l.listed.spare + l.serial-index;
 }

@@ -1,8 +1,11 @@
-use Rattle.std.proofs.Common.{◌≡◌, ◌+◌, ◌≤◌, ◌∷◌, [], ◌++◌, List, length, ap, sym, subst, ◌∙◌, arith}
+use Rattle.std.proofs.Common.{◌≡◌, ℕ, ◌+◌, ◌<◌, ◌≤◌, ◌∷◌, [], ◌++◌, List, length, ap, sym, subst, ◌∙◌, arith}
 use Rattle.tcmu_model.specs.Lengths.{blocks_of}
 use Rattle.tcmu_model.specs.Device.{Unfinished, DeviceState}
 use Rattle.tcmu_model.specs.Events.{held_blocks, blocks_in}
 use Rattle.tcmu_path.specs.Room.{held_by, to_log, to_place}
+use Rattle.tcmu_model.specs.Sound.{Every}
+use Rattle.tcmu_path.specs.Tallies.{serials_of}
+use Rattle.tcmu_path.proofs.Bounds.{rows_below}
 use Rattle.tcmu_path.proofs.Plains.{plain_laid, lays_item}
 use Rattle.tcmu_path.proofs.state.State.accept.Goals as goal
 
@@ -25,3 +28,10 @@ invariant_of-self-3 c =
     (omega (arith, places, c.in_ok-reserve.ensures.room))
     (omega (arith, completions, c.in_ok-reserve-2.ensures.room))
     c.reserve.ensures.items
+
+pub append-requires-clause-above : goal.append-requires-clause-above
+append-requires-clause-above c =
+    let a = c.self.inside in
+    let below : Every (λ s. s < a.accepted + 1) (serials_of a.rows.items) = subst (λ (d : DeviceState). Every (λ s. s < d.accepted + 1) (serials_of d.unfinished)) (sym c.self.view_is) (rows_below c.args.self.now c.requires.sound) in
+    let kept : Every (λ s. s < a.accepted + 1) (serials_of c.reserve-3.new.self.items) = subst (λ (us : List Unfinished). Every (λ s. s < a.accepted + 1) (serials_of us)) (sym c.reserve-3.ensures.items) below in
+    subst (λ (n : ℕ). Every (λ s. s < n) (serials_of c.reserve-3.new.self.items)) (sym (ap (λ (u : Unfinished). u.serial) c.new-row.ensures)) kept

@@ -1,8 +1,11 @@
-use Rattle.std.proofs.Common.{◌≡◌, ◌+◌, ◌≤◌, ◌∷◌, [], ◌++◌, List, length, ap, sym, subst, ◌∙◌, arith}
+use Rattle.std.proofs.Common.{◌≡◌, ℕ, ◌+◌, ◌<◌, ◌≤◌, ◌∷◌, [], ◌++◌, List, length, ap, sym, subst, ◌∙◌, arith}
 use Rattle.tcmu_model.specs.Lengths.{blocks_of}
 use Rattle.tcmu_model.specs.Device.{Unfinished, Delayed, DeviceState}
 use Rattle.tcmu_model.specs.Events.{held_blocks, blocks_in}
 use Rattle.tcmu_path.specs.Room.{held_by, to_place}
+use Rattle.tcmu_model.specs.Sound.{Every}
+use Rattle.tcmu_path.specs.Tallies.{serials_of}
+use Rattle.tcmu_path.proofs.Bounds.{rows_before}
 use Rattle.tcmu_path.proofs.Plains.{plain_laid, lays_item}
 use Rattle.tcmu_path.proofs.state.State.enter_first.Goals as goal
 
@@ -32,3 +35,15 @@ invariant_of-self-in-Some-pop c =
     (omega (arith, places, c.in_ok-reserve.ensures.room))
     (omega (arith, fewer, c.self.invariant.log_room))
     c.reserve.ensures.items
+
+pub append-requires-clause-above : goal.append-requires-clause-above
+append-requires-clause-above c =
+    let a = c.self.inside in
+    let u : Unfinished = c.new.result in
+    let w : Delayed = c.in-Some-pop.waited in
+    let all : c.args.self.now.delayed ≡ w ∷ c.pop.new.self.items = sym (ap (λ (d : DeviceState). d.delayed) c.self.view_is) ∙ c.in-Some-pop.ensures in
+    let before : Every (λ s. s < w.serial) (serials_of c.args.self.now.unfinished) = rows_before c.args.self.now w c.pop.new.self.items c.requires.sound all in
+    let mine : Every (λ s. s < w.serial) (serials_of a.rows.items) = subst (λ (d : DeviceState). Every (λ s. s < w.serial) (serials_of d.unfinished)) (sym c.self.view_is) before in
+    let kept : Every (λ s. s < w.serial) (serials_of c.reserve-2.new.self.items) = subst (λ (us : List Unfinished). Every (λ s. s < w.serial) (serials_of us)) (sym c.reserve-2.ensures.items) mine in
+    let serial : w.serial ≡ u.serial = sym (ap (λ (v : Unfinished). v.serial) c.new.ensures ∙ ap (λ (v : Delayed). v.serial) c.waited.view_is) in
+    subst (λ (n : ℕ). Every (λ s. s < n) (serials_of c.reserve-2.new.self.items)) serial kept

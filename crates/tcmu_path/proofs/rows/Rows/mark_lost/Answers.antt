@@ -1,0 +1,11 @@
+use Rattle.std.proofs.Common.{List, sym, subst}
+use Rattle.tcmu_model.specs.Device.{Unfinished}
+use Rattle.tcmu_path.specs.Tallies.{AreRows}
+use Rattle.tcmu_path.proofs.RowsAfter.{rows_lost}
+use Rattle.tcmu_path.proofs.rows.Rows.mark_lost.Goals as goal
+
+pub invariant_of-self : goal.invariant_of-self
+invariant_of-self c =
+    let a = c.self.inside in
+    subst (λ (us : List Unfinished). AreRows us c.new-self-inside.result c.new-self-inside-2.result) (sym c.lose_each.ensures)
+    (rows_lost a.rows.items a.out a.handled c.new-self-inside.result c.new-self-inside-2.result c.args.answered.now c.self.invariant c.new-self-inside.ensures.least c.new-self-inside.ensures.count c.new-self-inside-2.ensures.least c.new-self-inside-2.ensures.count)
