@@ -30,7 +30,7 @@ use Rattle.ring_laws.specs.Placed.{CanAnswer, CanPlace, CanFill, placed_in, answ
 use Rattle.tcmu_model.specs.Owned.{ListsSound}
 use Rattle.ring_laws.proofs.Layouts.{take-past}
 use Rattle.ring_laws.proofs.LaidBlocks.{among-append, own-among, every-both, stand-other, every-among}
-use Rattle.ring_laws.proofs.AnswerBytes.{first-passes}
+use Rattle.ring_laws.proofs.Found.{first-passes}
 use Rattle.ring_laws.proofs.AnswerData.{returned-other, returned-data, scattered-payload, length-scattered, sizes-scattered, length-gathered, iovs-numbers}
 use Rattle.ring_laws.proofs.PlacedAnswers.{Into, goes_into}
 

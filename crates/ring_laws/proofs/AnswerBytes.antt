@@ -72,14 +72,6 @@ found-serial s t (v ∷ us) u a f =
     (cases_Bool (has_serial s v)))
     (cases_Bool (is_at s t v))
 
-pub first-passes : {X : Type 0} (p : X → Bool) (xs : List X) (x : X) → first_of p xs ≡ Some x → p x ≡ true
-first-passes p [] x f = absurd (cc)
-first-passes p (y ∷ xs) x f =
-    ⊎_elim
-    (λ (k : p y ≡ true). let g : Some y ≡ Some x = rw k at f in let q : y ≡ x = cc in subst (λ z. p z ≡ true) q k)
-    (λ (k : p y ≡ false). let g : first_of p xs ≡ Some x = rw k at f in first-passes p xs x g)
-    (cases_Bool (p y))
-
 pub found-at : (s : ℕ) (t : CommandState) (us : List Unfinished) (u : Unfinished) → first_of (is_at s t) us ≡ Some u → u.serial ≡ s
 found-at s t [] u f = absurd (cc)
 found-at s t (v ∷ us) u f =

@@ -33,9 +33,9 @@ use Rattle.ring_laws.specs.Restarted.{count_jobs, count_parked}
 use Rattle.ring_laws.proofs.Bytes.{length-written}
 use Rattle.ring_laws.proofs.Layouts.{take-written_inside, mailbox_moved}
 use Rattle.ring_laws.proofs.TailMoved.{tail_moved}
-use Rattle.ring_laws.proofs.Opening.{flags-again}
+use Rattle.ring_laws.proofs.Opened.{flags-again}
 use Rattle.ring_laws.proofs.CleanedKept.{target_cleaned_keeps}
-use Rattle.ring_laws.proofs.MailboxShown.{attached_same, reattached_same}
+use Rattle.ring_laws.proofs.AttachedUser.{attached_same, reattached_same}
 use Rattle.ring_laws.proofs.RestartedAnswer.{jobs_counted}
 
 -- ==== the device

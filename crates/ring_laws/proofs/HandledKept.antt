@@ -18,7 +18,7 @@ use Rattle.tcmu_model.specs.Sides.{Recorded, PendingRow, TargetState, UserState}
 use Rattle.tcmu_model.specs.Represents.{RingStands, IdsStand, NotesStand, BlocksOf, BlocksStand, TargetKeeps, UserKeeps, pending_of}
 use Rattle.tcmu_model.specs.Picture.{with_answer}
 use Rattle.tcmu_model.specs.Owned.{ListsSound}
-use Rattle.ring_laws.proofs.AnswerBytes.{first-passes}
+use Rattle.ring_laws.proofs.Found.{first-passes}
 use Rattle.ring_laws.proofs.Ticked.{ring_by, ids_by}
 
 -- the command is out, and so its answer is not placed

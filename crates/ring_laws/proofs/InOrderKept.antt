@@ -19,6 +19,7 @@ use Rattle.tcmu_model.specs.Regions.{RegionState}
 use Rattle.tcmu_model.proofs.Counts.{serial_at, state_at}
 use Rattle.tcmu_model.proofs.Everies.{every-first}
 use Rattle.tcmu_model.proofs.Firsts.{length-with_first}
+use Rattle.tcmu_model.proofs.SoundRespond.{handled_attached}
 use Rattle.tcmu_model.proofs.Standing.{awaiting}
 use Rattle.tcmu_model.specs.Sides.{GivenJob, InHand, PendingRow, Recorded, TargetState, UserState}
 use Rattle.tcmu_model.specs.Sides as sides
@@ -40,12 +41,6 @@ use Rattle.ring_laws.proofs.RespondedKept.{found-any, found-state, pages_placed}
 -- ==== what both sides begin with
 
 -- a handled command is there on an attached device alone
-handled_attached : (dispatched placed published attached : Bool) (r : Bool) → state_fits dispatched placed published attached Handled r ≡ true → attached ≡ true
-handled_attached true false p true r h = refl
-handled_attached true false p false r h = absurd (false≢true h)
-handled_attached true true p q r h = absurd (false≢true h)
-handled_attached false b p q r h = absurd (false≢true h)
-
 pub attached : (d : DeviceState) (s : ℕ) (u : Unfinished) → IsSound d → first_of (is_at s Handled) d.unfinished ≡ Some u → d.attached ≡ true
 attached d s u sound f =
     let r : is_right d u ≡ true = every-first (is_at s Handled) (λ v. is_right d v ≡ true) d.unfinished u sound.answers.states f in

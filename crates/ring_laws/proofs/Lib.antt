@@ -22,6 +22,8 @@ pub mod PlacedAnswers
 pub mod AnswerData
 pub mod AnswerBlocks
 pub mod TailMoved
+pub mod Found
+pub mod NoteIds
 pub mod Ticked
 pub mod Completing
 pub mod KeptLists
@@ -69,5 +71,5 @@ pub mod HeldApart
 pub mod JobsBack
 pub mod RestartedKept
 pub mod RestartedAnswer
-pub mod MailboxShown
+pub mod AttachedUser
 pub mod EmptiedKept

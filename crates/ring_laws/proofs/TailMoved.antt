@@ -18,7 +18,7 @@ use Rattle.tcmu_model.proofs.Written.{length-le}
 use Rattle.tcmu_model.proofs.Facts.{publishable_fits}
 use Rattle.tcmu_model.specs.Picture.{place_of, tail}
 use Rattle.tcmu_model.specs.Sides.{Recorded, PendingRow, TargetState, UserState, InHand}
-use Rattle.tcmu_model.specs.Represents.{RingStands, IdsStand, NotesStand, BlocksStand, JobsStand, TargetKeeps, UserKeeps, recorded, entry_at, id_at, ids_in, AreNoteIds}
+use Rattle.tcmu_model.specs.Represents.{RingStands, IdsStand, NotesStand, BlocksStand, JobsStand, TargetKeeps, UserKeeps, recorded, entry_at, id_at, ids_in, NoteStands}
 use Rattle.tcmu_model.specs.UserSteps.{is_cmd, movable, moving, moving_items, user_publish_answer, user_published, region_published}
 use Rattle.ring_laws.proofs.Bytes.{length-written, part-written_behind}
 use Rattle.ring_laws.proofs.Layouts.{take-written_inside, add-mod}
@@ -171,9 +171,9 @@ ids_tail front items rows d lists k h ids =
 
 pub notes_tail : (front : List ℕ) (items : List Recorded) (rows : List PendingRow) (d : DeviceState) (lists : List Taken) (k : ℕ) → RingStands front items d lists → NotesStand front rows d →
     NotesStand (put front tail_place (le 4 (place_of d.ring k))) rows (published_to d k)
-notes_tail front items rows d lists k h notes = λ i n kind ss l g.
-    subst (λ (e : List ℕ). AreNoteIds rows (serials_in (drop i d.ring.laid)) ss (ids_in (length ss) 32 e))
-    (sym (entry_kept front d.ring.size (place_of d.ring k) (place_of d.ring i) n h.long)) (notes i n kind ss l g)
+notes_tail front items rows d lists k h notes = λ i n type_ ss l g.
+    subst (λ (e : List ℕ). NoteStands rows (serials_in (take i d.ring.laid)) (serials_in (drop i d.ring.laid)) type_ ss (ids_in (length ss) 32 e))
+    (sym (entry_kept front d.ring.size (place_of d.ring k) (place_of d.ring i) n h.long)) (notes i n type_ ss l g)
 
 -- ==== the two sides
 

@@ -16,9 +16,10 @@ use Rattle.tcmu_model.specs.Pending.{PendingData}
 use Rattle.tcmu_model.proofs.Everies.{every-map}
 use Rattle.tcmu_model.specs.Picture.{place_of, item_bytes, entry_of, with_answer, request_of, ids_named}
 use Rattle.tcmu_model.specs.Sides.{Recorded, PendingRow, GivenJob, JobState, InHand, TargetState, UserState}
-use Rattle.tcmu_model.specs.Represents.{RingStands, IdsStand, NotesStand, BlocksOf, BlocksStand, JobsStand, AreGiven, AreOut, IsGiven, IsOut, is_out, IsJobOf, IsId, id_of, row_has, has_id, serial_with, AreNoteIds, TargetKeeps, UserKeeps, entry_at, id_in, ids_in, pending_of}
+use Rattle.tcmu_model.specs.Represents.{RingStands, IdsStand, NotesStand, BlocksOf, BlocksStand, JobsStand, AreGiven, AreOut, IsGiven, IsOut, is_out, IsJobOf, IsId, id_of, row_has, has_id, serial_with, TargetKeeps, UserKeeps, entry_at, id_in, ids_in, pending_of}
 use Rattle.tcmu_model.specs.TargetSteps.{is_due_at, expired_at, checked, ticked_log, target_tick_answer, target_ticked, target_blocked}
 use Rattle.tcmu_model.specs.Owned.{ListsSound}
+use Rattle.ring_laws.proofs.NoteIds.{note_id_same, note_stands_by}
 
 -- ==== the ring, whatever changes of the commands but their answers
 
@@ -220,13 +221,6 @@ serial_expired now (e ∷ es) id =
     (λ (b : has_id id e ≡ false). let m : has_id id (expired_at now e) ≡ false = k ∙ b in rw (m, b) (serial_expired now es id))
     (cases_Bool (has_id id e))
 
-note_ids_by : (rows rows' : List PendingRow) (behind ss ids : List ℕ) → ((id : ℕ) → serial_with rows' id ≡ serial_with rows id) → AreNoteIds rows behind ss ids → AreNoteIds rows' behind ss ids
-note_ids_by rows rows' behind [] [] m h = h
-note_ids_by rows rows' behind [] (id ∷ ids) m h = absurd h
-note_ids_by rows rows' behind (s ∷ ss) [] m h = absurd h
-note_ids_by rows rows' behind (s ∷ ss) (id ∷ ids) m h =
-    (subst (λ (o : Option ℕ). (o ≡ None) ⊎ ((t : ℕ) × (o ≡ Some t) × ((t ≡ s) ⊎ (is_among behind t ≡ true)))) (sym (m id)) h.0, note_ids_by rows rows' behind ss ids m h.1)
-
 -- ==== tick: the target's records
 
 due_same : (lists : List Taken) (now : ℕ) (e : PendingRow) (u : Unfinished) → e.pending ≡ pending_of lists u → is_due_at now e ≡ is_due now u
@@ -323,8 +317,12 @@ ids_ticked front rows d n h =
 
 pub notes_ticked : (front : List ℕ) (rows : List PendingRow) (d : DeviceState) (n : ℕ) → NotesStand front rows d → NotesStand front (map (expired_at (later d.now n)) rows) (after_tick d n)
 unfolding after_tick
-notes_ticked front rows d n h = λ i m kind ss l g.
-    note_ids_by rows (map (expired_at (later d.now n)) rows) (serials_in (drop i d.ring.laid)) ss (ids_in (length ss) 32 (entry_at front (place_of d.ring i) m)) (serial_expired (later d.now n) rows) (h i m kind ss l g)
+notes_ticked front rows d n h = λ i m type_ ss l g.
+    let now : ℕ = later d.now n in
+    let rows' : List PendingRow = map (expired_at now) rows in
+    let behind : List ℕ = serials_in (drop i d.ring.laid) in
+    note_stands_by rows rows' (serials_in (take i d.ring.laid)) behind behind type_ ss (ids_in (length ss) 32 (entry_at front (place_of d.ring i) m))
+    (λ s id b k. note_id_same rows rows' behind s id (id_expired now rows s) (serial_expired now rows id) k) (h i m type_ ss l g)
 
 pub jobs_ticked : (user : UserState) (hand : List InHand) (rows : List PendingRow) (d : DeviceState) (lists : List Taken) (n : ℕ) → JobsStand user hand rows d lists →
     JobsStand user hand (map (expired_at (later d.now n)) rows) (after_tick d n) lists
