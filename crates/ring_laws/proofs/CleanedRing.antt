@@ -24,6 +24,7 @@ use Rattle.ring_laws.proofs.CleanedAll.{cleaned-at, not-before}
 use Rattle.ring_laws.proofs.NoteIds.{RowsDiffer, note_id_fewer, note_stands_by, serials_of_rows}
 use Rattle.ring_laws.proofs.Numbered.{rise_differ}
 use Rattle.ring_laws.proofs.AnswerBlocks.{differ-split}
+use Rattle.ring_laws.proofs.Places.{get-dropped}
 
 -- the area may end earlier, and nothing else of the region changes
 pub front_cleaned : (r : RegionState) (t : TargetState) → (region_cleaned r t).front ≡ r.front
@@ -69,11 +70,6 @@ ring_cleaned r t d lists h =
 
 -- ==== the ids
 
-get-drop : {X : Type 0} (xs : List X) (n i : ℕ) → slice_get (drop n xs) i ≡ slice_get xs (n + i)
-get-drop xs zero i = ap (slice_get xs) (let z : i ≡ 0 + i = omega arith in z)
-get-drop [] (suc n) i = refl
-get-drop (x ∷ xs) (suc n) i = get-drop xs n i ∙ ap (slice_get (x ∷ xs)) (let z : suc (n + i) ≡ suc n + i = omega arith in z)
-
 -- a command that is not dispatched has no answer
 undispatched : (d : DeviceState) (i n s : ℕ) (c : CommandData) → IsSound d → d.ring.dispatched ≤ i → slice_get d.ring.laid i ≡ Some (record { len = n; laid = ring.Cmd s c }) → is_among (answered d) s ≡ false
 undispatched d i n s c sound l g =
@@ -81,7 +77,7 @@ undispatched d i n s c sound l g =
     let back : List ℕ = serials_in (drop d.ring.dispatched d.ring.laid) in
     let place : d.ring.dispatched + (i - d.ring.dispatched) ≡ i = omega arith in
     let g' : slice_get (drop d.ring.dispatched d.ring.laid) (i - d.ring.dispatched) ≡ Some (record { len = n; laid = ring.Cmd s c }) =
-    get-drop d.ring.laid d.ring.dispatched (i - d.ring.dispatched) ∙ ap (slice_get d.ring.laid) place ∙ g in
+    sym (get-dropped d.ring.laid d.ring.dispatched (i - d.ring.dispatched)) ∙ ap (slice_get d.ring.laid) place ∙ g in
     let here : is_among back s ≡ true = serial_at (λ k. is_among back k ≡ true) (drop d.ring.dispatched d.ring.laid) (i - d.ring.dispatched) n s c (every-among back) g' in
     let df : Differ (front ++ back) = subst Differ (sym (serials_split d.ring.dispatched d.ring.laid)) (rise_differ 0 (serials_in d.ring.laid) d.accepted (laid_rise d sound.serials)) in
     let no : is_among front s ≡ false = differ-split front back s df here in

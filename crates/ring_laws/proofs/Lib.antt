@@ -1,4 +1,5 @@
 pub mod Opened
+pub mod Matched
 pub mod Bytes
 pub mod Places
 pub mod Held
@@ -28,6 +29,7 @@ pub mod Ticked
 pub mod Completing
 pub mod KeptLists
 pub mod DelayedKept
+pub mod RefusedSame
 pub mod HandledKept
 pub mod TakenOut
 pub mod CleanedOne

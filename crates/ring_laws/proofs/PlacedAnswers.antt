@@ -22,7 +22,7 @@ use Rattle.ring_laws.specs.Placed.{CanAnswer, CanPlace, placed_in}
 use Rattle.ring_laws.proofs.Numbered.{NextEntry, next-entry}
 use Rattle.ring_laws.proofs.AnswerBytes.{place-ring, place-ids, found-at, other-kept, answer_into}
 
-drop-at : {X : Type 0} (xs : List X) (i : ℕ) (x : X) → slice_get xs i ≡ Some x → drop i xs ≡ x ∷ drop (suc i) xs
+pub drop-at : {X : Type 0} (xs : List X) (i : ℕ) (x : X) → slice_get xs i ≡ Some x → drop i xs ≡ x ∷ drop (suc i) xs
 drop-at [] i x h = absurd (cc)
 drop-at (y ∷ xs) zero x h = cc
 drop-at (y ∷ xs) (suc i) x h = drop-at xs i x h

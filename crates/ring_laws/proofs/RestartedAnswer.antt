@@ -21,10 +21,9 @@ use Rattle.tcmu_model.specs.Sides.{GivenJob, InHand, PendingRow, UserState}
 use Rattle.tcmu_model.specs.Represents.{AreGiven, AreOut, JobsStand, UserKeeps, is_out}
 use Rattle.ring_laws.specs.Restarted.{count_jobs, count_parked, restarted_answer}
 use Rattle.ring_laws.proofs.AnswerBlocks.{differ-right}
-use Rattle.ring_laws.proofs.ParkedKept.{matched}
-use Rattle.ring_laws.proofs.RespondedJobs.{unmatched}
 use Rattle.ring_laws.proofs.GivenBack.{split-left}
 use Rattle.ring_laws.proofs.JobsBack.{parked_among}
+use Rattle.ring_laws.proofs.Matched.{matched, unmatched}
 
 -- ==== counting
 

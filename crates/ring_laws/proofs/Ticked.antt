@@ -15,11 +15,13 @@ use Rattle.tcmu_model.specs.BlockLists.{Taken, list_of, held_by}
 use Rattle.tcmu_model.specs.Pending.{PendingData}
 use Rattle.tcmu_model.proofs.Everies.{every-map}
 use Rattle.tcmu_model.specs.Picture.{place_of, item_bytes, entry_of, with_answer, request_of, ids_named}
+use Rattle.tcmu_model.specs.Regions.{RegionState}
 use Rattle.tcmu_model.specs.Sides.{Recorded, PendingRow, GivenJob, JobState, InHand, TargetState, UserState}
 use Rattle.tcmu_model.specs.Represents.{RingStands, IdsStand, NotesStand, BlocksOf, BlocksStand, JobsStand, AreGiven, AreOut, IsGiven, IsOut, is_out, IsJobOf, IsId, id_of, row_has, has_id, serial_with, TargetKeeps, UserKeeps, entry_at, id_in, ids_in, pending_of}
 use Rattle.tcmu_model.specs.TargetSteps.{is_due_at, expired_at, checked, ticked_log, target_tick_answer, target_ticked, target_blocked}
 use Rattle.tcmu_model.specs.Owned.{ListsSound}
 use Rattle.ring_laws.proofs.NoteIds.{note_id_same, note_stands_by}
+use Rattle.ring_laws.proofs.Matched.{match_left}
 
 -- ==== the ring, whatever changes of the commands but their answers
 
@@ -104,6 +106,10 @@ pub lists_blocked : (d : DeviceState) (lists : List Taken) (b : Bool) → ListsS
 unfolding after_block
 lists_blocked d lists b h = record { listed = h.listed; differ = h.differ; below = h.below; sizes = h.sizes; spans = h.spans }
 
+pub pages_blocked : (r : RegionState) (d : DeviceState) (b : Bool) → r.pages ≡ d.settings.pages → r.pages ≡ (after_block d b).settings.pages
+unfolding after_block
+pages_blocked r d b h = h
+
 -- ==== tick: the commands
 
 expired_found : (now q : ℕ) (us : List Unfinished) (rl : Bool) (id : ℕ) (request : List ℕ) → with_answer rl id request (first_of (has_serial q) (map (expire now) us)) ≡ with_answer rl id request (first_of (has_serial q) us)
@@ -155,10 +161,6 @@ held_expired lists now (u ∷ us) =
 
 job_blind : (s : SettingsData) (rows : List PendingRow) (lists : List Taken) (u : Unfinished) (b : Bool) (job : JobState) (parts : List (List ℕ)) → IsJobOf s rows lists u job parts → IsJobOf s rows lists (record u { expired = b }) job parts
 job_blind s rows lists u b job parts h = record { id = h.id; cdb = h.cdb; iovs = h.iovs; in_len = h.in_len; carried = h.carried; count = h.count; size = h.size; payload = h.payload }
-
-match_left : (b : Bool) (P Q R : Type 0) → (P → R) → MatchBool b P Q → MatchBool b R Q
-match_left true P Q R f h = f h
-match_left false P Q R f h = h
 
 given_blind : (s : SettingsData) (rows : List PendingRow) (lists : List Taken) (g : GivenJob) → IsBlind (IsGiven s rows lists g)
 given_blind s rows lists g u b h = (h.0, match_left (has_state Parked u) _ _ _ (λ p. (p.0, p.1, p.2, p.3, job_blind s rows lists u b p.0.job p.3 p.4)) h.1)
@@ -367,3 +369,7 @@ lists_ticked d lists n h =
           (λ u p. blind (λ (v : Unfinished). length (list_of lists v.serial) ≡ blocks_of d.settings.pages v.command) now u (λ v b q. q) p) h.sizes;
       spans = h.spans;
     }
+
+pub pages_ticked : (r : RegionState) (d : DeviceState) (n : ℕ) → r.pages ≡ d.settings.pages → r.pages ≡ (after_tick d n).settings.pages
+unfolding after_tick
+pages_ticked r d n h = h
