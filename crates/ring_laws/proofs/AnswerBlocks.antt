@@ -29,10 +29,11 @@ use Rattle.tcmu_model.specs.UserSteps.{placed_at, with_payload}
 use Rattle.ring_laws.specs.Placed.{CanAnswer, CanPlace, CanFill, placed_in, answer_placed}
 use Rattle.tcmu_model.specs.Owned.{ListsSound}
 use Rattle.ring_laws.proofs.Layouts.{take-past}
-use Rattle.ring_laws.proofs.LaidBlocks.{among-append, own-among, every-both, stand-other, every-among}
-use Rattle.ring_laws.proofs.AnswerBytes.{first-passes}
+use Rattle.ring_laws.proofs.LaidBlocks.{stand-other}
+use Rattle.ring_laws.proofs.Found.{first-passes}
 use Rattle.ring_laws.proofs.AnswerData.{returned-other, returned-data, scattered-payload, length-scattered, sizes-scattered, length-gathered, iovs-numbers}
 use Rattle.ring_laws.proofs.PlacedAnswers.{Into, goes_into}
+use Rattle.tcmu_model.proofs.Rises.{among-append, among_every, every-among}
 
 -- ==== what is apart
 
@@ -77,7 +78,7 @@ stand-apart : (size : ℕ) (area area' : List (Option (List ℕ))) (lists : List
     BlocksOf size area lists u → BlocksOf size area' lists u
 stand-apart size area area' lists bs u leaves apart st =
     stand-other size area area' lists lists u refl
-    (every-both (λ b. is_among (list_of lists u.serial) b ≡ true) (λ b. (o : Option (List ℕ)) → slice_get area b ≡ Some o → slice_get area' b ≡ Some o) (list_of lists u.serial) (λ b h o g. leaves b (apart b h) ∙ g) (own-among (list_of lists u.serial))) st
+    (every-weaker (λ b. is_among (list_of lists u.serial) b ≡ true) (λ b. (o : Option (List ℕ)) → slice_get area b ≡ Some o → slice_get area' b ≡ Some o) (list_of lists u.serial) (λ b h o g. leaves b (apart b h) ∙ g) (every-among (list_of lists u.serial))) st
 
 pub rest-apart : (size : ℕ) (area area' : List (Option (List ℕ))) (lists : List Taken) (bs : List ℕ) (us : List Unfinished) → Leaves bs area area' → ((b : ℕ) → is_among (held_by lists us) b ≡ true → is_among bs b ≡ false) →
     Every (BlocksOf size area lists) us → Every (BlocksOf size area' lists) us
@@ -262,7 +263,7 @@ filled_blocks area rows d lists s u reply job parts fill stand found replied j =
         is_among (held_by lists (filter is_in_hand (placed_in d s).unfinished)) b ≡ true
     still b h here =
         ⊎_elim
-        (λ (m : is_among (list_of lists u.serial) b ≡ true). let i = every-among (IsHome (block_size d.settings.pages) (returned area (list_of lists u.serial) (scattered parts reply.payload))) (list_of lists u.serial) b here m in let k : Some (Some i.0) ≡ Some None = sym i.1 ∙ h in absurd (cc))
+        (λ (m : is_among (list_of lists u.serial) b ≡ true). let i = among_every (IsHome (block_size d.settings.pages) (returned area (list_of lists u.serial) (scattered parts reply.payload))) (list_of lists u.serial) b here m in let k : Some (Some i.0) ≡ Some None = sym i.1 ∙ h in absurd (cc))
         (λ (m : is_among (list_of lists u.serial) b ≡ false). turned-lent lists s d.unfinished u b found m (stand.just b (sym (returned-other area (list_of lists u.serial) (scattered parts reply.payload) b m) ∙ h)))
         (cases_Bool (is_among (list_of lists u.serial) b))
 

@@ -15,18 +15,19 @@ use Rattle.tcmu_model.specs.Events.{turned, in_state, is_among}
 use Rattle.tcmu_model.specs.Sound.{Differ}
 use Rattle.tcmu_model.specs.BlockLists.{Taken, list_of}
 use Rattle.tcmu_model.specs.Layout.{le, put, ring_start, data_start, response_bytes, with_response}
-use Rattle.tcmu_model.proofs.Written.{length-le}
+use Rattle.tcmu_model.proofs.Written.{length-le, length-put}
 use Rattle.tcmu_model.specs.Picture.{place_of, item_bytes, entry_of, with_answer, request_of, ids_named, told_length, answered_entry}
 use Rattle.tcmu_model.specs.Sides.{Recorded, PendingRow}
 use Rattle.tcmu_model.specs.Represents.{RingStands, StandsAt, IdsStand, entry_at, id_in, ids_in, id_at, id_of}
-use Rattle.ring_laws.proofs.Bytes.{length-written, take-written}
-use Rattle.ring_laws.proofs.Places.{slice_get-left, slice_get-right}
+use Rattle.ring_laws.proofs.Bytes.{take-written}
+use Rattle.ring_laws.proofs.Places.{slice_get-right}
 use Rattle.ring_laws.proofs.Answered.{response_apart, response_here, id_of_answered, answered_over, length-response}
 use Rattle.ring_laws.specs.Placed.{CanAnswer, placed_in}
 use Rattle.ring_laws.proofs.Numbered.{NextEntry, items_apart, counted-before}
 use Rattle.ring_laws.proofs.Kept.{id-same}
+use Rattle.tcmu_types.proofs.Places.{get_append_left}
 
-command-of : (n : ℕ) (l : Laid) → is_command (record { len = n; laid = l }) ≡ true → (q : ℕ) × (c : CommandData) × (l ≡ ring.Cmd q c)
+pub command-of : (n : ℕ) (l : Laid) → is_command (record { len = n; laid = l }) ≡ true → (q : ℕ) × (c : CommandData) × (l ≡ ring.Cmd q c)
 command-of n ring.Pad h = absurd (false≢true h)
 command-of n (ring.Cmd q c) h = (q, c, refl)
 command-of n (ring.Tmr kind ss) h = absurd (false≢true h)
@@ -71,14 +72,6 @@ found-serial s t (v ∷ us) u a f =
     (λ (m : has_serial s v ≡ false). rw m (found-serial s t us u a.1 g))
     (cases_Bool (has_serial s v)))
     (cases_Bool (is_at s t v))
-
-pub first-passes : {X : Type 0} (p : X → Bool) (xs : List X) (x : X) → first_of p xs ≡ Some x → p x ≡ true
-first-passes p [] x f = absurd (cc)
-first-passes p (y ∷ xs) x f =
-    ⊎_elim
-    (λ (k : p y ≡ true). let g : Some y ≡ Some x = rw k at f in let q : y ≡ x = cc in subst (λ z. p z ≡ true) q k)
-    (λ (k : p y ≡ false). let g : first_of p xs ≡ Some x = rw k at f in first-passes p xs x g)
-    (cases_Bool (p y))
 
 pub found-at : (s : ℕ) (t : CommandState) (us : List Unfinished) (u : Unfinished) → first_of (is_at s t) us ≡ Some u → u.serial ≡ s
 found-at s t [] u f = absurd (cc)
@@ -128,7 +121,7 @@ other-answer d s j y e h c n =
     slice_get_past (d.placed ++ s ∷ []) (commands_in (take j d.ring.laid)) (omega (arith, k, m, e.before)) ∙ sym (slice_get_past d.placed (commands_in (take j d.ring.laid)) (omega (arith, k, e.before))))
     (λ (l : j ≤ e.index).
     let k : commands_in (take j d.ring.laid) + 1 ≤ commands_in (take e.index d.ring.laid) = counted-before d.ring.laid j e.index y h c (strict n l) in
-    slice_get-left d.placed (s ∷ []) (commands_in (take j d.ring.laid)) (omega (arith, k, e.before)))
+    get_append_left d.placed (s ∷ []) (commands_in (take j d.ring.laid)) (omega (arith, k, e.before)))
     (cases_lt e.index j)
   where
     strict : {i j : ℕ} → i ≢ j → j ≤ i → j < i
@@ -174,9 +167,9 @@ place-ring front items d lists s id u reply e owned shape places small =
     let lx : 112 ≤ e.item.len = owned.long e.index e.item e.there e.command in
     let wx : at + e.item.len ≤ d.ring.size = owned.holds.whole e.index e.item e.there in
     let la : length (response_bytes reply told) ≡ 105 = length-response reply told in
-    let lw : length w ≡ length front = length-written front (ring_start + at + 4) (le 2 id) (omega arith) in
+    let lw : length w ≡ length front = length-put front (ring_start + at + 4) (le 2 id) (omega arith) in
     record {
-      long = length-written w (ring_start + at + 7) (response_bytes reply told) (omega arith) ∙ lw ∙ shape.long;
+      long = length-put w (ring_start + at + 7) (response_bytes reply told) (omega arith) ∙ lw ∙ shape.long;
       mailbox = take-written w (ring_start + at + 7) (response_bytes reply told) ring_start (omega arith) (omega arith)
           ∙ take-written front (ring_start + at + 4) (le 2 id) ring_start (omega arith) (omega arith) ∙ shape.mailbox;
       stands = λ j y c h. ⊎_elim (λ (q : eqb e.index j ≡ true). mine j y c h (eqb-true e.index j q)) (λ (q : eqb e.index j ≡ false). other j y c h (eqb-false e.index j q)) (cases_Bool (eqb e.index j));

@@ -7,15 +7,6 @@ use Rattle.tcmu_model.specs.Layout.{put}
 abbrev pub part : List ℕ → ℕ → ℕ → List ℕ
 part xs at n = take n (drop at xs)
 
-pub length-written : (xs : List ℕ) (at : ℕ) (ys : List ℕ) → at + length ys ≤ length xs → length (put xs at ys) ≡ length xs
-unfolding put
-length-written xs at ys h =
-    let a : length (take at xs) ≡ at = length-take-le at xs (omega arith) in
-    let b : length (drop (at + length ys) xs) ≡ length xs - (at + length ys) = length-drop (at + length ys) xs in
-    let c : length (take at xs ++ ys ++ drop (at + length ys) xs) ≡ length (take at xs ++ ys) + length (drop (at + length ys) xs) = length-append (take at xs ++ ys) (drop (at + length ys) xs) in
-    let e : length (take at xs ++ ys) ≡ length (take at xs) + length ys = length-append (take at xs) ys in
-    omega (arith, a, b, c, e)
-
 -- what was written
 pub part-written : (xs : List ℕ) (at : ℕ) (ys : List ℕ) → at + length ys ≤ length xs → part (put xs at ys) at (length ys) ≡ ys
 unfolding put

@@ -31,27 +31,19 @@ use Rattle.ring_laws.specs.Cleaned.{CanClean}
 use Rattle.ring_laws.proofs.Held.{holds}
 use Rattle.ring_laws.proofs.Numbered.{can_answer, counted-before}
 use Rattle.ring_laws.proofs.Places.{used_is, lengths_more}
-use Rattle.ring_laws.proofs.CleanedOne.{CleanWith, CleanAt, clean-one, clean-pass, commands-next, next-place, placed-first, take-next}
+use Rattle.ring_laws.proofs.CleanedOne.{CleanWith, CleanAt, clean-one, clean-pass, commands-next, next-place, placed-first, take-next, found-serial_is}
+use Rattle.ring_laws.proofs.LaidBlocks.{get-there}
+use Rattle.ring_laws.proofs.PlacedAnswers.{drop-at}
 
 -- ==== small facts
 
-drop-at : {X : Type 0} (xs : List X) (i : ℕ) (x : X) → slice_get xs i ≡ Some x → drop i xs ≡ x ∷ drop (suc i) xs
-drop-at [] i x h = absurd (cc)
-drop-at (y ∷ ys) zero x h = let e : y ≡ x = cc in ap (λ z. z ∷ ys) e
-drop-at (y ∷ ys) (suc i) x h = drop-at ys i x h
-
-get-there : {X : Type 0} (xs : List X) (i : ℕ) → i < length xs → (x : X) × (slice_get xs i ≡ Some x)
-get-there [] i h = absurd (omega arith)
-get-there (x ∷ xs) zero h = (x, refl)
-get-there (x ∷ xs) (suc i) h = get-there xs i (omega arith)
-
-get-take : {X : Type 0} (xs : List X) (n i : ℕ) → i < n → slice_get (take n xs) i ≡ slice_get xs i
+pub get-take : {X : Type 0} (xs : List X) (n i : ℕ) → i < n → slice_get (take n xs) i ≡ slice_get xs i
 get-take xs zero i h = absurd (omega arith)
 get-take [] (suc n) i h = refl
 get-take (x ∷ xs) (suc n) zero h = refl
 get-take (x ∷ xs) (suc n) (suc i) h = get-take xs n i (omega arith)
 
-not_there : (xs : List ℕ) (a m s : ℕ) → is_among xs a ≡ false → slice_get xs m ≡ Some s → s ≢ a
+pub not_there : (xs : List ℕ) (a m s : ℕ) → is_among xs a ≡ false → slice_get xs m ≡ Some s → s ≢ a
 not_there [] a m s h g = absurd (cc)
 not_there (x ∷ xs) a zero s h g = let e : x ≡ s = cc in let p = or_parts (eqb x a) (is_among xs a) h in λ z. eqb-false x a p.0 (e ∙ z)
 not_there (x ∷ xs) a (suc m) s h g = let p = or_parts (eqb x a) (is_among xs a) h in not_there xs a m s p.1 g
@@ -73,14 +65,6 @@ find-serial s (u ∷ us) h =
     (λ (e : has_serial s u ≡ true). (u, rw e refl))
     (λ (e : has_serial s u ≡ false). let g : is_among (map (λ (v : Unfinished). v.serial) us) s ≡ true = rw e at h in let r = find-serial s us g in (r.0, rw e r.1))
     (cases_Bool (has_serial s u))
-
-serial-found : (s : ℕ) (us : List Unfinished) (u : Unfinished) → first_of (has_serial s) us ≡ Some u → u.serial ≡ s
-serial-found s [] u f = absurd (cc)
-serial-found s (v ∷ us) u f =
-    ⊎_elim
-    (λ (k : has_serial s v ≡ true). let g : Some v ≡ Some u = rw k at f in let q : v ≡ u = cc in ap (λ (z : Unfinished). z.serial) (sym q) ∙ eqb-true v.serial s k)
-    (λ (k : has_serial s v ≡ false). let g : first_of (has_serial s) us ≡ Some u = rw k at f in serial-found s us u g)
-    (cases_Bool (has_serial s v))
 
 some_reply : (o : Option ReplyData) → is_some o ≡ true → (reply : ReplyData) × (o ≡ Some reply)
 some_reply None h = absurd (false≢true h)
@@ -121,7 +105,7 @@ placed_answer d m sound l h =
     let ans : is_among (answered d) s ≡ true = every_at (λ q. is_among (answered d) q ≡ true) (answered d) m s (every-among (answered d)) (get-take d.placed p m h ∙ gs.1) in
     let pl : is_among (answered d) u.serial ≡ true → (u.state ≡ Placed) × (is_some u.reply ≡ true) =
     every-first (has_serial s) (λ (v : Unfinished). is_among (answered d) v.serial ≡ true → (v.state ≡ Placed) × (is_some v.reply ≡ true)) d.unfinished u (answered_placed d sound.answers) fu.1 in
-    let pr = pl (ap (is_among (answered d)) (serial-found s d.unfinished u fu.1) ∙ ans) in
+    let pr = pl (ap (is_among (answered d)) (found-serial_is s d.unfinished u fu.1) ∙ ans) in
     let rp = some_reply u.reply pr.1 in
     record { serial = s; there = gs.1; new = not-before d.placed m m s sound.answers.differ gs.1 (omega arith); row = u; found = fu.1; placed = pr.0; reply = rp.0; replied = rp.1 }
 

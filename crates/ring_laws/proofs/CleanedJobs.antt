@@ -13,7 +13,7 @@ use Rattle.tcmu_model.specs.Regions.{RegionState}
 use Rattle.tcmu_model.proofs.Counts.{state_at}
 use Rattle.tcmu_model.proofs.Firsts.{without_first_missing}
 use Rattle.tcmu_model.proofs.Everies.{every-weaker, every-both, every-filter, every-passes, every-without_first, every-front, every-back, every-append}
-use Rattle.tcmu_model.proofs.Rises.{among-append, among_every}
+use Rattle.tcmu_model.proofs.Rises.{among-append, among_every, every-among}
 use Rattle.tcmu_model.proofs.SoundClean.{answered_placed}
 use Rattle.tcmu_model.specs.Areas.{IsLent}
 use Rattle.tcmu_model.specs.Sides.{InHand, PendingRow, TargetState, UserState}
@@ -23,11 +23,11 @@ use Rattle.tcmu_model.specs.TargetCleans.{region_cleaned, target_cleaned}
 use Rattle.tcmu_model.specs.Owned.{ListsSound}
 use Rattle.ring_laws.specs.Cleaned.{CanClean}
 use Rattle.ring_laws.proofs.Agree.{held-same}
-use Rattle.ring_laws.proofs.LaidBlocks as laid
-use Rattle.ring_laws.proofs.LaidBlocks.{own-among, covered, stand-other}
-use Rattle.ring_laws.proofs.CleanedAll.{cleaned-at}
+use Rattle.ring_laws.proofs.LaidBlocks.{covered, stand-other}
+use Rattle.ring_laws.proofs.CleanedAll.{cleaned-at, get-take}
 use Rattle.ring_laws.proofs.CleanedKept.{target_cleaned_keeps}
 use Rattle.ring_laws.proofs.SameJobs.{HasSame, given_same, outs_same}
+use Rattle.ring_laws.proofs.AnswerBlocks.{differ-right}
 
 -- ==== the commands that are left
 
@@ -84,10 +84,6 @@ not-held lists p (u ∷ us) b h =
     (λ (k : p u ≡ false). let z : is_among (list_of lists u.serial ++ held_by lists (without_first p us)) b ≡ false = among-append (list_of lists u.serial) (held_by lists (without_first p us)) b ∙ rw t.0 (not-held lists p us b t.1) in rw k z)
     (cases_Bool (p u))
 
-differ-back : (xs ys : List ℕ) → Differ (xs ++ ys) → Differ ys
-differ-back [] ys d = d
-differ-back (x ∷ xs) ys d = differ-back xs ys d.1
-
 pub differ-fewer : (xs ys zs : List ℕ) → Differ (xs ++ ys) → Differ zs → ((b : ℕ) → is_among ys b ≡ false → is_among zs b ≡ false) → Differ (xs ++ zs)
 differ-fewer [] ys zs d e f = e
 differ-fewer (x ∷ xs) ys zs d e f =
@@ -98,7 +94,7 @@ differ-fewer (x ∷ xs) ys zs d e f =
 differ-held : (lists : List Taken) (p : Unfinished → Bool) (us : List Unfinished) → Differ (held_by lists us) → Differ (held_by lists (without_first p us))
 differ-held lists p [] d = tt
 differ-held lists p (u ∷ us) d =
-    let back : Differ (held_by lists us) = differ-back (list_of lists u.serial) (held_by lists us) d in
+    let back : Differ (held_by lists us) = differ-right (list_of lists u.serial) (held_by lists us) d in
     ⊎_elim
     (λ (k : p u ≡ true). rw k back)
     (λ (k : p u ≡ false).
@@ -141,12 +137,6 @@ lists_cleaned d lists sound h =
 
 -- ==== the blocks
 
-get-front : {X : Type 0} (xs : List X) (n b : ℕ) → b < n → slice_get (take n xs) b ≡ slice_get xs b
-get-front xs zero b h = absurd (omega arith)
-get-front [] (suc n) b h = refl
-get-front (x ∷ xs) (suc n) zero h = refl
-get-front (x ∷ xs) (suc n) (suc b) h = get-front xs n b (omega arith)
-
 front-within : {X : Type 0} (xs : List X) (n b : ℕ) (x : X) → slice_get (take n xs) b ≡ Some x → slice_get xs b ≡ Some x
 front-within xs zero b x h = absurd (cc)
 front-within [] (suc n) b x h = absurd (cc)
@@ -158,8 +148,8 @@ shrunk-stand : (size : ℕ) (area : List (Option (List ℕ))) (lists : List Take
 shrunk-stand size area lists n [] low e = tt
 shrunk-stand size area lists n (u ∷ us) low e = (
   stand-other size area (take n area) lists lists u refl
-      (laid.every-both (λ b. is_among (list_of lists u.serial) b ≡ true) (λ b. (o : Option (List ℕ)) → slice_get area b ≡ Some o → slice_get (take n area) b ≡ Some o) (list_of lists u.serial)
-      (λ b h o g. get-front area n b (low b (among-append (list_of lists u.serial) (held_by lists us) b ∙ or_left (is_among (list_of lists u.serial) b) (is_among (held_by lists us) b) h)) ∙ g) (own-among (list_of lists u.serial))) e.0,
+      (every-weaker (λ b. is_among (list_of lists u.serial) b ≡ true) (λ b. (o : Option (List ℕ)) → slice_get area b ≡ Some o → slice_get (take n area) b ≡ Some o) (list_of lists u.serial)
+      (λ b h o g. get-take area n b (low b (among-append (list_of lists u.serial) (held_by lists us) b ∙ or_left (is_among (list_of lists u.serial) b) (is_among (held_by lists us) b) h)) ∙ g) (every-among (list_of lists u.serial))) e.0,
   shrunk-stand size area lists n us (λ b h. low b (among-append (list_of lists u.serial) (held_by lists us) b ∙ or_right (is_among (list_of lists u.serial) b) (is_among (held_by lists us) b) h)) e.1,
 )
 

@@ -1,12 +1,13 @@
 -- What a clean keeps, point by point.
-use Rattle.std.proofs.Common.{List}
+use Rattle.std.proofs.Common.{◌≡◌, true, false, List, length, ⊎_elim, eqb}
+use Rattle.std.proofs.lemmas.Bool.{cases_Bool}
 use Rattle.tcmu_model.specs.Device.{DeviceState}
 use Rattle.tcmu_model.specs.Events.{after_clean}
 use Rattle.tcmu_model.specs.BlockLists.{Taken}
 use Rattle.tcmu_model.specs.Regions.{RegionState}
 use Rattle.tcmu_model.specs.Sides.{TargetState, UserState}
 use Rattle.tcmu_model.specs.Represents.{TargetKeeps, UserKeeps}
-use Rattle.tcmu_model.specs.TargetCleans.{target_cleaned}
+use Rattle.tcmu_model.specs.TargetCleans.{region_cleaned, target_cleaned}
 use Rattle.ring_laws.specs.Cleaned.{CanClean}
 use Rattle.ring_laws.proofs.CleanedAll.{cleaned-at}
 
@@ -32,3 +33,12 @@ pub side_cleaned : (user : UserState) (d : DeviceState) → UserKeeps user d →
 unfolding after_clean
 side_cleaned user d h =
     record { ring = h.ring; pages = h.pages; flags = h.flags; tail = h.tail; dispatched = h.dispatched; placed = h.placed; published = h.published; place = h.place; items = h.items }
+
+-- the area may end earlier, in blocks of the same size
+pub pages_cleaned : (r : RegionState) (t : TargetState) (d : DeviceState) → r.pages ≡ d.settings.pages → (region_cleaned r t).pages ≡ (after_clean d).settings.pages
+unfolding after_clean region_cleaned
+pages_cleaned r t d h =
+    ⊎_elim
+    (λ (k : eqb (length (target_cleaned r t).rows) (length t.rows) ≡ true). rw k h)
+    (λ (k : eqb (length (target_cleaned r t).rows) (length t.rows) ≡ false). rw k h)
+    (cases_Bool (eqb (length (target_cleaned r t).rows) (length t.rows)))

@@ -37,6 +37,7 @@ use Rattle.ring_laws.proofs.Layouts.{add-mod, length-request, length-iovs}
 use Rattle.ring_laws.proofs.AnswerBlocks.{can_fill}
 use Rattle.ring_laws.proofs.Completing.{response_of_entry, response_read, completed-log}
 use Rattle.ring_laws.proofs.TakenOut.{first-without, TakenOut, taken-out, differ-left, serial-left}
+use Rattle.ring_laws.proofs.AnswerBytes.{command-of}
 
 -- ==== small facts
 
@@ -48,11 +49,6 @@ take-next (y ∷ ys) (suc i) x h = ap (λ zs. y ∷ zs) (take-next ys i x h)
 some_row : (o : Option PendingRow) (i : ℕ) → option_map (λ (e : PendingRow). e.id) o ≡ Some i → (e : PendingRow) × (o ≡ Some e) × (e.id ≡ i)
 some_row None i h = absurd (cc)
 some_row (Some e) i h = (e, refl, cc)
-
-command_of : (n : ℕ) (l : Laid) → is_command (record { len = n; laid = l }) ≡ true → (q : ℕ) × (c : CommandData) × (l ≡ ring.Cmd q c)
-command_of n ring.Pad h = absurd (false≢true h)
-command_of n (ring.Cmd q c) h = (q, c, refl)
-command_of n (ring.Tmr kind ss) h = absurd (false≢true h)
 
 pub commands-next : (xs : List Item) (j : ℕ) (x : Item) → slice_get xs j ≡ Some x → commands_in (take (suc j) xs) ≡ commands_in (take j xs) + cond (is_command x) 1 0
 commands-next xs j x g = ap commands_in (take-next xs j x g) ∙ sum_by_push (λ (y : Item). cond {A = ℕ} (is_command y) 1 0) (take j xs) x
@@ -78,7 +74,7 @@ placed-first s (v ∷ us) u f st =
     rw at (placed-first s us u g st))
     (cases_Bool (has_serial s v))
 
-found-serial_is : (s : ℕ) (us : List Unfinished) (u : Unfinished) → first_of (has_serial s) us ≡ Some u → u.serial ≡ s
+pub found-serial_is : (s : ℕ) (us : List Unfinished) (u : Unfinished) → first_of (has_serial s) us ≡ Some u → u.serial ≡ s
 found-serial_is s [] u f = absurd (cc)
 found-serial_is s (v ∷ us) u f =
     ⊎_elim
@@ -155,7 +151,7 @@ response_there r rows d lists j s x u reply w cl g c p f rep =
     let at : ℕ = place_of d.ring j in
     let rl : Bool = d.settings.flags.read_len in
     let told : Option ℕ = told_length rl u.command.cdb reply in
-    let k = command_of x.len x.laid c in
+    let k = command-of x.len x.laid c in
     let x0 : Item = record { len = x.len; laid = ring.Cmd k.0 k.1 } in
     let xx : x ≡ x0 = ap (λ (l : Laid). record { len = x.len; laid = l }) k.2 in
     let lx : 112 ≤ x.len = command_long d j x w.sound g c in
@@ -223,7 +219,7 @@ clean-one r rows0 d lists j us log k x s u reply w at cl g c p new f0 st rep =
       cleared = k.cleared + 1;
       log = k.log ++ completions_read (size_of r) r.blocks e.pending a0;
     } in
-    let kx = command_of x.len x.laid c in
+    let kx = command-of x.len x.laid c in
     let step : one_cleaned r k (recorded x) xs (kind_of x.laid) ≡ k' =
     ap (λ (l : Laid). one_cleaned r k (recorded x) xs (kind_of l)) kx.2
     ∙ ap (λ (z : Response). answered_by r z k (recorded x) xs (first_of (has_id z.id) k.rows)) a

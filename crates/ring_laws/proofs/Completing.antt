@@ -16,13 +16,13 @@ use Rattle.tcmu_model.specs.Sound.{ReplyFits}
 use Rattle.tcmu_model.specs.BlockLists.{Taken, list_of}
 use Rattle.tcmu_model.specs.Layout.{le, field, put, zeros, padded, ring_start, sense_buffer, length_flag, answer_bytes, response_bytes}
 use Rattle.tcmu_model.specs.EntryReading.{response_at}
-use Rattle.tcmu_model.proofs.Written.{lengths as writes, length-le, length-zeros, length-padded, field-front, field-put, field-le, field-in, drop-put}
+use Rattle.tcmu_model.proofs.Written.{lengths as writes, length-le, length-zeros, length-padded, field-front, field-put, field-le, field-in, drop-put, length-put}
 use Rattle.tcmu_model.specs.Areas.{bytes_along}
 use Rattle.tcmu_model.specs.Picture.{payload_of, told_length, answered_entry}
 use Rattle.tcmu_model.specs.Represents.{HaveData, entry_at, pending_of}
 use Rattle.tcmu_model.specs.TargetCleans.{completion_read, completions_read, length_told, payload_read, sense_read}
 use Rattle.ring_laws.specs.Cleaned.{response_of}
-use Rattle.ring_laws.proofs.Bytes.{part_of_front, length-written}
+use Rattle.ring_laws.proofs.Bytes.{part_of_front}
 use Rattle.ring_laws.proofs.Answered.{length-response, id_of_answered, sense_short}
 
 -- ==== what is read of an entry
@@ -62,7 +62,7 @@ response_read entry id reply n h small status told =
     let buffer : List ℕ = padded 96 (sense_buffer reply.sense) in
     let r : List ℕ = response_bytes reply n in
     let l2 : length (le 2 id) ≡ 2 = length-le 2 id in
-    let lx : length x ≡ length entry = length-written entry 4 (le 2 id) (omega arith) in
+    let lx : length x ≡ length entry = length-put entry 4 (le 2 id) (omega arith) in
     let lr : length r ≡ 105 = length-response reply n in
     let lb : length buffer ≡ 96 = length-padded 96 (sense_buffer reply.sense) (sense_short reply.sense) in
     let l9 : length (le 1 u ++ le 1 reply.status ++ zeros 3 ++ le 4 t) ≡ 9 = omega writes in

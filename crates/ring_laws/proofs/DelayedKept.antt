@@ -1,25 +1,20 @@
--- A command that is accepted and waits for room, and answers after which nothing has changed.
+-- A command that is accepted and delayed: the region stays as it is.
 use Rattle.std.proofs.Common.{◌≡◌, ℕ, ◌+◌, true, List, [], ◌∷◌, ◌++◌, refl, ap, ◌∙◌, Option}
-use Rattle.std.proofs.lemmas.Bool.{false≢true}
 use Rattle.tcmu_types.specs.Data.{CommandData, SettingsData}
-use Rattle.tcmu_types.specs.declared.answer.Submit.{Submit}
 use Rattle.tcmu_types.specs.declared.answer.Submit.TheVariants as submit
-use Rattle.tcmu_types.specs.declared.answer.Enter.{Enter}
-use Rattle.tcmu_types.specs.declared.answer.Enter.TheVariants as enter
 use Rattle.tcmu_model.specs.Device.{Delayed, DeviceState}
-use Rattle.tcmu_model.specs.Events.{after_submit, after_enter, with_delayed}
+use Rattle.tcmu_model.specs.Events.{after_submit, with_delayed}
 use Rattle.tcmu_model.specs.BlockLists.{Taken}
 use Rattle.tcmu_model.specs.Regions.{RegionState}
 use Rattle.tcmu_model.specs.Sides.{Recorded, PendingRow, InHand, TargetState, UserState}
 use Rattle.tcmu_model.specs.Represents.{RingStands, IdsStand, NotesStand, BlocksStand, JobsStand, TargetKeeps, UserKeeps}
-use Rattle.tcmu_model.specs.TargetSteps.{target_submitted, region_submitted, target_entered, region_entered}
-use Rattle.ring_laws.specs.Refused.{is_refusal, is_waiting}
+use Rattle.tcmu_model.specs.TargetSteps.{target_submitted, region_submitted}
 use Rattle.tcmu_model.specs.Owned.{ListsSound}
 use Rattle.ring_laws.proofs.RingLaid.{stands-by}
 
-pub ring_waits : (front : List ℕ) (items : List Recorded) (d : DeviceState) (lists : List Taken) (c : CommandData) (s : ℕ) → RingStands front items d lists → RingStands front items (after_submit d c (submit.Delayed s)) lists
+pub ring_delayed : (front : List ℕ) (items : List Recorded) (d : DeviceState) (lists : List Taken) (c : CommandData) (s : ℕ) → RingStands front items d lists → RingStands front items (after_submit d c (submit.Delayed s)) lists
 unfolding after_submit with_delayed
-ring_waits front items d lists c s h =
+ring_delayed front items d lists c s h =
     let ws : List Delayed = d.delayed ++ record { serial = s; command = c; leaves = d.now + d.settings.qfull } ∷ [] in
     record {
       long = h.long;
@@ -29,25 +24,25 @@ ring_waits front items d lists c s h =
       recorded = h.recorded;
     }
 
-pub ids_wait : (front : List ℕ) (rows : List PendingRow) (d : DeviceState) (c : CommandData) (s : ℕ) → IdsStand front rows d → IdsStand front rows (after_submit d c (submit.Delayed s))
+pub ids_delayed : (front : List ℕ) (rows : List PendingRow) (d : DeviceState) (c : CommandData) (s : ℕ) → IdsStand front rows d → IdsStand front rows (after_submit d c (submit.Delayed s))
 unfolding after_submit with_delayed
-ids_wait front rows d c s h = record { range = h.range; differ = h.differ; answered = h.answered; own = h.own }
+ids_delayed front rows d c s h = record { range = h.range; differ = h.differ; answered = h.answered; own = h.own }
 
-pub notes_wait : (front : List ℕ) (rows : List PendingRow) (d : DeviceState) (c : CommandData) (s : ℕ) → NotesStand front rows d → NotesStand front rows (after_submit d c (submit.Delayed s))
+pub notes_delayed : (front : List ℕ) (rows : List PendingRow) (d : DeviceState) (c : CommandData) (s : ℕ) → NotesStand front rows d → NotesStand front rows (after_submit d c (submit.Delayed s))
 unfolding after_submit with_delayed
-notes_wait front rows d c s h = h
+notes_delayed front rows d c s h = h
 
-pub blocks_wait : (area : List (Option (List ℕ))) (d : DeviceState) (lists : List Taken) (c : CommandData) (s : ℕ) → BlocksStand area d lists → BlocksStand area (after_submit d c (submit.Delayed s)) lists
+pub blocks_delayed : (area : List (Option (List ℕ))) (d : DeviceState) (lists : List Taken) (c : CommandData) (s : ℕ) → BlocksStand area d lists → BlocksStand area (after_submit d c (submit.Delayed s)) lists
 unfolding after_submit with_delayed
-blocks_wait area d lists c s h = record { all = h.all; just = h.just }
+blocks_delayed area d lists c s h = record { all = h.all; just = h.just }
 
-pub jobs_wait : (user : UserState) (hand : List InHand) (rows : List PendingRow) (d : DeviceState) (lists : List Taken) (c : CommandData) (s : ℕ) → JobsStand user hand rows d lists → JobsStand user hand rows (after_submit d c (submit.Delayed s)) lists
+pub jobs_delayed : (user : UserState) (hand : List InHand) (rows : List PendingRow) (d : DeviceState) (lists : List Taken) (c : CommandData) (s : ℕ) → JobsStand user hand rows d lists → JobsStand user hand rows (after_submit d c (submit.Delayed s)) lists
 unfolding after_submit with_delayed
-jobs_wait user hand rows d lists c s h = record { given = h.given; out = h.out; offsets = h.offsets }
+jobs_delayed user hand rows d lists c s h = record { given = h.given; out = h.out; offsets = h.offsets }
 
-pub target_waits : (t : TargetState) (d : DeviceState) (lists : List Taken) (c : CommandData) (s id : ℕ) → TargetKeeps t d lists → TargetKeeps (target_submitted t c id (submit.Delayed s)) (after_submit d c (submit.Delayed s)) lists
+pub target_delayed : (t : TargetState) (d : DeviceState) (lists : List Taken) (c : CommandData) (s id : ℕ) → TargetKeeps t d lists → TargetKeeps (target_submitted t c id (submit.Delayed s)) (after_submit d c (submit.Delayed s)) lists
 unfolding after_submit with_delayed target_submitted
-target_waits t d lists c s id h =
+target_delayed t d lists c s id h =
     record {
       settings = h.settings;
       now = h.now;
@@ -64,34 +59,20 @@ target_waits t d lists c s id h =
       log = h.log;
     }
 
-pub side_waits : (user : UserState) (d : DeviceState) (c : CommandData) (s : ℕ) → UserKeeps user d → UserKeeps user (after_submit d c (submit.Delayed s))
+pub side_delayed : (user : UserState) (d : DeviceState) (c : CommandData) (s : ℕ) → UserKeeps user d → UserKeeps user (after_submit d c (submit.Delayed s))
 unfolding after_submit with_delayed
-side_waits user d c s h =
+side_delayed user d c s h =
     record { ring = h.ring; pages = h.pages; flags = h.flags; tail = h.tail; dispatched = h.dispatched; placed = h.placed; published = h.published; place = h.place; items = h.items }
 
-pub lists_wait : (d : DeviceState) (lists : List Taken) (c : CommandData) (s : ℕ) → ListsSound d lists → ListsSound (after_submit d c (submit.Delayed s)) lists
+pub lists_delayed : (d : DeviceState) (lists : List Taken) (c : CommandData) (s : ℕ) → ListsSound d lists → ListsSound (after_submit d c (submit.Delayed s)) lists
 unfolding after_submit with_delayed
-lists_wait d lists c s h = record { listed = h.listed; differ = h.differ; below = h.below; sizes = h.sizes; spans = h.spans }
+lists_delayed d lists c s h = record { listed = h.listed; differ = h.differ; below = h.below; sizes = h.sizes; spans = h.spans }
 
--- ==== nothing changes
-
-pub refused_same : (r : RegionState) (t : TargetState) (d : DeviceState) (c : CommandData) (id : ℕ) (a : Submit) → is_refusal a ≡ true → (after_submit d c a ≡ d) × (target_submitted t c id a ≡ t) × (region_submitted r t c id a ≡ r)
-unfolding after_submit target_submitted region_submitted
-refused_same r t d c id (submit.Queued s) h = absurd (false≢true h)
-refused_same r t d c id (submit.Delayed s) h = absurd (false≢true h)
-refused_same r t d c id submit.Busy h = (refl, refl, refl)
-refused_same r t d c id (submit.TooBig have limit) h = (refl, refl, refl)
-refused_same r t d c id (submit.FullRing need free) h = (refl, refl, refl)
-refused_same r t d c id (submit.FullBlocks need free) h = (refl, refl, refl)
-
-pub waiting_same : (r : RegionState) (t : TargetState) (d : DeviceState) (id : ℕ) (a : Enter) → is_waiting a ≡ true → (after_enter d a ≡ d) × (target_entered t id a ≡ t) × (region_entered r t id a ≡ r)
-unfolding after_enter target_entered region_entered
-waiting_same r t d id (enter.Entered s) h = absurd (false≢true h)
-waiting_same r t d id enter.Empty h = (refl, refl, refl)
-waiting_same r t d id (enter.FullRing need free) h = (refl, refl, refl)
-waiting_same r t d id (enter.FullBlocks need free) h = (refl, refl, refl)
-
--- a command that waits writes nothing
-pub region_waits : (r : RegionState) (t : TargetState) (c : CommandData) (id s : ℕ) → region_submitted r t c id (submit.Delayed s) ≡ r
+-- nothing is written
+pub region_delayed : (r : RegionState) (t : TargetState) (c : CommandData) (id s : ℕ) → region_submitted r t c id (submit.Delayed s) ≡ r
 unfolding region_submitted
-region_waits r t c id s = refl
+region_delayed r t c id s = refl
+
+pub pages_delayed : (r : RegionState) (d : DeviceState) (c : CommandData) (s : ℕ) → r.pages ≡ d.settings.pages → r.pages ≡ (after_submit d c (submit.Delayed s)).settings.pages
+unfolding after_submit with_delayed
+pages_delayed r d c s h = h

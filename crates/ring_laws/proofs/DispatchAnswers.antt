@@ -13,17 +13,17 @@ use Rattle.std.specs.Prelude.{List, Some}
 use Rattle.ring_laws.specs.Dispatched.{AnswersDispatch, CanDispatch}
 use Rattle.ring_laws.proofs.DispatchJobs.{job_sent}
 use Rattle.ring_laws.proofs.NextCases.{after_at, by_next}
-use Rattle.ring_laws.proofs.NotesAnswered.{notes_answered}
+use Rattle.ring_laws.proofs.NotesAnswered.{note_there, notes_answered}
 use Rattle.ring_laws.proofs.Sending.{Sends, sends, found-sent}
 
 pub answer_dispatched : (r : RegionState) (t : TargetState) (user : UserState) (hand : List InHand) (d : DeviceState) (lists : List Taken) → CanDispatch r t user hand d lists →
-    AnswersDispatch r.front t.rows d lists (dispatch_answer d) (nexted r user).answer
+    AnswersDispatch t.rows d lists (dispatch_answer d) (nexted r user).answer
 answer_dispatched r t user hand d lists h =
-    by_next (λ z a e. AnswersDispatch r.front t.rows d lists a z.answer) r t user hand d lists h
+    by_next (λ z a e. AnswersDispatch t.rows d lists a z.answer) r t user hand d lists h
     (record {
       none = λ e. tt;
       job = λ n s c g.
           let k : Sends d s c = sends d n s c h.sound g in
           (in_state Out k.command, taken r.blocks (list_of lists s), ap (λ (e : DeviceState). first_of (is_at s Out) e.unfinished) (after_at d (Some (record { len = n; laid = ring.Cmd s c })) h.attached g) ∙ found-sent d s c k, job_sent r t user hand d lists n s c h g k);
-      note = λ n kind read ss g byte. (λ kinds. byte (kinds _ n kind ss g), λ names. notes_answered r t user hand d lists n kind ss h names g);
+      note = λ n type_ read ss g byte. (byte (note_there r t user hand d lists n type_ ss h g).byte, notes_answered r t user hand d lists n type_ ss h g);
     })

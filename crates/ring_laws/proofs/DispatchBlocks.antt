@@ -18,11 +18,12 @@ use Rattle.tcmu_model.specs.UserNext.{nexted}
 use Rattle.tcmu_model.proofs.Everies.{every-append, every-front, every-back}
 use Rattle.ring_laws.specs.Dispatched.{CanDispatch}
 use Rattle.ring_laws.proofs.AnswerBlocks.{Leaves, differ-split, differ-right, rest-apart}
-use Rattle.ring_laws.proofs.LaidBlocks.{among-append}
 use Rattle.ring_laws.proofs.Lending.{without-other, without-lent}
 use Rattle.ring_laws.proofs.NextCases.{by_next, sent_in}
 use Rattle.ring_laws.proofs.Nexts.{Blocks, blocks_sent}
 use Rattle.ring_laws.proofs.Sending.{Sends, sends, sent_is}
+use Rattle.ring_laws.proofs.GivenBack.{split-left}
+use Rattle.tcmu_model.proofs.Rises.{among-append}
 
 -- ==== what is lent
 
@@ -62,13 +63,6 @@ lent_own lists (v ∷ front) back u b h =
 
 -- ==== every command's blocks
 
-not_both : (xs ys : List ℕ) (b : ℕ) → Differ (xs ++ ys) → is_among xs b ≡ true → is_among ys b ≡ false
-not_both xs ys b d h =
-    ⊎_elim
-    (λ (m : is_among ys b ≡ true). absurd (false≢true (sym (differ-split xs ys b d m) ∙ h)))
-    (λ (m : is_among ys b ≡ false). m)
-    (cases_Bool (is_among ys b))
-
 neither : (xs ys : List ℕ) (b : ℕ) → is_among (xs ++ ys) b ≡ false → is_among xs b ≡ false
 neither xs ys b h =
     ⊎_elim
@@ -83,7 +77,7 @@ all_sent size area lists front back u bs q d lent all =
     let d' : Differ (held_by lists front ++ (own ++ held_by lists back)) = subst Differ (flat_map-append (λ (v : Unfinished). list_of lists v.serial) front (u ∷ back)) d in
     let leaves : Leaves bs area (without area bs) = λ b h. without-other area bs b h in
     every-append (BlocksOf size (without area bs) lists) front (in_state Out u ∷ back)
-    (rest-apart size area (without area bs) lists bs front leaves (λ b h. ap (λ ys. is_among ys b) q ∙ neither own (held_by lists back) b (not_both (held_by lists front) (own ++ held_by lists back) b d' h)) (every-front (BlocksOf size area lists) front (u ∷ back) all)) (
+    (rest-apart size area (without area bs) lists bs front leaves (λ b h. ap (λ ys. is_among ys b) q ∙ neither own (held_by lists back) b (split-left (held_by lists front) (own ++ held_by lists back) b d' h)) (every-front (BlocksOf size area lists) front (u ∷ back) all)) (
       subst (Every (IsLent (without area bs))) q lent,
       rest-apart size area (without area bs) lists bs back leaves (λ b h. ap (λ ys. is_among ys b) q ∙ differ-split own (held_by lists back) b (differ-right (held_by lists front) (own ++ held_by lists back) d') h)
           (every-back (BlocksOf size area lists) front (u ∷ back) all).1,

@@ -18,7 +18,7 @@ use Rattle.tcmu_model.specs.Represents.{RingStands, IdsStand, NotesStand, Target
 use Rattle.tcmu_model.specs.UserNext.{nexted}
 use Rattle.tcmu_model.specs.Owned.{ListsSound}
 use Rattle.tcmu_model.proofs.Everies.{every-with_first}
-use Rattle.ring_laws.specs.Dispatched.{CanDispatch, NotesName}
+use Rattle.ring_laws.specs.Dispatched.{CanDispatch}
 use Rattle.ring_laws.proofs.AnswerBytes.{turned-found}
 use Rattle.ring_laws.proofs.CleanedOne.{commands-next}
 use Rattle.ring_laws.proofs.NextCases.{after_at, after_detached, behind_item, by_next, noted_in, sent_in}
@@ -61,16 +61,6 @@ pub notes_dispatched : (r : RegionState) (t : TargetState) (user : UserState) (h
 notes_dispatched r t user hand d lists h =
     by_next (λ z a e. NotesStand z.region.front t.rows e) r t user hand d lists h
     (record { none = λ e. h.notes; job = λ n s c e. notes_passed r.front t.rows d (turned s Waiting Out d.unfinished) h.notes; note = λ n k m ss e b. notes_passed r.front t.rows d d.unfinished h.notes })
-
--- so are the names in the notes that are left
-names_passed : (front : List ℕ) (rows : List PendingRow) (d : DeviceState) (us : List Unfinished) → NotesName front rows d → NotesName front rows (record d { ring = passed d.ring; unfinished = us })
-names_passed front rows d us h = λ i n kind ss l g. h i n kind ss (omega arith) g
-
-pub names_dispatched : (r : RegionState) (t : TargetState) (user : UserState) (hand : List InHand) (d : DeviceState) (lists : List Taken) → CanDispatch r t user hand d lists → NotesName r.front t.rows d →
-    NotesName (nexted r user).region.front t.rows (after_dispatch d)
-names_dispatched r t user hand d lists h names =
-    by_next (λ z a e. NotesName z.region.front t.rows e) r t user hand d lists h
-    (record { none = λ e. names; job = λ n s c e. names_passed r.front t.rows d (turned s Waiting Out d.unfinished) names; note = λ n k m ss e b. names_passed r.front t.rows d d.unfinished names })
 
 pub pages_dispatched : (r : RegionState) (t : TargetState) (user : UserState) (hand : List InHand) (d : DeviceState) (lists : List Taken) → CanDispatch r t user hand d lists →
     (nexted r user).region.pages ≡ (after_dispatch d).settings.pages

@@ -19,7 +19,7 @@ use Rattle.tcmu_model.specs.Pending.{PendingData}
 use Rattle.tcmu_model.proofs.DrainEnds.{clean_logs}
 use Rattle.tcmu_model.proofs.Everies.{map_filter}
 use Rattle.tcmu_model.proofs.SoundEvents.{sound_after_reset}
-use Rattle.tcmu_model.proofs.Written.{length-le}
+use Rattle.tcmu_model.proofs.Written.{length-le, length-put}
 use Rattle.tcmu_model.specs.Picture.{tail}
 use Rattle.tcmu_model.specs.Sides.{GivenJob, InHand, PendingRow, Recorded, TargetState, UserState}
 use Rattle.tcmu_model.specs.Represents.{AreGiven, BlocksStand, IdsStand, JobsStand, NotesStand, RingStands, TargetKeeps, UserKeeps, pending_of}
@@ -30,12 +30,11 @@ use Rattle.ring_laws.specs.Attached.{attached_user}
 use Rattle.ring_laws.specs.Cleaned.{CanClean}
 use Rattle.ring_laws.specs.Emptied.{reset_answered}
 use Rattle.ring_laws.specs.Restarted.{count_jobs, count_parked}
-use Rattle.ring_laws.proofs.Bytes.{length-written}
 use Rattle.ring_laws.proofs.Layouts.{take-written_inside, mailbox_moved}
 use Rattle.ring_laws.proofs.TailMoved.{tail_moved}
-use Rattle.ring_laws.proofs.Opening.{flags-again}
+use Rattle.ring_laws.proofs.Opened.{flags-again}
 use Rattle.ring_laws.proofs.CleanedKept.{target_cleaned_keeps}
-use Rattle.ring_laws.proofs.MailboxShown.{attached_same, reattached_same}
+use Rattle.ring_laws.proofs.AttachedUser.{attached_same, reattached_same}
 use Rattle.ring_laws.proofs.RestartedAnswer.{jobs_counted}
 
 -- ==== the device
@@ -197,7 +196,7 @@ empty_mailbox front items d lists h =
     let long : length front ≡ 4096 + d.ring.size = h.long in
     let l4 : length (le 4 0) ≡ 4 = length-le 4 0 in
     let front1 : List ℕ = put front head_place (le 4 0) in
-    let long1 : length front1 ≡ length front = length-written front head_place (le 4 0) (omega arith) in
+    let long1 : length front1 ≡ length front = length-put front head_place (le 4 0) (omega arith) in
     take-written_inside front1 tail_place (le 4 0) ring_start (omega arith) (omega arith)
     ∙ ap (λ m. put m tail_place (le 4 0)) (take-written_inside front head_place (le 4 0) ring_start (omega arith) (omega arith) ∙ ap (λ m. put m head_place (le 4 0)) h.mailbox
     ∙ mailbox_moved d.settings.flags d.ring.size (head d.ring) (tail d.ring) 0)
@@ -209,10 +208,10 @@ ring_emptied r t d lists level sound h =
     let long : length r.front ≡ 4096 + d.ring.size = h.long in
     let l4 : length (le 4 0) ≡ 4 = length-le 4 0 in
     let front1 : List ℕ = put r.front head_place (le 4 0) in
-    let long1 : length front1 ≡ length r.front = length-written r.front head_place (le 4 0) (omega arith) in
+    let long1 : length front1 ≡ length r.front = length-put r.front head_place (le 4 0) (omega arith) in
     let z : 0 ≡ 0 % d.ring.size = sym (zero_place d sound) in
     record {
-      long = length-written front1 tail_place (le 4 0) (omega arith) ∙ long1 ∙ h.long;
+      long = length-put front1 tail_place (le 4 0) (omega arith) ∙ long1 ∙ h.long;
       mailbox = empty_mailbox r.front t.items d lists h ∙ ap (λ y. mailbox_bytes (device_mailbox d.settings.flags d.ring.size y 0)) z
           ∙ ap (λ y. mailbox_bytes (device_mailbox d.settings.flags d.ring.size (0 % d.ring.size) y)) z;
       stands = λ i x c g. absurd (cc);

@@ -16,6 +16,7 @@ use Rattle.tcmu_model.specs.Represents.{ids_in}
 use Rattle.tcmu_model.proofs.Written.{lengths, length-entry_header, length-command_head, length-padded, field-in, field-front, field-rest}
 use Rattle.ring_laws.proofs.Layouts.{length-iovs_bytes}
 use Rattle.ring_laws.proofs.Completing.{field_behind}
+use Rattle.ring_laws.proofs.NoteBytes.{length-ids}
 
 ruleset sizes = (lengths, length-entry_header, length-command_head)
 
@@ -229,23 +230,6 @@ request_there g area m at id blocks iovs cdb h place =
 
 -- ==== task management
 
-pub length-ids_bytes : (ids : List ℕ) → length (ids_bytes ids) ≡ 2 * length ids
-length-ids_bytes [] = refl
-length-ids_bytes (id ∷ ids) =
-    let rest : length (ids_bytes ids) ≡ 2 * length ids = length-ids_bytes ids in
-    length-append (le 2 id) (ids_bytes ids) ∙ omega (lengths, rest)
-
-pub length-tmr : (kind : ℕ) (ids : List ℕ) → length (tmr_bytes kind ids) ≡ tmr_length (length ids)
-unfolding tmr_bytes entry_header
-length-tmr kind ids =
-    let count : ℕ = length ids in
-    let len : ℕ = tmr_length count in
-    let head : List ℕ = (((entry_header 2 len 0 ++ le 1 kind) ++ zeros 3) ++ le 4 count) ++ zeros 16 in
-    let size_slots : length (ids_bytes ids) ≡ 2 * count = length-ids_bytes ids in
-    let size_head : length head ≡ 32 = omega lengths in
-    let size_both : length (head ++ ids_bytes ids) ≡ 32 + 2 * count = length-append head (ids_bytes ids) ∙ omega arith in
-    length-padded len (head ++ ids_bytes ids) (omega arith)
-
 tmr_ok : (g : List ℕ) (b len count : ℕ) → field 4 (b + 12) g ≡ count → 32 + 2 * count ≤ len → tmr_read g b len ≡ Ok (Tmr len (field 1 (b + 8) g) count)
 unfolding tmr_read
 tmr_ok g b len count e12 room =
@@ -266,7 +250,7 @@ note_there g area m at kind ids fits most place =
     let head : List ℕ = (((entry_header 2 len 0 ++ le 1 kind) ++ zeros 3) ++ le 4 count) ++ zeros 16 in
     let slots : List ℕ = ids_bytes ids in
     let text : List ℕ = tmr_bytes kind ids in
-    let size_slots : length slots ≡ 2 * count = length-ids_bytes ids in
+    let size_slots : length slots ≡ 2 * count = length-ids ids in
     let size_head : length head ≡ 32 = omega lengths in
     let size_both : length (head ++ slots) ≡ 32 + 2 * count = length-append head slots ∙ omega arith in
     let size : length text ≡ len = length-padded len (head ++ slots) (omega arith) in

@@ -4,6 +4,7 @@ use Rattle.std.proofs.lemmas.Bool.{cases_Bool, eqb-true, ne_eqb, or_parts}
 use Rattle.tcmu_model.specs.Events.{is_among}
 use Rattle.tcmu_model.specs.Sound.{Every, Differ}
 use Rattle.tcmu_model.specs.BlockLists.{free_from, least_free}
+use Rattle.tcmu_model.proofs.Everies.{every-take}
 
 -- a number that lies before takes nothing away
 free-before : (h : ℕ) (hs : List ℕ) (n k : ℕ) → h < n → free_from (h ∷ hs) n k ≡ free_from hs n k
@@ -65,11 +66,6 @@ free-are held n (suc k) =
     (λ (a : is_among held n ≡ true). rw a (every-more held n k (free_from held (n + 1) k) (free-are held (n + 1) k)))
     (λ (a : is_among held n ≡ false). rw a (record { low_ = omega arith; high_ = omega arith; free = a }, every-more held n k (free_from held (n + 1) k) (free-are held (n + 1) k)))
     (cases_Bool (is_among held n))
-
-every-take : {X : Type 0} (P : X → Type 0) (n : ℕ) (xs : List X) → Every P xs → Every P (take n xs)
-every-take P zero xs a = tt
-every-take P (suc n) [] a = tt
-every-take P (suc n) (x ∷ xs) a = (a.0, every-take P n xs a.1)
 
 pub least-are : (limit : ℕ) (held : List ℕ) (n : ℕ) → Every (IsFree held 0 (0 + limit)) (least_free limit held n)
 least-are limit held n = every-take (IsFree held 0 (0 + limit)) n (free_from held 0 limit) (free-are held 0 limit)

@@ -12,10 +12,12 @@ use Rattle.tcmu_model.specs.Areas.{IsHome, IsLent}
 use Rattle.tcmu_model.specs.Picture.{payload_of}
 use Rattle.tcmu_model.specs.Represents.{HaveData}
 use Rattle.std.proofs.lemmas.Bool.{or_parts, or_left, or_right}
-use Rattle.ring_laws.proofs.LaidBlocks.{among-append, own-among, every-both, every-join, every-among}
+use Rattle.ring_laws.proofs.LaidBlocks.{every-join}
 use Rattle.ring_laws.proofs.Scatter.{along-same}
 use Rattle.ring_laws.proofs.AnswerData.{returned-other, returned-data}
 use Rattle.ring_laws.proofs.AnswerBlocks.{differ-split, differ-left, differ-right}
+use Rattle.tcmu_model.proofs.Everies.{every-weaker}
+use Rattle.tcmu_model.proofs.Rises.{among-append, among_every, every-among}
 
 -- the parts of commands are put back into the blocks of their lists
 abbrev pub all_back : List Taken → List (Option (List ℕ)) → List Unfinished → List (List (List ℕ)) → List (Option (List ℕ))
@@ -56,14 +58,14 @@ still-lent : (lists : List Taken) (area area' : List (Option (List ℕ))) (us : 
 still-lent lists area area' [] same e = tt
 still-lent lists area area' (u ∷ us) same e = (
   every-join (λ b. is_among (list_of lists u.serial) b ≡ true) (IsLent area) (IsLent area') (list_of lists u.serial)
-      (λ b h l. same b (among-append (list_of lists u.serial) (held_by lists us) b ∙ or_left (is_among (list_of lists u.serial) b) (is_among (held_by lists us) b) h) ∙ l) (own-among (list_of lists u.serial)) e.0,
+      (λ b h l. same b (among-append (list_of lists u.serial) (held_by lists us) b ∙ or_left (is_among (list_of lists u.serial) b) (is_among (held_by lists us) b) h) ∙ l) (every-among (list_of lists u.serial)) e.0,
   still-lent lists area area' us (λ b h. same b (among-append (list_of lists u.serial) (held_by lists us) b ∙ or_right (is_among (list_of lists u.serial) b) (is_among (held_by lists us) b) h)) e.1,
 )
 
 -- data in blocks that stay as they are
 pub data-other : (size : ℕ) (area area' : List (Option (List ℕ))) (bs bytes : List ℕ) → ((b : ℕ) → is_among bs b ≡ true → slice_get area' b ≡ slice_get area b) → HaveData size area bs bytes → HaveData size area' bs bytes
 data-other size area area' bs bytes same h =
-    let all : Every (λ b. slice_get area' b ≡ slice_get area b) bs = every-both (λ b. is_among bs b ≡ true) (λ b. slice_get area' b ≡ slice_get area b) bs same (own-among bs) in
+    let all : Every (λ b. slice_get area' b ≡ slice_get area b) bs = every-weaker (λ b. is_among bs b ≡ true) (λ b. slice_get area' b ≡ slice_get area b) bs same (every-among bs) in
     record {
       here = every-join (λ b. slice_get area' b ≡ slice_get area b) (IsHome size area) (IsHome size area') bs (λ b e i. (i.0, e ∙ i.1, i.2)) all h.here;
       begin_ = ap (take (length bytes)) (along-same size area area' bs all) ∙ h.begin_;
@@ -105,7 +107,7 @@ held-home size area lists [] b e h = absurd (false≢true h)
 held-home size area lists (u ∷ us) b e h =
     let bs : List ℕ = list_of lists u.serial in
     ⊎_elim
-    (λ (m : is_among bs b ≡ true). let d = e.0 in every-among (IsHome size area) bs b d.here m)
+    (λ (m : is_among bs b ≡ true). let d = e.0 in among_every (IsHome size area) bs b d.here m)
     (λ (m : is_among bs b ≡ false). held-home size area lists us b e.1 (let z : is_among (bs ++ held_by lists us) b ≡ is_among (held_by lists us) b = among-append bs (held_by lists us) b ∙ rw m refl in sym z ∙ h))
     (cases_Bool (is_among bs b))
 

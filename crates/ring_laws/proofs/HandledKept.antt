@@ -14,12 +14,14 @@ use Rattle.tcmu_model.specs.BlockLists.{Taken, list_of, held_by}
 use Rattle.tcmu_model.proofs.Counts.{state_at, serial_at}
 use Rattle.tcmu_model.proofs.Everies.{every-first, every-with_first}
 use Rattle.tcmu_model.specs.Areas.{IsLent}
+use Rattle.tcmu_model.specs.Regions.{RegionState}
 use Rattle.tcmu_model.specs.Sides.{Recorded, PendingRow, TargetState, UserState}
 use Rattle.tcmu_model.specs.Represents.{RingStands, IdsStand, NotesStand, BlocksOf, BlocksStand, TargetKeeps, UserKeeps, pending_of}
 use Rattle.tcmu_model.specs.Picture.{with_answer}
 use Rattle.tcmu_model.specs.Owned.{ListsSound}
-use Rattle.ring_laws.proofs.AnswerBytes.{first-passes}
+use Rattle.ring_laws.proofs.Found.{first-passes}
 use Rattle.ring_laws.proofs.Ticked.{ring_by, ids_by}
+use Rattle.ring_laws.proofs.CleanedAll.{not_there}
 
 -- the command is out, and so its answer is not placed
 out_fits : (dispatched placed published attached has_reply : Bool) → state_fits dispatched placed published attached Out has_reply ≡ true → placed ≡ false
@@ -36,11 +38,6 @@ out_unplaced d s u sound f =
     let z : state_fits (is_among (dispatched_serials d.ring) u.serial) (is_among d.placed u.serial) (is_among (answered d) u.serial) d.attached Out (is_some u.reply) ≡ true =
     subst (λ (t : CommandState). state_fits (is_among (dispatched_serials d.ring) u.serial) (is_among d.placed u.serial) (is_among (answered d) u.serial) d.attached t (is_some u.reply) ≡ true) st r in
     subst (λ k. is_among d.placed k ≡ false) q (out_fits (is_among (dispatched_serials d.ring) u.serial) (is_among d.placed u.serial) (is_among (answered d) u.serial) d.attached (is_some u.reply) z)
-
-not_at : (xs : List ℕ) (s k q : ℕ) → is_among xs s ≡ false → slice_get xs k ≡ Some q → q ≢ s
-not_at [] s k q h g = absurd (cc)
-not_at (x ∷ xs) s zero q h g = let e : x ≡ q = cc in let p = or_parts (eqb x s) (is_among xs s) h in λ z. eqb-false x s p.0 (e ∙ z)
-not_at (x ∷ xs) s (suc k) q h g = let p = or_parts (eqb x s) (is_among xs s) h in not_at xs s k q p.1 g
 
 -- another command is found as before
 found_other : (s q : ℕ) (reply : ReplyData) (us : List Unfinished) → q ≢ s → first_of (has_serial q) (with_first (is_at s Out) (with_reply reply) us) ≡ first_of (has_serial q) us
@@ -63,7 +60,7 @@ pub ring_handled : (front : List ℕ) (items : List Recorded) (d : DeviceState) 
 unfolding after_handle
 ring_handled front items d lists s u reply sound f h =
     ring_by front items d d.now d.blocked d.attached (with_first (is_at s Out) (with_reply reply) d.unfinished) d.delayed d.log lists
-    (λ k q g rl id r. ap (with_answer rl id r) (found_other s q reply d.unfinished (not_at d.placed s k q (out_unplaced d s u sound f) g))) h
+    (λ k q g rl id r. ap (with_answer rl id r) (found_other s q reply d.unfinished (not_there d.placed s k q (out_unplaced d s u sound f) g))) h
 
 pub ids_handled : (front : List ℕ) (rows : List PendingRow) (d : DeviceState) (s : ℕ) (reply : ReplyData) → IdsStand front rows d → IdsStand front rows (after_handle d s reply)
 unfolding after_handle
@@ -148,3 +145,7 @@ lists_handled d lists s reply h =
       sizes = every-with_first (is_at s Out) (with_reply reply) (λ (u : Unfinished). length (list_of lists u.serial) ≡ blocks_of d.settings.pages u.command) d.unfinished (λ u k p. p) h.sizes;
       spans = h.spans;
     }
+
+pub pages_handled : (r : RegionState) (d : DeviceState) (s : ℕ) (reply : ReplyData) → r.pages ≡ d.settings.pages → r.pages ≡ (after_handle d s reply).settings.pages
+unfolding after_handle
+pages_handled r d s reply h = h

@@ -7,14 +7,7 @@ use Rattle.tcmu_model.specs.Device.{DeviceState}
 use Rattle.ring_laws.specs.Placed.{HoldsItems}
 use Rattle.tcmu_model.specs.Sound.{IsSound, IsItem, Along}
 use Rattle.tcmu_model.proofs.Indexed.{item_at}
-
-pub aligned_from : (s : SettingsData) (start : ℕ) (is : List Item) → Along (IsItem s) start is → lengths is % 8 ≡ 0
-aligned_from s start [] h = refl
-aligned_from s start (i ∷ is) h =
-    let rest : lengths is % 8 ≡ 0 = aligned_from s (start + i.len) is h.1 in
-    let even : i.len % 8 ≡ 0 = h.0.even in
-    let sum : lengths (i ∷ is) ≡ i.len + lengths is = sum_by-cons (λ (t : Item). t.len) i is in
-    omega arith
+use Rattle.tcmu_model.proofs.Laying.{aligned}
 
 pub holds : (d : DeviceState) → IsSound d → HoldsItems d.ring
 holds d h =
@@ -25,7 +18,7 @@ holds d h =
     record {
       size = omega arith;
       even = ap (λ n. n % 8) size ∙ even;
-      aligned = aligned_from d.settings 0 d.ring.laid h.ring.items;
+      aligned = aligned d.settings 0 d.ring.laid h.ring.items;
       room = h.ring.room;
       whole = λ i x g. subst (λ (n : ℕ). lengths (take i d.ring.laid) % n + x.len ≤ n) (sym size) (item_at d i x h g).whole;
       some = λ i x g. (item_at d i x h g).some;

@@ -28,11 +28,12 @@ use Rattle.ring_laws.specs.Responded.{CanRespond}
 use Rattle.ring_laws.proofs.InOrderKept.{Begun, begins}
 use Rattle.ring_laws.proofs.Numbered.{can_answer}
 use Rattle.ring_laws.proofs.OrderedRows.{HandFirst, InOrder, not_handled, rise_back}
-use Rattle.ring_laws.proofs.ParkedKept.{matched}
 use Rattle.ring_laws.proofs.PlacedRun.{first-past, found_next, goes, in_hand_behind, none-with, order_placed, ran, ran_laid, stops}
-use Rattle.ring_laws.proofs.RespondedJobs.{one_serial, some_same, unmatched}
-use Rattle.ring_laws.proofs.RespondedKept.{found-any, found-state}
+use Rattle.ring_laws.proofs.RespondedJobs.{one_serial, some_same}
+use Rattle.ring_laws.proofs.RespondedKept.{found-state}
 use Rattle.ring_laws.proofs.TakenOut.{none_at}
+use Rattle.ring_laws.proofs.Matched.{matched, unmatched}
+use Rattle.tcmu_model.proofs.Places.{any_first}
 
 -- ==== how far a run comes
 
@@ -113,7 +114,7 @@ none_behind s v us w hf n f =
     let g : first_of (is_at s Handled) us ≡ Some w = rw k at f in
     let none : list_any (is_at s Handled) us ≡ false =
     every-none (is_at s Handled) us (every-weaker (λ u. is_in_hand u ≡ false) (λ u. is_at s Handled u ≡ false) us (λ u m. not_handled s u m) (none-every is_in_hand us (hf.0 n))) in
-    false≢true (sym none ∙ found-any (is_at s Handled) us w g)
+    false≢true (sym none ∙ any_first (is_at s Handled) us w g)
 
 -- it is this command's just where all before it have theirs
 first_answers : (st : SettingsData) (rows : List PendingRow) (lists : List Taken) (s id : ℕ) (gs : List GivenJob) (low : ℕ) (us : List Unfinished) (high : ℕ) (w : Unfinished) →
@@ -170,7 +171,7 @@ answer_in_order user rows d lists s u p parts h o =
     let b : Begun user rows d lists s p = begins user rows d lists s u p parts h o in
     let more : List Unfinished = turned s Handled Parked b.more in
     let start : events.Placing = record { placed = d.placed; unfinished = events.with_parked d s } in
-    let handled : is_handled d s ≡ true = found-any (is_at s Handled) d.unfinished u h.found in
+    let handled : is_handled d s ≡ true = any_first (is_at s Handled) d.unfinished u h.found in
     let q : u.serial ≡ s = serial_at s Handled u (found-state s Handled d.unfinished u h.found) in
     let i : id_of rows s ≡ Some p.job.id = ap (id_of rows) (sym q) ∙ h.job.id in
     let found : first_of (is_at s Handled) b.more ≡ Some u =

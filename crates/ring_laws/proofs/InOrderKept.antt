@@ -19,6 +19,7 @@ use Rattle.tcmu_model.specs.Regions.{RegionState}
 use Rattle.tcmu_model.proofs.Counts.{serial_at, state_at}
 use Rattle.tcmu_model.proofs.Everies.{every-first}
 use Rattle.tcmu_model.proofs.Firsts.{length-with_first}
+use Rattle.tcmu_model.proofs.SoundRespond.{handled_attached}
 use Rattle.tcmu_model.proofs.Standing.{awaiting}
 use Rattle.tcmu_model.specs.Sides.{GivenJob, InHand, PendingRow, Recorded, TargetState, UserState}
 use Rattle.tcmu_model.specs.Sides as sides
@@ -35,17 +36,12 @@ use Rattle.ring_laws.proofs.ParkedJobs.{given_parked, jobs_parked}
 use Rattle.ring_laws.proofs.ParkedKept.{blocks_parked, can_answer_parked, can_fill_parked, ids_parked, lists_parked, lists_turned, notes_parked, ring_parked, side_parked, target_parked, turned_in}
 use Rattle.ring_laws.proofs.PlacedAnswers.{ids_placed, notes_placed, placing_of, ring_placed, target_placed, user_placed}
 use Rattle.ring_laws.proofs.PlacedRun.{Between, Keeps, Ran, in_hand_behind, ran, ran_laid, runs}
-use Rattle.ring_laws.proofs.RespondedKept.{found-any, found-state, pages_placed}
+use Rattle.ring_laws.proofs.RespondedKept.{found-state, pages_placed}
+use Rattle.tcmu_model.proofs.Places.{any_first}
 
 -- ==== what both sides begin with
 
 -- a handled command is there on an attached device alone
-handled_attached : (dispatched placed published attached : Bool) (r : Bool) → state_fits dispatched placed published attached Handled r ≡ true → attached ≡ true
-handled_attached true false p true r h = refl
-handled_attached true false p false r h = absurd (false≢true h)
-handled_attached true true p q r h = absurd (false≢true h)
-handled_attached false b p q r h = absurd (false≢true h)
-
 pub attached : (d : DeviceState) (s : ℕ) (u : Unfinished) → IsSound d → first_of (is_at s Handled) d.unfinished ≡ Some u → d.attached ≡ true
 attached d s u sound f =
     let r : is_right d u ≡ true = every-first (is_at s Handled) (λ v. is_right d v ≡ true) d.unfinished u sound.answers.states f in
@@ -131,7 +127,7 @@ keeps_responded P r user rows d lists s u p parts keeps h o start =
     let b : Begun user rows d lists s p = begins user rows d lists s u p parts h o in
     let more : List Unfinished = turned s Handled Parked b.more in
     let device : after_respond d s ≡ ran (parked_in d s) (map (λ v. v.serial) more) =
-    device_runs d s (found-any (is_at s Handled) d.unfinished u h.found) o ∙ ran_laid (parked_in d s) more b.between.order in
+    device_runs d s (any_first (is_at s Handled) d.unfinished u h.found) o ∙ ran_laid (parked_in d s) more b.between.order in
     let side : user_responded r user p ≡ placed_front (begins_with r user p) (jobs_with user p) = user_runs r user p (ap (λ (f : Flags). f.ooo) h.flags ∙ o) in
     subst (λ (z : DeviceState). Ran rows lists P (user_responded r user p) z) (sym device)
     (subst (λ (z : Placing). Ran rows lists P z (ran (parked_in d s) (map (λ v. v.serial) more))) (sym side)

@@ -18,9 +18,8 @@ use Rattle.tcmu_model.specs.Represents.{AreGiven, AreOut, IsJobOf, is_out}
 use Rattle.tcmu_model.specs.UserSteps.{region_abandoned, with_job_back, with_parked_back}
 use Rattle.ring_laws.specs.Restarted.{region_restarted, region_with_hand}
 use Rattle.ring_laws.proofs.AnswerData.{iovs-numbers}
-use Rattle.ring_laws.proofs.ParkedKept.{matched}
-use Rattle.ring_laws.proofs.RespondedJobs.{unmatched}
 use Rattle.ring_laws.proofs.GivenBack.{all_back, AreParts, ArePartsOf, back-append, parts-append}
+use Rattle.ring_laws.proofs.Matched.{matched, unmatched}
 
 -- a region of a device with these settings
 pub record OfSettings (r : RegionState) (s : SettingsData) : Type 0 where

@@ -34,6 +34,7 @@ use Rattle.ring_laws.proofs.RingLaid.{old-entry, new-entry}
 use Rattle.ring_laws.proofs.LaidPoints.{SameEntries}
 use Rattle.ring_laws.proofs.Agree.{blocks-same}
 use Rattle.ring_laws.proofs.Submit.{first-append, first-here, not_below, serial_at, unlisted, cmd_item, with_waiting, commands-append, LaidCommand, laid_command, within_ring}
+use Rattle.tcmu_model.proofs.SoundLaying.{entry_least}
 
 -- ==== what is below the new serial
 
@@ -117,7 +118,7 @@ keeps_laid t d lists s c id sound owned keeps above =
 
 -- ==== ids
 
-every-push : {X : Type 0} (P : X → Type 0) (xs : List X) (y : X) → Every P xs → P y → Every P (xs ++ y ∷ [])
+pub every-push : {X : Type 0} (P : X → Type 0) (xs : List X) (y : X) → Every P xs → P y → Every P (xs ++ y ∷ [])
 every-push P xs y h k = every-append P xs (y ∷ []) h (k, tt)
 
 -- the same entry has the same id, which stands in its first 112 bytes
@@ -129,12 +130,9 @@ id-same front front' at n h e =
 pub id_front : (bytes : List ℕ) → 112 ≤ length bytes → id_in (take 112 bytes) ≡ id_in bytes
 id_front bytes h = sym (field-front 2 4 (take 112 bytes) (drop 112 bytes) (omega (arith, length-take-le 112 bytes h))) ∙ ap (field 2 4) (take-append-drop 112 bytes)
 
-entry_long : (pages : ℕ) (c : CommandData) → 112 ≤ entry_length pages c
-entry_long pages c = omega arith
-
 long_of : (s : SettingsData) (start n : ℕ) (l : Laid) → is_command (record { len = n; laid = l }) ≡ true → HasLength s start n l → 112 ≤ n
 long_of s start n ring.Pad h k = absurd (false≢true h)
-long_of s start n (ring.Cmd q c) h k = let e : n ≡ entry_length s.pages c = k.0 in omega (arith, e, entry_long s.pages c)
+long_of s start n (ring.Cmd q c) h k = let e : n ≡ entry_length s.pages c = k.0 in omega (arith, e, entry_least s.pages c)
 long_of s start n (ring.Tmr kind ss) h k = absurd (false≢true h)
 
 pub command_long : (d : DeviceState) (i : ℕ) (x : Item) → IsSound d → slice_get d.ring.laid i ≡ Some x → is_command x ≡ true → 112 ≤ x.len
@@ -192,13 +190,13 @@ gives r t d lists s c id sound shape keeps room above q =
     let front' : List ℕ = (region_laid r t c id).front in
     let at : ℕ = place_of (with_item d.ring it) (length (d.ring.laid ++ pads (ring.pad d.ring n))) in
     let b : entry_at front' at n ≡ q.bytes = ap (λ z. entry_at z at n) q.front ∙ new-entry r.front d it q.bytes shape.long (holds d sound) (within_ring d c room) q.len in
-    let u : take 112 (entry_at front' at n) ≡ entry_at front' at 112 = take-take 112 n (drop (ring_start + at) front') (entry_long d.settings.pages c) in
+    let u : take 112 (entry_at front' at n) ≡ entry_at front' at 112 = take-take 112 n (drop (ring_start + at) front') (entry_least d.settings.pages c) in
     record {
       old = λ i x cl g k. id-same r.front front' (place_of d.ring i) x.len (command_long d i x sound g k)
           (entries_laid r t d lists s c id sound shape room q i x cl g);
       other = λ k h. ap (option_map (λ (e : PendingRow). e.id)) (first-append (row_has k) t.rows (row_of t s c id) (not_below s k h));
       mine = ap (option_map (λ (e : PendingRow). e.id)) (first-here (row_has s) t.rows (row_of t s c id) (eq-eqb s s refl) (unheld t.rows s (pending_below t d lists s keeps (rows_below d s sound above))));
-      new = ap id_in (sym u ∙ ap (take 112) b) ∙ id_front q.bytes (omega (arith, q.len, entry_long d.settings.pages c)) ∙ q.id_is;
+      new = ap id_in (sym u ∙ ap (take 112) b) ∙ id_front q.bytes (omega (arith, q.len, entry_least d.settings.pages c)) ∙ q.id_is;
       none = q.none;
     }
 

@@ -23,23 +23,18 @@ use Rattle.tcmu_model.specs.TargetSteps.{region_laid, blocks_given}
 use Rattle.ring_laws.proofs.Agree.{blocks-same}
 use Rattle.tcmu_model.specs.Owned.{ListsSound, HasRoom}
 use Rattle.tcmu_model.proofs.Written.{length-zeros}
-use Rattle.ring_laws.proofs.Places.{slice_get-left, slice_get-right}
+use Rattle.ring_laws.proofs.Places.{slice_get-right}
 use Rattle.ring_laws.proofs.Free.{length-least_free, least-are, IsFree, least-differ}
 use Rattle.ring_laws.proofs.Scatter.{grown, scattered-other, scattered-data, along-same, grown-old}
 use Rattle.ring_laws.proofs.LaidEntry.{laid_in}
 use Rattle.ring_laws.proofs.Submit.{first-append, first-here, unlisted, cmd_item, with_waiting}
-use Rattle.ring_laws.proofs.Kept.{rows_below, lists_below}
+use Rattle.ring_laws.proofs.Kept.{rows_below, lists_below, every-push}
 use Rattle.ring_laws.proofs.TargetAnswers.{held_length}
+use Rattle.tcmu_model.proofs.Everies.{every-weaker}
+use Rattle.tcmu_model.proofs.Rises.{among-append, among_every, every-among}
+use Rattle.tcmu_types.proofs.Places.{get_append_left}
 
 -- ==== what is held
-
-pub among-append : (xs ys : List ℕ) (b : ℕ) → is_among (xs ++ ys) b ≡ (is_among xs b || is_among ys b)
-among-append [] ys b = refl
-among-append (x ∷ xs) ys b =
-    ⊎_elim
-    (λ (e : eqb x b ≡ true). rw e refl)
-    (λ (e : eqb x b ≡ false). rw e (among-append xs ys b))
-    (cases_Bool (eqb x b))
 
 -- what stands in one command's list is held
 pub among-filter : (lists : List Taken) (p : Unfinished → Bool) (us : List Unfinished) (b : ℕ) → is_among (held_by lists us) b ≡ false → is_among (held_by lists (filter p us)) b ≡ false
@@ -62,18 +57,6 @@ none-among hs (b ∷ bs) x low high e h =
     let n : eqb b x ≡ false = ne_eqb b x (λ q. false≢true (sym f.free ∙ ap (is_among hs) q ∙ h)) in
     rw n (none-among hs bs x low high e.1 h)
 
-pub own-among : (xs : List ℕ) → Every (λ x. is_among xs x ≡ true) xs
-own-among [] = tt
-own-among (x ∷ xs) = (or_left (eqb x x) (is_among xs x) (eq-eqb x x refl), more x xs xs (own-among xs))
-  where
-    more : (x : ℕ) (xs ys : List ℕ) → Every (λ y. is_among xs y ≡ true) ys → Every (λ y. is_among (x ∷ xs) y ≡ true) ys
-    more x xs [] e = tt
-    more x xs (y ∷ ys) e = (or_right (eqb x y) (is_among xs y) e.0, more x xs ys e.1)
-
-pub every-both : {X : Type 0} (P Q : X → Type 0) (xs : List X) → ((x : X) → P x → Q x) → Every P xs → Every Q xs
-every-both P Q [] h e = tt
-every-both P Q (x ∷ xs) h e = (h x e.0, every-both P Q xs h e.1)
-
 pub every-join : {X : Type 0} (P Q R : X → Type 0) (xs : List X) → ((x : X) → P x → Q x → R x) → Every P xs → Every Q xs → Every R xs
 every-join P Q R [] h e f = tt
 every-join P Q R (x ∷ xs) h e f = (h x e.0 f.0, every-join P Q R xs h e.1 f.1)
@@ -89,7 +72,7 @@ sized_whole size (Some block ∷ area) h zero bytes g = let e : block ≡ bytes 
 sized_whole size (None ∷ area) h (suc b) bytes g = sized_whole size area h b bytes g
 sized_whole size (Some block ∷ area) h (suc b) bytes g = sized_whole size area h.1 b bytes g
 
-get-there : {X : Type 0} (xs : List X) (i : ℕ) → i < length xs → (x : X) × (slice_get xs i ≡ Some x)
+pub get-there : {X : Type 0} (xs : List X) (i : ℕ) → i < length xs → (x : X) × (slice_get xs i ≡ Some x)
 get-there [] i h = absurd (omega arith)
 get-there (x ∷ xs) zero h = (x, refl)
 get-there (x ∷ xs) (suc i) h = get-there xs i (omega arith)
@@ -98,7 +81,7 @@ get-there (x ∷ xs) (suc i) h = get-there xs i (omega arith)
 
 pub covered : (bs : List ℕ) → Every (λ b. b < above_all bs) bs
 covered [] = tt
-covered (b ∷ bs) = (omega arith, every-both (λ x. x < above_all bs) (λ x. x < max (b + 1) (above_all bs)) bs (λ x h. omega arith) (covered bs))
+covered (b ∷ bs) = (omega arith, every-weaker (λ x. x < above_all bs) (λ x. x < max (b + 1) (above_all bs)) bs (λ x h. omega arith) (covered bs))
 
 length-grown : (size : ℕ) (area : List (Option (List ℕ))) (n : ℕ) → n ≤ length (grown size area n)
 length-grown size area n = omega (arith, length-append area (replicate (n - length area) (Some (zeros size))), length-replicate (n - length area) (Some (zeros size)))
@@ -112,7 +95,7 @@ replicate-get (suc n) (suc i) x y h = replicate-get n i x y h
 grown-case : (size : ℕ) (area : List (Option (List ℕ))) (n b : ℕ) (o : Option (List ℕ)) → slice_get (grown size area n) b ≡ Some o → (slice_get area b ≡ Some o) ⊎ (o ≡ Some (zeros size))
 grown-case size area n b o h =
     ⊎_elim
-    (λ (l : b < length area). inl (sym (slice_get-left area (replicate (n - length area) (Some (zeros size))) b l) ∙ h))
+    (λ (l : b < length area). inl (sym (get_append_left area (replicate (n - length area) (Some (zeros size))) b l) ∙ h))
     (λ (l : length area ≤ b).
     let k : length area + (b - length area) ≡ b = omega arith in
     inr (replicate-get (n - length area) (b - length area) (Some (zeros size)) o
@@ -167,14 +150,10 @@ all-old : (size : ℕ) (area area' : List (Option (List ℕ))) (lists lists' : L
 all-old size area area' lists lists' hs acc [] l same into k e = tt
 all-old size area area' lists lists' hs acc (u ∷ us) l same into k e = (
   stand-other size area area' lists lists' u (l u.serial k.0)
-      (every-both (λ b. is_among (list_of lists u.serial) b ≡ true) (λ b. (o : Option (List ℕ)) → slice_get area b ≡ Some o → slice_get area' b ≡ Some o) (list_of lists u.serial)
-      (λ b h. same b (into b (among-append (list_of lists u.serial) (held_by lists us) b ∙ or_left (is_among (list_of lists u.serial) b) (is_among (held_by lists us) b) h))) (own-among (list_of lists u.serial))) e.0,
+      (every-weaker (λ b. is_among (list_of lists u.serial) b ≡ true) (λ b. (o : Option (List ℕ)) → slice_get area b ≡ Some o → slice_get area' b ≡ Some o) (list_of lists u.serial)
+      (λ b h. same b (into b (among-append (list_of lists u.serial) (held_by lists us) b ∙ or_left (is_among (list_of lists u.serial) b) (is_among (held_by lists us) b) h))) (every-among (list_of lists u.serial))) e.0,
   all-old size area area' lists lists' hs acc us l same (λ b h. into b (among-append (list_of lists u.serial) (held_by lists us) b ∙ or_right (is_among (list_of lists u.serial) b) (is_among (held_by lists us) b) h)) k.1 e.1,
 )
-
-every-snoc : {X : Type 0} (P : X → Type 0) (xs : List X) (y : X) → Every P xs → P y → Every P (xs ++ y ∷ [])
-every-snoc P [] y e h = (h, tt)
-every-snoc P (x ∷ xs) y e h = (e.0, every-snoc P xs y e.1 h)
 
 enough : (p size : ℕ) → 0 < size → p ≤ size * ((p + (size - 1)) / size)
 enough p size z = omega arith
@@ -222,14 +201,6 @@ filter-snoc (v ∷ us) u h =
     (λ (e : is_in_hand v ≡ false). rw e (filter-snoc us u h))
     (cases_Bool (is_in_hand v))
 
-pub every-among : (P : ℕ → Type 0) (xs : List ℕ) (b : ℕ) → Every P xs → is_among xs b ≡ true → P b
-every-among P [] b e h = absurd (false≢true h)
-every-among P (x ∷ xs) b e h =
-    ⊎_elim
-    (λ (k : eqb x b ≡ true). subst P (eqb-true x b k) e.0)
-    (λ (k : eqb x b ≡ false). let g : is_among xs b ≡ true = rw k at h in every-among P xs b e.1 g)
-    (cases_Bool (eqb x b))
-
 abbrev filled : DeviceState → List (Option (List ℕ)) → CommandData → List ℕ → List (Option (List ℕ))
 filled d area c bs = written_along (block_size d.settings.pages) (grown (block_size d.settings.pages) area (above_all bs)) bs (cond (takes_payload c.cdb) c.sent (zeros (block_size d.settings.pages * length bs)))
 
@@ -258,7 +229,7 @@ submit-blocks area d lists s c sound owned whole pages stand room above =
     let pay : payload_length c ≤ size * n = enough (payload_length c) size (omega arith) in
     let dat : HaveData size area' bs (payload_of u) = new-data size n area1 c bs u (omega arith) ln pay refl refl (least-differ d.settings.blocks hs n) here in
     record {
-      all = every-snoc (BlocksOf size area' lists') d.unfinished u (all-old size area area' lists lists' hs s d.unfinished old same (λ b h. h) rows stand.all)
+      all = every-push (BlocksOf size area' lists') d.unfinished u (all-old size area area' lists lists' hs s d.unfinished old same (λ b h. h) rows stand.all)
           (subst (λ (xs : List ℕ). HaveData size area' xs (payload_of u)) (sym new) dat);
       just = λ b h.
           let f : held_by lists' (filter is_in_hand (d.unfinished ++ u ∷ [])) ≡ held_by lists (filter is_in_hand d.unfinished) =
@@ -279,7 +250,7 @@ submit-blocks area d lists s c sound owned whole pages stand room above =
         let size : ℕ = block_size d.settings.pages in
         let bs : List ℕ = least_free d.settings.blocks (held_by lists d.unfinished) (blocks_of d.settings.pages c) in
         ⊎_elim
-        (λ (e : is_among bs b ≡ true). let i = every-among (IsHome size (filled d area c bs)) bs b here e in let k : Some (Some i.0) ≡ Some None = sym i.1 ∙ h in absurd (cc))
+        (λ (e : is_among bs b ≡ true). let i = among_every (IsHome size (filled d area c bs)) bs b here e in let k : Some (Some i.0) ≡ Some None = sym i.1 ∙ h in absurd (cc))
         (λ (e : is_among bs b ≡ false). grown-lent size area (above_all bs) b (sym (scattered-other size (grown size area (above_all bs)) bs (cond (takes_payload c.cdb) c.sent (zeros (size * length bs))) b e) ∙ h))
         (cases_Bool (is_among bs b))
 

@@ -14,9 +14,9 @@ use Rattle.tcmu_model.specs.BlockLists.{Taken, blocks_taken, held_by, least_free
 use Rattle.tcmu_model.specs.Layout.{zeros}
 use Rattle.tcmu_model.specs.Regions.{AreSized, RegionState}
 use Rattle.tcmu_model.proofs.Everies.{every-weaker}
-use Rattle.tcmu_model.proofs.Rises.{among-append, among-here}
+use Rattle.tcmu_model.proofs.Rises.{among-append, among_every, among-here}
 use Rattle.tcmu_model.specs.Sides.{InHand, PendingRow, TargetState, UserState}
-use Rattle.tcmu_model.specs.Represents.{IsId, IsNoteId, JobsStand, NotesStand, RingStands, TargetKeeps, UserKeeps, has_id, is_out, row_has, serial_with}
+use Rattle.tcmu_model.specs.Represents.{IsId, IsLeftOver, IsNoteId, JobsStand, NotesStand, RingStands, TargetKeeps, UserKeeps, has_id, id_of, is_out, row_has, serial_with}
 use Rattle.tcmu_model.specs.TargetSteps.{block_data, blocks_given, region_laid, row_of, target_laid}
 use Rattle.tcmu_model.specs.Owned.{HasRoom, ListsSound}
 use Rattle.ring_laws.proofs.Submit.{first-append, first-here, not_below, cmd_item, with_waiting, laid_command}
@@ -39,25 +39,27 @@ serial-more (e ∷ es) new id k h =
     (λ (z : has_id id e ≡ false). let g : serial_with es id ≡ Some k = rw z at h in rw z (serial-more es new id k g))
     (cases_Bool (has_id id e))
 
--- a note's id that none held may now be the new command's, which is laid behind the note
-note_kept : (rows : List PendingRow) (new : PendingRow) (behind : List ℕ) (k id : ℕ) → IsNoteId rows behind k id → IsNoteId (rows ++ new ∷ []) (behind ++ new.pending.serial ∷ []) k id
-note_kept rows new behind k id h =
+-- an id that is left over may now be the new command's, which is laid behind the note
+left_over_kept : (rows : List PendingRow) (new : PendingRow) (behind : List ℕ) (id : ℕ) → IsLeftOver rows behind id → IsLeftOver (rows ++ new ∷ []) (behind ++ new.pending.serial ∷ []) id
+left_over_kept rows new behind id h =
     ⊎_elim
     (λ (n : serial_with rows id ≡ None).
     let f : first_of (has_id id) rows ≡ None = none_first (first_of (has_id id) rows) n in
     ⊎_elim
-    (λ (e : has_id id new ≡ true). inr (new.pending.serial, ap (option_map (λ (x : PendingRow). x.pending.serial)) (first-here (has_id id) rows new e f), inr (among-here behind new.pending.serial [])))
+    (λ (e : has_id id new ≡ true). inr (new.pending.serial, ap (option_map (λ (x : PendingRow). x.pending.serial)) (first-here (has_id id) rows new e f), among-here behind new.pending.serial []))
     (λ (e : has_id id new ≡ false). inl (ap (option_map (λ (x : PendingRow). x.pending.serial)) (first-append (has_id id) rows new e) ∙ n))
     (cases_Bool (has_id id new)))
-    (λ (q : (t : ℕ) × (serial_with rows id ≡ Some t) × ((t ≡ k) ⊎ (is_among behind t ≡ true))).
-    inr (
-      q.0,
-      serial-more rows new id q.0 q.1,
-      ⊎_elim
-          (λ (e : q.0 ≡ k). inl e)
-          (λ (a : is_among behind q.0 ≡ true). inr (among-append behind (new.pending.serial ∷ []) q.0 ∙ or_left (is_among behind q.0) (is_among (new.pending.serial ∷ []) q.0) a))
-          q.2,
-    ))
+    (λ (q : (t : ℕ) × (serial_with rows id ≡ Some t) × (is_among behind t ≡ true)).
+    inr (q.0, serial-more rows new id q.0 q.1, among-append behind (new.pending.serial ∷ []) q.0 ∙ or_left (is_among behind q.0) (is_among (new.pending.serial ∷ []) q.0) q.2))
+    h
+
+-- the id of another serial is as before
+note_kept : (rows : List PendingRow) (new : PendingRow) (behind : List ℕ) (k id : ℕ) → row_has k new ≡ false → IsNoteId rows behind k id → IsNoteId (rows ++ new ∷ []) (behind ++ new.pending.serial ∷ []) k id
+note_kept rows new behind k id other h =
+    let same : id_of (rows ++ new ∷ []) k ≡ id_of rows k = ap (option_map (λ (e : PendingRow). e.id)) (first-append (row_has k) rows new other) in
+    ⊎_elim
+    (λ (e : id_of rows k ≡ Some id). inl (same ∙ e))
+    (λ (e : (id_of rows k ≡ None) × IsLeftOver rows behind id). inr (same ∙ e.0, left_over_kept rows new behind id e.1))
     h
 
 pub notes_stand_laid : (r : RegionState) (t : TargetState) (d : DeviceState) (lists : List Taken) (s : ℕ) (c : CommandData) (id : ℕ) →
@@ -67,7 +69,8 @@ unfolding with_command target_laid
 notes_stand_laid r t d lists s c id sound owned shape notes keeps room is_id above =
     let q = laid_command r t d lists s c id sound owned shape keeps room (let h : id ≤ 65535 = is_id.high in omega arith) above (lists_below d lists s owned above) in
     notes_laid r.front (region_laid r t c id).front t.rows (t.rows ++ row_of t s c id ∷ []) d (cmd_item d s c) (with_waiting d s c) sound (entries_laid r t d lists s c id sound shape room q)
-    (note_kept t.rows (row_of t s c id)) (λ i n kind ss a e. absurd (false≢true (ap is_command (sym e)))) notes
+    (λ behind k i a z. note_kept t.rows (row_of t s c id) behind k i (not_below s k (among_every (λ (y : ℕ). y < s) (serials_in d.ring.laid) k above a)) z)
+    (λ i n type_ ss a e. absurd (false≢true (ap is_command (sym e)))) notes
 
 -- ==== the jobs
 

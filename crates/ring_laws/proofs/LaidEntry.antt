@@ -7,9 +7,9 @@ use Rattle.tcmu_model.specs.RingState as ring
 use Rattle.tcmu_model.specs.Device.{Unfinished, DeviceState}
 use Rattle.tcmu_model.specs.Layout.{le, put, ring_start, data_start, head_place, pad_bytes}
 use Rattle.tcmu_model.specs.TargetSteps.{with_pad}
-use Rattle.ring_laws.proofs.Bytes.{part, length-written, take-written, part-written, part-written_before, part-written_behind}
+use Rattle.ring_laws.proofs.Bytes.{part, take-written, part-written, part-written_before, part-written_behind}
 use Rattle.ring_laws.proofs.Layouts.{take-written_inside, length-pad}
-use Rattle.tcmu_model.proofs.Written.{length-le}
+use Rattle.tcmu_model.proofs.Written.{length-le, length-put}
 use Rattle.ring_laws.specs.Placed.{HoldsItems}
 
 -- the device with an item laid
@@ -88,7 +88,7 @@ padded_part front size hd pad p n l least room apart =
     rw z (
       part-written_apart front (ring_start + hd) (pad_bytes pad) (ring_start + p) n
           (⊎_elim (λ (k : p + n ≤ hd). inl (omega arith)) (λ (k : hd + pad ≤ p). inr (omega arith)) (apart some)) (omega arith),
-      length-written front (ring_start + hd) (pad_bytes pad) (omega arith),
+      length-put front (ring_start + hd) (pad_bytes pad) (omega arith),
     ))
     (cases_Bool (eqb pad 0))
 
@@ -100,7 +100,7 @@ entered_part front size hd pad at head' bytes p n l least room fits apart_pad ap
     let f = padded_part front size hd pad p n l least room apart_pad in
     let f1 : length (with_pad front hd pad) ≡ length front = f.1 in
     let lh : length (le 4 head') ≡ 4 = length-le 4 head' in
-    let l2 : length (put (with_pad front hd pad) (ring_start + at) bytes) ≡ length (with_pad front hd pad) = length-written (with_pad front hd pad) (ring_start + at) bytes (omega arith) in
+    let l2 : length (put (with_pad front hd pad) (ring_start + at) bytes) ≡ length (with_pad front hd pad) = length-put (with_pad front hd pad) (ring_start + at) bytes (omega arith) in
     part-written_behind (put (with_pad front hd pad) (ring_start + at) bytes) head_place (le 4 head') (ring_start + p) n (omega arith) (omega arith)
     ∙ part-written_apart (with_pad front hd pad) (ring_start + at) bytes (ring_start + p) n
     (⊎_elim (λ (k : p + n ≤ at). inl (omega arith)) (λ (k : at + length bytes ≤ p). inr (omega arith)) apart) (omega arith)
@@ -112,8 +112,8 @@ length-entered front size hd pad at head' bytes l least room fits =
     let f = padded_part front size hd pad size 0 l least room (λ q. inr room) in
     let f1 : length (with_pad front hd pad) ≡ length front = f.1 in
     let lh : length (le 4 head') ≡ 4 = length-le 4 head' in
-    let l2 : length (put (with_pad front hd pad) (ring_start + at) bytes) ≡ length (with_pad front hd pad) = length-written (with_pad front hd pad) (ring_start + at) bytes (omega arith) in
-    length-written (put (with_pad front hd pad) (ring_start + at) bytes) head_place (le 4 head') (omega arith) ∙ l2 ∙ f1
+    let l2 : length (put (with_pad front hd pad) (ring_start + at) bytes) ≡ length (with_pad front hd pad) = length-put (with_pad front hd pad) (ring_start + at) bytes (omega arith) in
+    length-put (put (with_pad front hd pad) (ring_start + at) bytes) head_place (le 4 head') (omega arith) ∙ l2 ∙ f1
 
 -- the new entry, and the pad
 pub entered_new : (front : List ℕ) (size hd pad at head' : ℕ) (bytes : List ℕ) → length front ≡ data_start size → (pad ≢ 0 → 8 ≤ pad) → hd + pad ≤ size → at + length bytes ≤ size →
@@ -122,7 +122,7 @@ entered_new front size hd pad at head' bytes l least room fits =
     let f = padded_part front size hd pad size 0 l least room (λ q. inr room) in
     let f1 : length (with_pad front hd pad) ≡ length front = f.1 in
     let lh : length (le 4 head') ≡ 4 = length-le 4 head' in
-    let l2 : length (put (with_pad front hd pad) (ring_start + at) bytes) ≡ length (with_pad front hd pad) = length-written (with_pad front hd pad) (ring_start + at) bytes (omega arith) in
+    let l2 : length (put (with_pad front hd pad) (ring_start + at) bytes) ≡ length (with_pad front hd pad) = length-put (with_pad front hd pad) (ring_start + at) bytes (omega arith) in
     part-written_behind (put (with_pad front hd pad) (ring_start + at) bytes) head_place (le 4 head') (ring_start + at) (length bytes) (omega arith) (omega arith)
     ∙ part-written (with_pad front hd pad) (ring_start + at) bytes (omega arith)
 
@@ -134,7 +134,7 @@ entered_pad front size hd pad at head' bytes l some least room fits apart =
     let f1 : length (with_pad front hd pad) ≡ length front = f.1 in
     let lh : length (le 4 head') ≡ 4 = length-le 4 head' in
     let lp : length (pad_bytes pad) ≡ pad = length-pad pad least in
-    let l2 : length (put (with_pad front hd pad) (ring_start + at) bytes) ≡ length (with_pad front hd pad) = length-written (with_pad front hd pad) (ring_start + at) bytes (omega arith) in
+    let l2 : length (put (with_pad front hd pad) (ring_start + at) bytes) ≡ length (with_pad front hd pad) = length-put (with_pad front hd pad) (ring_start + at) bytes (omega arith) in
     let e : with_pad front hd pad ≡ put front (ring_start + hd) (pad_bytes pad) = rw z refl in
     let w : part (put front (ring_start + hd) (pad_bytes pad)) (ring_start + hd) (length (pad_bytes pad)) ≡ pad_bytes pad = part-written front (ring_start + hd) (pad_bytes pad) (omega arith) in
     part-written_behind (put (with_pad front hd pad) (ring_start + at) bytes) head_place (le 4 head') (ring_start + hd) pad (omega arith) (omega arith)
@@ -148,7 +148,7 @@ take-entered front size hd pad at head' bytes l least room fits =
     let f = padded_part front size hd pad size 0 l least room (λ q. inr room) in
     let f1 : length (with_pad front hd pad) ≡ length front = f.1 in
     let lh : length (le 4 head') ≡ 4 = length-le 4 head' in
-    let l2 : length (put (with_pad front hd pad) (ring_start + at) bytes) ≡ length (with_pad front hd pad) = length-written (with_pad front hd pad) (ring_start + at) bytes (omega arith) in
+    let l2 : length (put (with_pad front hd pad) (ring_start + at) bytes) ≡ length (with_pad front hd pad) = length-put (with_pad front hd pad) (ring_start + at) bytes (omega arith) in
     let a : take ring_start (put (with_pad front hd pad) (ring_start + at) bytes) ≡ take ring_start (with_pad front hd pad) = take-written (with_pad front hd pad) (ring_start + at) bytes ring_start (omega arith) (omega arith) in
     take-written_inside (put (with_pad front hd pad) (ring_start + at) bytes) head_place (le 4 head') ring_start (omega arith) (omega arith)
     ∙ ap (λ xs. put xs head_place (le 4 head')) (a ∙ take_padded)

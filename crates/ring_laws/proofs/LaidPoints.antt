@@ -4,16 +4,18 @@ use Rattle.std.proofs.lemmas.Bool.{cases_Bool, false≢true}
 use Rattle.tcmu_model.specs.RingState.{RingState, Item, Laid, lengths, pads, with_item, is_pad, commands_in, serials_in, serial_in}
 use Rattle.tcmu_model.specs.RingState as ring
 use Rattle.tcmu_model.specs.Device.{Unfinished, DeviceState}
-use Rattle.tcmu_model.specs.Events.{is_in_hand}
+use Rattle.tcmu_model.specs.Events.{is_among, is_in_hand}
 use Rattle.tcmu_model.specs.Sound.{IsSound, Every}
 use Rattle.tcmu_model.specs.BlockLists.{Taken}
 use Rattle.tcmu_model.specs.Picture.{place_of}
+use Rattle.tcmu_model.proofs.Basics.{among_more}
 use Rattle.tcmu_model.proofs.Everies.{every-filter}
 use Rattle.tcmu_model.proofs.Laying.{drop_laid, serials-append}
 use Rattle.tcmu_model.specs.Sides.{InHand, PendingRow, UserState}
-use Rattle.tcmu_model.specs.Represents.{AreGiven, AreNoteIds, AreOut, IsNoteId, JobsStand, NotesStand, UserKeeps, command_places, entry_at, ids_in, is_out, recorded}
+use Rattle.tcmu_model.specs.Represents.{AreGiven, AreOut, IsNoteId, JobsStand, NoteStands, NotesStand, UserKeeps, command_places, entry_at, ids_in, is_out, recorded}
 use Rattle.ring_laws.proofs.Places.{laid_with, LaidCase, laid_case, Old, Padding, New, take-laid}
 use Rattle.ring_laws.proofs.LaidEntry.{laid_in}
+use Rattle.ring_laws.proofs.NoteIds.{note_stands_by}
 use Rattle.ring_laws.proofs.SameJobs.{HasSame, given_same, outs_same}
 
 -- ==== the notes
@@ -22,7 +24,7 @@ use Rattle.ring_laws.proofs.SameJobs.{HasSame, given_same, outs_same}
 abbrev pub SameEntries : List ℕ → List ℕ → DeviceState → Type 0
 SameEntries front front' d = (i : ℕ) (x : Item) → d.ring.cleared ≤ i → slice_get d.ring.laid i ≡ Some x → entry_at front' (place_of d.ring i) x.len ≡ entry_at front (place_of d.ring i) x.len
 
-serials-pads : (n : ℕ) → serials_in (pads n) ≡ []
+pub serials-pads : (n : ℕ) → serials_in (pads n) ≡ []
 serials-pads n =
     ⊎_elim
     (λ (z : eqb n 0 ≡ true). rw z refl)
@@ -38,33 +40,33 @@ serials_behind r it i h =
     ∙ ap (λ xs. xs ++ serials_in (it ∷ [])) (serials-append (drop i r.laid) p ∙ ap (λ xs. serials_in (drop i r.laid) ++ xs) (serials-pads (ring.pad r it.len)) ∙ append-nil (serials_in (drop i r.laid)))
     ∙ ap (λ xs. serials_in (drop i r.laid) ++ xs) (append-nil (serial_in it))
 
-note_ids_all : (rows rows' : List PendingRow) (behind behind' : List ℕ) → ((s id : ℕ) → IsNoteId rows behind s id → IsNoteId rows' behind' s id) → (ss ids : List ℕ) → AreNoteIds rows behind ss ids → AreNoteIds rows' behind' ss ids
-note_ids_all rows rows' behind behind' f [] [] h = h
-note_ids_all rows rows' behind behind' f [] (id ∷ ids) h = absurd h
-note_ids_all rows rows' behind behind' f (s ∷ ss) [] h = absurd h
-note_ids_all rows rows' behind behind' f (s ∷ ss) (id ∷ ids) h = (f s id h.0, note_ids_all rows rows' behind behind' f ss ids h.1)
-
--- the ids of a note stay right where they stay right for each of its serials; those of a note that is laid are to be right
+-- the notes stay right where the ids of all serials laid do; a note that is laid is to be right
 pub notes_laid : (front front' : List ℕ) (rows rows' : List PendingRow) (d : DeviceState) (it : Item) (us : List Unfinished) → IsSound d → SameEntries front front' d →
-    ((behind : List ℕ) (s id : ℕ) → IsNoteId rows behind s id → IsNoteId rows' (behind ++ serial_in it) s id) →
-    ((i n kind : ℕ) (ss : List ℕ) → i ≡ length (d.ring.laid ++ pads (ring.pad d.ring it.len)) → it ≡ record { len = n; laid = ring.Tmr kind ss } → AreNoteIds rows' (serials_in (drop i (laid_with d.ring it))) ss (ids_in (length ss) 32 (entry_at front' (place_of (with_item d.ring it) i) n))) →
+    ((behind : List ℕ) (s id : ℕ) → is_among (serials_in d.ring.laid) s ≡ true → IsNoteId rows behind s id → IsNoteId rows' (behind ++ serial_in it) s id) →
+    ((i n type_ : ℕ) (ss : List ℕ) → i ≡ length (d.ring.laid ++ pads (ring.pad d.ring it.len)) → it ≡ record { len = n; laid = ring.Tmr type_ ss } →
+    NoteStands rows' (serials_in (take i (laid_with d.ring it))) (serials_in (drop i (laid_with d.ring it))) type_ ss (ids_in (length ss) 32 (entry_at front' (place_of (with_item d.ring it) i) n))) →
     NotesStand front rows d → NotesStand front' rows' (laid_in d it us)
 notes_laid front front' rows rows' d it us sound same old new h =
-    λ i n kind ss dp g. by_case i n kind ss dp (laid_case d.ring it i (record { len = n; laid = ring.Tmr kind ss }) g)
+    λ i n type_ ss dp g. by_case i n type_ ss dp (laid_case d.ring it i (record { len = n; laid = ring.Tmr type_ ss }) g)
   where
-    by_case : (i n kind : ℕ) (ss : List ℕ) → d.ring.dispatched ≤ i → LaidCase d.ring it i (record { len = n; laid = ring.Tmr kind ss }) → AreNoteIds rows' (serials_in (drop i (laid_with d.ring it))) ss (ids_in (length ss) 32 (entry_at front' (place_of (with_item d.ring it) i) n))
-    by_case i n kind ss dp (Old l g) =
+    by_case : (i n type_ : ℕ) (ss : List ℕ) → d.ring.dispatched ≤ i → LaidCase d.ring it i (record { len = n; laid = ring.Tmr type_ ss }) →
+        NoteStands rows' (serials_in (take i (laid_with d.ring it))) (serials_in (drop i (laid_with d.ring it))) type_ ss (ids_in (length ss) 32 (entry_at front' (place_of (with_item d.ring it) i) n))
+    by_case i n type_ ss dp (Old l g) =
         let c0 : d.ring.cleared ≤ d.ring.published = sound.ring.cleared in
         let c1 : d.ring.published ≤ d.ring.dispatched = sound.ring.published in
         let b : serials_in (drop i (laid_with d.ring it)) ≡ serials_in (drop i d.ring.laid) ++ serial_in it = serials_behind d.ring it i (omega arith) in
         let at : place_of (with_item d.ring it) i ≡ place_of d.ring i = ap (λ xs. lengths xs % d.ring.size) (take-laid d.ring it i (omega arith)) in
-        let e : entry_at front' (place_of (with_item d.ring it) i) n ≡ entry_at front (place_of d.ring i) n = ap (λ z. entry_at front' z n) at ∙ same i (record { len = n; laid = ring.Tmr kind ss }) (omega (arith, c0, c1, dp)) g in
-        let all : AreNoteIds rows' (serials_in (drop i d.ring.laid) ++ serial_in it) ss (ids_in (length ss) 32 (entry_at front (place_of d.ring i) n)) =
-        note_ids_all rows rows' (serials_in (drop i d.ring.laid)) (serials_in (drop i d.ring.laid) ++ serial_in it) (old (serials_in (drop i d.ring.laid))) ss (ids_in (length ss) 32 (entry_at front (place_of d.ring i) n)) (h i n kind ss dp g) in
-        subst (λ (xs : List ℕ). AreNoteIds rows' xs ss (ids_in (length ss) 32 (entry_at front' (place_of (with_item d.ring it) i) n))) (sym b)
-        (subst (λ (y : List ℕ). AreNoteIds rows' (serials_in (drop i d.ring.laid) ++ serial_in it) ss (ids_in (length ss) 32 y)) (sym e) all)
-    by_case i n kind ss dp (Padding a b e) = absurd (false≢true (ap is_pad e))
-    by_case i n kind ss dp (New a e) = new i n kind ss a (sym e)
+        let e : entry_at front' (place_of (with_item d.ring it) i) n ≡ entry_at front (place_of d.ring i) n = ap (λ z. entry_at front' z n) at ∙ same i (record { len = n; laid = ring.Tmr type_ ss }) (omega (arith, c0, c1, dp)) g in
+        let before : List ℕ = serials_in (take i d.ring.laid) in
+        let behind : List ℕ = serials_in (drop i d.ring.laid) in
+        let ids : List ℕ → List ℕ = ids_in (length ss) 32 in
+        let all : NoteStands rows' before (behind ++ serial_in it) type_ ss (ids (entry_at front (place_of d.ring i) n)) =
+        note_stands_by rows rows' before behind (behind ++ serial_in it) type_ ss (ids (entry_at front (place_of d.ring i) n)) (λ s id a k. old behind s id (among_more i d.ring.laid s a) k) (h i n type_ ss dp g) in
+        subst (λ (xs : List ℕ). NoteStands rows' xs (serials_in (drop i (laid_with d.ring it))) type_ ss (ids (entry_at front' (place_of (with_item d.ring it) i) n))) (sym (ap serials_in (take-laid d.ring it i (omega arith))))
+        (subst (λ (xs : List ℕ). NoteStands rows' before xs type_ ss (ids (entry_at front' (place_of (with_item d.ring it) i) n))) (sym b)
+        (subst (λ (y : List ℕ). NoteStands rows' before (behind ++ serial_in it) type_ ss (ids y)) (sym e) all))
+    by_case i n type_ ss dp (Padding a b e) = absurd (false≢true (ap is_pad e))
+    by_case i n type_ ss dp (New a e) = new i n type_ ss a (sym e)
 
 -- ==== the jobs
 

@@ -1,4 +1,5 @@
 pub mod Opened
+pub mod Matched
 pub mod Bytes
 pub mod Places
 pub mod Held
@@ -22,10 +23,13 @@ pub mod PlacedAnswers
 pub mod AnswerData
 pub mod AnswerBlocks
 pub mod TailMoved
+pub mod Found
+pub mod NoteIds
 pub mod Ticked
 pub mod Completing
 pub mod KeptLists
 pub mod DelayedKept
+pub mod RefusedSame
 pub mod HandledKept
 pub mod TakenOut
 pub mod CleanedOne
@@ -69,5 +73,5 @@ pub mod HeldApart
 pub mod JobsBack
 pub mod RestartedKept
 pub mod RestartedAnswer
-pub mod MailboxShown
+pub mod AttachedUser
 pub mod EmptiedKept

@@ -16,7 +16,8 @@ use Rattle.tcmu_model.specs.Sides.{InHand, TargetState, UserState}
 use Rattle.tcmu_model.specs.UserNext.{Nothing, Nexted, nexted}
 use Rattle.ring_laws.specs.Dispatched.{CanDispatch}
 use Rattle.ring_laws.proofs.Nexts.{NoteComes, can_pass, job_comes, job_nexted, note_comes, note_nexted}
-use Rattle.ring_laws.proofs.PassedItems.{comes_to_head, get-dropped}
+use Rattle.ring_laws.proofs.PassedItems.{comes_to_head}
+use Rattle.ring_laws.proofs.Places.{get-dropped}
 
 -- the device behind a command that is sent out, and behind a note
 abbrev pub sent_in : DeviceState → ℕ → DeviceState

@@ -29,19 +29,19 @@ use Rattle.tcmu_model.specs.Sides.{Moved, Copied, InHand, JobState, TargetState,
 use Rattle.tcmu_model.specs.Represents.{HaveData, BlocksOf, entry_at, id_at, ids_in}
 use Rattle.tcmu_model.specs.UserNext.{Job, Note, Nexted, command_next, copied_data, next_within, nexted, note_next, tmr_ids_in, with_job, with_passed}
 use Rattle.tcmu_model.specs.UserSteps.{is_open_job}
-use Rattle.tcmu_model.proofs.Everies.{every-back}
+use Rattle.tcmu_model.proofs.Everies.{every-back, every-weaker}
 use Rattle.tcmu_model.proofs.Indexed.{item_at}
 use Rattle.ring_laws.specs.Dispatched.{CanDispatch}
 use Rattle.ring_laws.proofs.AnswerBlocks.{found-held, found-differ}
 use Rattle.ring_laws.proofs.AnswerData.{iovs-numbers}
 use Rattle.ring_laws.proofs.EntriesThere.{note_there, NoteRead, note_ids, length-ids_in}
 use Rattle.ring_laws.proofs.JobRead.{RequestRead, request_read, total_along}
-use Rattle.ring_laws.proofs.LaidBlocks.{every-both, every-among, own-among}
 use Rattle.ring_laws.proofs.Lending.{both_true, iovs-whole, can_take-home}
 use Rattle.ring_laws.proofs.MailboxThere.{mailbox_of}
 use Rattle.ring_laws.proofs.PassedItems.{CanPass, Comes, Within, comes_to, item_there, item_within, passed_one, passed_to, ring_is}
-use Rattle.ring_laws.proofs.RespondedJobs.{unmatched}
 use Rattle.ring_laws.proofs.Sending.{Sends, sends, first-split}
+use Rattle.ring_laws.proofs.Matched.{unmatched}
+use Rattle.tcmu_model.proofs.Rises.{among_every, every-among}
 
 pub can_pass : (r : RegionState) (t : TargetState) (user : UserState) (hand : List InHand) (d : DeviceState) (lists : List Taken) → CanDispatch r t user hand d lists → CanPass r t.items user d lists
 can_pass r t user hand d lists h = record { sound = h.sound; attached = h.attached; ring = h.ring; side = h.side }
@@ -73,7 +73,7 @@ blocks_sent r t user hand d lists n s c h g k =
       home = dat;
       differ = subst (λ z. Differ (list_of lists z)) q (found-differ lists (has_serial s) d.unfinished u h.owned.differ found);
       count = h.owned.spans (next_place d.ring) n s c (let c1 : d.ring.cleared ≤ d.ring.published = h.sound.ring.cleared in let c2 : d.ring.published ≤ d.ring.dispatched = h.sound.ring.published in omega arith) g;
-      inside = both_in (λ b. b < d.settings.blocks) bs (every-both (λ b. is_among bs b ≡ true) (λ b. b < d.settings.blocks) bs (λ b m. every-among (λ y. y < d.settings.blocks) (held_by lists d.unfinished) b h.owned.below (held b m)) (own-among bs)) size r.blocks dat.here;
+      inside = both_in (λ b. b < d.settings.blocks) bs (every-weaker (λ b. is_among bs b ≡ true) (λ b. b < d.settings.blocks) bs (λ b m. among_every (λ y. y < d.settings.blocks) (held_by lists d.unfinished) b h.owned.below (held b m)) (every-among bs)) size r.blocks dat.here;
       held = held;
     }
   where

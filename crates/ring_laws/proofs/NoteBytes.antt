@@ -14,7 +14,7 @@ length-note_head : (kind count : ℕ) → length (note_head kind count) ≡ 32
 unfolding note_head
 length-note_head kind count = omega (lengths, length-entry_header 2 (tmr_length count) 0)
 
-length-ids : (ids : List ℕ) → length (ids_bytes ids) ≡ 2 * length ids
+pub length-ids : (ids : List ℕ) → length (ids_bytes ids) ≡ 2 * length ids
 length-ids [] = refl
 length-ids (id ∷ ids) =
     let rest : length (ids_bytes ids) ≡ 2 * length ids = length-ids ids in

@@ -5,13 +5,14 @@ use Rattle.std.specs.Option.{option_map}
 use Rattle.std.specs.List.{list_any}
 use Rattle.std.proofs.lemmas.Bool.{cases_Bool, eqb-true, eq-eqb, ne_eqb, false≢true, leb-true}
 use Rattle.std.proofs.lemmas.List.{length-map}
+use Rattle.std.proofs.Math.Seq.{take-append_seam}
 use Rattle.tcmu_types.specs.Data.{SettingsData}
 use Rattle.tcmu_types.specs.declared.answer.Tmr.{Tmr}
 use Rattle.tcmu_types.specs.declared.answer.Tmr.TheVariants as tmr
 use Rattle.tcmu_types.specs.Data.{CommandData}
 use Rattle.tcmu_model.specs.Lists.{first_of}
 use Rattle.tcmu_model.specs.Lengths.{block_size, blocks_of, tmr_length}
-use Rattle.tcmu_model.specs.RingState.{Item, Laid, lengths, head, used, free, need, pads, with_item, commands_in, is_command, serials_in}
+use Rattle.tcmu_model.specs.RingState.{RingState, Item, Laid, lengths, head, used, free, need, pads, with_item, commands_in, is_command, serials_in}
 use Rattle.tcmu_model.specs.RingState as ring
 use Rattle.tcmu_model.specs.Device.{Unfinished, DeviceState, has_serial}
 use Rattle.tcmu_model.specs.Events.{after_tmr, is_among, tmr_answer, tmr_length_of, unknown_serial, with_note}
@@ -21,11 +22,14 @@ use Rattle.tcmu_model.specs.Pending.{PendingData}
 use Rattle.tcmu_model.specs.Layout.{tmr_bytes}
 use Rattle.tcmu_model.specs.Picture.{place_of}
 use Rattle.tcmu_model.specs.Regions.{AreSized, RegionState}
-use Rattle.tcmu_model.proofs.Everies.{every-all, every-first}
-use Rattle.tcmu_model.proofs.Laying.{serials_laid}
+use Rattle.tcmu_model.proofs.Basics.{rows_among}
+use Rattle.tcmu_model.proofs.Everies.{every-all, every-first, every-map}
+use Rattle.tcmu_model.proofs.Laying.{serials-append, serials_laid}
+use Rattle.tcmu_model.proofs.Rises.{among_every}
 use Rattle.tcmu_model.proofs.SoundLaying.{tmr_sizes}
+use Rattle.tcmu_model.proofs.Standing.{any_among}
 use Rattle.tcmu_model.specs.Sides.{InHand, PendingRow, TargetState, UserState}
-use Rattle.tcmu_model.specs.Represents.{AreNoteIds, BlocksStand, IdsStand, IsId, IsNoteId, JobsStand, NotesStand, RingStands, TargetKeeps, UserKeeps, entry_at, has_id, id_at, id_of, ids_in, pending_of, recorded, row_has, serial_with}
+use Rattle.tcmu_model.specs.Represents.{AreNoteIds, BlocksStand, IdsStand, IsId, IsNoteId, JobsStand, NoteStands, NotesStand, RingStands, TargetKeeps, UserKeeps, entry_at, has_id, id_at, id_of, ids_in, pending_of, recorded, row_has, serial_with}
 use Rattle.tcmu_model.specs.TargetSteps.{fits_in, free_in, id_or_zero, ids_of, need_in, pad_in, pads_of, region_noted, target_noted, target_tmr_answer, unknown_in}
 use Rattle.tcmu_model.specs.Owned.{ListsSound}
 use Rattle.ring_laws.specs.Refused.{is_unnoted}
@@ -33,13 +37,12 @@ use Rattle.ring_laws.proofs.Agree.{Agrees, agrees}
 use Rattle.ring_laws.proofs.Held.{holds}
 use Rattle.ring_laws.proofs.Places.{laid_with, LaidCase, laid_case, Old, Padding, New, take-laid}
 use Rattle.ring_laws.proofs.LaidEntry.{entered, laid_in}
-use Rattle.ring_laws.proofs.LaidPoints.{SameEntries, jobs_laid, notes_laid, side_laid}
+use Rattle.ring_laws.proofs.LaidPoints.{SameEntries, jobs_laid, notes_laid, serials-pads, side_laid}
 use Rattle.ring_laws.proofs.SameJobs.{HasSame}
 use Rattle.ring_laws.proofs.RingLaid.{SameItems, new-entry, old-entry, ring-laid}
 use Rattle.ring_laws.proofs.Submit.{commands-append, front_same}
 use Rattle.ring_laws.proofs.Kept.{command_long, commands-pads, id-same}
 use Rattle.ring_laws.proofs.NoteBytes.{ids_again, length-note}
-use Rattle.ring_laws.proofs.TakenOut.{among_found}
 use Rattle.ring_laws.proofs.TargetAnswers.{Rooms, rooms}
 
 -- ==== which serials are known
@@ -113,37 +116,32 @@ first_there (e ∷ es) s h =
     (λ (z : eqb e.pending.serial s ≡ false). let g : list_any (row_has s) es ≡ true = rw z at h in let q = first_there es s g in (q.0, rw z q.1, q.2))
     (cases_Bool (eqb e.pending.serial s))
 
--- ids differ, so that a row is found by its id
-by_own_id : (rows : List PendingRow) (s : ℕ) (e : PendingRow) → Differ (map (λ (x : PendingRow). x.id) rows) → first_of (row_has s) rows ≡ Some e → first_of (has_id e.id) rows ≡ Some e
-by_own_id [] s e d h = absurd (cc)
-by_own_id (x ∷ xs) s e d h =
-    ⊎_elim
-    (λ (z : row_has s x ≡ true).
-    let g : Some x ≡ Some e = rw z at h in
-    let m : x ≡ e = cc in
-    let k : has_id e.id x ≡ true = eq-eqb x.id e.id (ap (λ (y : PendingRow). y.id) m) in
-    rw k g)
-    (λ (z : row_has s x ≡ false).
-    let g : first_of (row_has s) xs ≡ Some e = rw z at h in
-    let k : has_id e.id x ≡ false = ne_eqb x.id e.id (λ q. among_found xs s e x.id g d.0 (sym q)) in
-    rw k (by_own_id xs s e d.1 g))
-    (cases_Bool (row_has s x))
-
--- each id of a new note is held by its own serial
-own_ids : (rows : List PendingRow) (behind ss : List ℕ) → Differ (map (λ (x : PendingRow). x.id) rows) → unknown_in rows ss ≡ None → AreNoteIds rows behind ss (ids_of rows ss)
-own_ids rows behind [] d h = tt
-own_ids rows behind (s ∷ ss) d h =
+-- each serial of a new note has the id that it is named by
+own_ids : (rows : List PendingRow) (behind ss : List ℕ) → unknown_in rows ss ≡ None → AreNoteIds rows behind ss (ids_of rows ss)
+own_ids rows behind [] h = tt
+own_ids rows behind (s ∷ ss) h =
     ⊎_elim
     (λ (z : list_any (row_has s) rows ≡ true).
     let g : unknown_in rows ss ≡ None = rw z at h in
     let q = first_there rows s z in
-    let e : PendingRow = q.0 in
-    let k : serial_with rows e.id ≡ Some e.pending.serial = ap (option_map (λ (x : PendingRow). x.pending.serial)) (by_own_id rows s e d q.1) in
-    let i : e.id ≡ id_or_zero (first_of (row_has s) rows) = sym (ap id_or_zero q.1) in
-    let one : IsNoteId rows behind s e.id = inr (e.pending.serial, k, inl q.2) in
-    (subst (IsNoteId rows behind s) i one, own_ids rows behind ss d g))
+    let own : id_of rows s ≡ Some (id_or_zero (first_of (row_has s) rows)) = ap (option_map (λ (x : PendingRow). x.id)) q.1 ∙ sym (ap (λ o. Some (id_or_zero o)) q.1) in
+    (inl own, own_ids rows behind ss g))
     (λ (z : list_any (row_has s) rows ≡ false). let g : Some s ≡ None = rw z at h in absurd (cc))
     (cases_Bool (list_any (row_has s) rows))
+
+-- each serial of a new note is laid
+known_laid : (t : TargetState) (d : DeviceState) (lists : List Taken) (ss : List ℕ) → IsSound d → TargetKeeps t d lists → unknown_in t.rows ss ≡ None → Every (λ s. is_among (serials_in d.ring.laid) s ≡ true) ss
+known_laid t d lists [] sound keeps h = tt
+known_laid t d lists (s ∷ ss) sound keeps h =
+    ⊎_elim
+    (λ (z : list_any (row_has s) t.rows ≡ true).
+    let g : unknown_in t.rows ss ≡ None = rw z at h in
+    let there : is_among (map (λ (u : Unfinished). u.serial) d.unfinished) s ≡ true = sym (any_among s d.unfinished) ∙ sym (any_rows lists s t.rows d.unfinished keeps.rows) ∙ z in
+    let laid : Every (λ k. is_among (serials_in d.ring.laid) k ≡ true) (map (λ (u : Unfinished). u.serial) d.unfinished) =
+    every-map (λ (u : Unfinished). u.serial) (λ (u : Unfinished). is_among (serials_in d.ring.laid) u.serial ≡ true) (λ k. is_among (serials_in d.ring.laid) k ≡ true) d.unfinished (λ u k. k) (rows_among d sound.serials) in
+    (among_every (λ k. is_among (serials_in d.ring.laid) k ≡ true) (map (λ (u : Unfinished). u.serial) d.unfinished) s laid there, known_laid t d lists ss sound keeps g))
+    (λ (z : list_any (row_has s) t.rows ≡ false). let g : Some s ≡ None = rw z at h in absurd (cc))
+    (cases_Bool (list_any (row_has s) t.rows))
 
 ids_small : (rows : List PendingRow) (ss : List ℕ) → Every (λ (e : PendingRow). IsId e.id) rows → Every (λ id. id < 2 ^ 16) (ids_of rows ss)
 ids_small rows [] h = tt
@@ -249,32 +247,47 @@ ids_noted r t d lists kind ss sound shape ids keeps h =
 
 -- ==== the notes
 
-pub notes_noted : (r : RegionState) (t : TargetState) (d : DeviceState) (lists : List Taken) (kind : ℕ) (ss : List ℕ) →
-    IsSound d → RingStands r.front t.items d lists → IdsStand r.front t.rows d → NotesStand r.front t.rows d → TargetKeeps t d lists → tmr_answer d ss ≡ tmr.Noted →
-    NotesStand (region_noted r t kind ss tmr.Noted).front (target_noted t ss tmr.Noted).rows (after_tmr d kind ss tmr.Noted)
+-- the commands before a new item are all that are laid
+serials_before : (r : RingState) (it : Item) → serials_in (take (length (r.laid ++ pads (ring.pad r it.len))) (laid_with r it)) ≡ serials_in r.laid
+serials_before r it =
+    let p : List Item = pads (ring.pad r it.len) in
+    ap serials_in (take-append_seam (r.laid ++ p) (it ∷ [])) ∙ serials-append r.laid p ∙ ap (λ xs. serials_in r.laid ++ xs) (serials-pads (ring.pad r it.len)) ∙ append-nil (serials_in r.laid)
+
+pub notes_noted : (r : RegionState) (t : TargetState) (d : DeviceState) (lists : List Taken) (type_ : ℕ) (ss : List ℕ) →
+    IsSound d → RingStands r.front t.items d lists → IdsStand r.front t.rows d → NotesStand r.front t.rows d → TargetKeeps t d lists → type_ < 256 → tmr_answer d ss ≡ tmr.Noted →
+    NotesStand (region_noted r t type_ ss tmr.Noted).front (target_noted t ss tmr.Noted).rows (after_tmr d type_ ss tmr.Noted)
 unfolding target_noted after_tmr with_note
-notes_noted r t d lists kind ss sound shape ids notes keeps h =
-    let q : LaidNote r t d lists kind ss = laid_note r t d lists kind ss sound shape ids.range keeps h in
-    notes_laid r.front (region_noted r t kind ss tmr.Noted).front t.rows t.rows d (note_item kind ss) d.unfinished sound (entries_noted r t d lists kind ss sound shape q)
-    (λ behind s id k. subst (λ (xs : List ℕ). IsNoteId t.rows xs s id) (sym (append-nil behind)) k) (new_ids q) notes
+notes_noted r t d lists type_ ss sound shape ids notes keeps byte h =
+    let q : LaidNote r t d lists type_ ss = laid_note r t d lists type_ ss sound shape ids.range keeps h in
+    notes_laid r.front (region_noted r t type_ ss tmr.Noted).front t.rows t.rows d (note_item type_ ss) d.unfinished sound (entries_noted r t d lists type_ ss sound shape q)
+    (λ behind s id a k. subst (λ (xs : List ℕ). IsNoteId t.rows xs s id) (sym (append-nil behind)) k) (new_note q) notes
   where
-    new_ids : LaidNote r t d lists kind ss → (i n k : ℕ) (zs : List ℕ) → i ≡ length (d.ring.laid ++ pads (ring.pad d.ring (tmr_length_of ss))) → note_item kind ss ≡ record { len = n; laid = ring.Tmr k zs } →
-        AreNoteIds t.rows (serials_in (drop i (laid_with d.ring (note_item kind ss)))) zs (ids_in (length zs) 32 (entry_at (region_noted r t kind ss tmr.Noted).front (place_of (with_item d.ring (note_item kind ss)) i) n))
-    new_ids q i n k zs a e =
-        let it : Item = note_item kind ss in
-        let front' : List ℕ = (region_noted r t kind ss tmr.Noted).front in
+    new_note : LaidNote r t d lists type_ ss → (i n k : ℕ) (zs : List ℕ) → i ≡ length (d.ring.laid ++ pads (ring.pad d.ring (tmr_length_of ss))) → note_item type_ ss ≡ record { len = n; laid = ring.Tmr k zs } →
+        NoteStands t.rows (serials_in (take i (laid_with d.ring (note_item type_ ss)))) (serials_in (drop i (laid_with d.ring (note_item type_ ss)))) k zs
+        (ids_in (length zs) 32 (entry_at (region_noted r t type_ ss tmr.Noted).front (place_of (with_item d.ring (note_item type_ ss)) i) n))
+    new_note q i n k zs a e =
+        let it : Item = note_item type_ ss in
+        let front' : List ℕ = (region_noted r t type_ ss tmr.Noted).front in
         let j : ℕ = length (d.ring.laid ++ pads (ring.pad d.ring (tmr_length_of ss))) in
         let there : entry_at front' (place_of (with_item d.ring it) j) (tmr_length_of ss) ≡ q.bytes =
         ap (λ f. entry_at f (place_of (with_item d.ring it) j) (tmr_length_of ss)) q.front ∙ new-entry r.front d it q.bytes shape.long (holds d sound) q.within q.len in
+        let before : List ℕ = serials_in (take i (laid_with d.ring it)) in
         let behind : List ℕ = serials_in (drop i (laid_with d.ring it)) in
+        let all : before ≡ serials_in d.ring.laid = ap (λ z. serials_in (take z (laid_with d.ring it))) a ∙ serials_before d.ring it in
         let read : ids_in (length ss) 32 (entry_at front' (place_of (with_item d.ring it) i) (tmr_length_of ss)) ≡ ids_of t.rows ss =
         ap (λ z. ids_in (length ss) 32 (entry_at front' (place_of (with_item d.ring it) z) (tmr_length_of ss))) a ∙ ap (ids_in (length ss) 32) there ∙ q.ids in
-        let mine : AreNoteIds t.rows behind ss (ids_in (length ss) 32 (entry_at front' (place_of (with_item d.ring it) i) (tmr_length_of ss))) = subst (AreNoteIds t.rows behind ss) (sym read) (own_ids t.rows behind ss ids.differ q.known) in
+        let mine : NoteStands t.rows before behind type_ ss (ids_in (length ss) 32 (entry_at front' (place_of (with_item d.ring it) i) (tmr_length_of ss))) = record {
+          byte = byte;
+          earlier = subst (λ (xs : List ℕ). Every (λ s. is_among xs s ≡ true) ss) (sym all) (known_laid t d lists ss sound keeps q.known);
+          named = subst (AreNoteIds t.rows behind ss) (sym read) (own_ids t.rows behind ss q.known);
+        } in
         let l : tmr_length_of ss ≡ n = ap (λ (y : Item). y.len) e in
-        let z : ring.Tmr kind ss ≡ ring.Tmr k zs = ap (λ (y : Item). y.laid) e in
+        let z : ring.Tmr type_ ss ≡ ring.Tmr k zs = ap (λ (y : Item). y.laid) e in
         let s : ss ≡ zs = cc in
-        subst (λ m. AreNoteIds t.rows behind zs (ids_in (length zs) 32 (entry_at front' (place_of (with_item d.ring it) i) m))) l
-        (subst (λ (ys : List ℕ). AreNoteIds t.rows behind ys (ids_in (length ys) 32 (entry_at front' (place_of (with_item d.ring it) i) (tmr_length_of ss)))) s mine)
+        let kind : type_ ≡ k = cc in
+        subst (λ m. NoteStands t.rows before behind k zs (ids_in (length zs) 32 (entry_at front' (place_of (with_item d.ring it) i) m))) l
+        (subst (λ (ys : List ℕ). NoteStands t.rows before behind k ys (ids_in (length ys) 32 (entry_at front' (place_of (with_item d.ring it) i) (tmr_length_of ss)))) s
+        (subst (λ (y : ℕ). NoteStands t.rows before behind y ss (ids_in (length ss) 32 (entry_at front' (place_of (with_item d.ring it) i) (tmr_length_of ss)))) kind mine))
 
 -- ==== what the region's front does not say
 

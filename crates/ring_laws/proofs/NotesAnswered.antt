@@ -2,7 +2,7 @@
 use Rattle.std.proofs.Common.{◌≡◌, ℕ, ◌≤◌, ◌⊎◌, ◌&&◌, Bool, true, false, not, List, [], ◌∷◌, ◌++◌, take, drop, map, filter, refl, sym, ap, ◌∙◌, arith, Option, Some, None, subst, ⊎_elim, eqb}
 use Rattle.std.specs.Bool.{MatchBool}
 use Rattle.std.specs.List.{list_any}
-use Rattle.std.specs.Option.{is_some, option_map}
+use Rattle.std.specs.Option.{is_some}
 use Rattle.std.proofs.lemmas.Bool.{cases_Bool, eqb-true, eq-eqb, ne_eqb, false≢true, true≢false, or_left, or_right, and_parts}
 use Rattle.std.proofs.lemmas.List.{take-take}
 use Rattle.tcmu_types.specs.Data.{SettingsData}
@@ -17,36 +17,19 @@ use Rattle.tcmu_model.specs.Sound.{Every, Differ, IsSound, dispatched_serials}
 use Rattle.tcmu_model.specs.BlockLists.{Taken}
 use Rattle.tcmu_model.specs.Regions.{RegionState}
 use Rattle.tcmu_model.specs.Sides.{GivenJob, InHand, Parked, PendingRow, TargetState, UserState}
-use Rattle.tcmu_model.specs.Represents.{AreGiven, AreNoteIds, IsJobOf, IsNoteId, has_id, id_of, row_has, serial_with}
+use Rattle.tcmu_model.specs.Represents.{AreGiven, AreNoteIds, IsJobOf, IsLeftOver, IsNoteId, NoteStands, id_of, serial_with}
 use Rattle.tcmu_model.specs.UserSteps.{is_open_job}
 use Rattle.tcmu_model.proofs.Basics.{laid_rise, serials_split, among_more}
 use Rattle.tcmu_model.proofs.Counts.{state_at, serial_at, state_same}
 use Rattle.tcmu_model.proofs.Everies.{every-filter, every-passes, every-both, every-weaker}
 use Rattle.tcmu_model.proofs.Facts.{waiting_undispatched}
-use Rattle.ring_laws.specs.Dispatched.{CanDispatch, HaveOwnIds, NotesName}
+use Rattle.ring_laws.specs.Dispatched.{CanDispatch}
 use Rattle.ring_laws.proofs.AnswerBlocks.{differ-split}
 use Rattle.ring_laws.proofs.Nexts.{ids_at}
+use Rattle.ring_laws.proofs.NoteIds.{serial_under}
 use Rattle.ring_laws.proofs.Numbered.{rise_differ}
-use Rattle.ring_laws.proofs.RespondedJobs.{id_among, some_same, unmatched}
-
--- ==== the serial under an id
-
-serial_under : (rows : List PendingRow) (q id : ℕ) → Differ (map (λ (e : PendingRow). e.id) rows) → id_of rows q ≡ Some id → serial_with rows id ≡ Some q
-serial_under [] q id d h = absurd (cc)
-serial_under (e ∷ rows) q id d h =
-    ⊎_elim
-    (λ (k : row_has q e ≡ true).
-    let g : option_map (λ (r : PendingRow). r.id) (Some e) ≡ Some id = rw k at h in
-    let i : e.id ≡ id = cc in
-    let z : has_id id e ≡ true = eq-eqb e.id id i in
-    let s : e.pending.serial ≡ q = eqb-true e.pending.serial q k in
-    rw z (ap Some s))
-    (λ (k : row_has q e ≡ false).
-    let g : id_of rows q ≡ Some id = rw k at h in
-    let there : is_among (map (λ (x : PendingRow). x.id) rows) id ≡ true = id_among rows q id g in
-    let z : has_id id e ≡ false = ne_eqb e.id id (λ i. true≢false (sym there ∙ subst (λ (y : ℕ). is_among (map (λ (x : PendingRow). x.id) rows) y ≡ false) i d.0)) in
-    rw z (serial_under rows q id d.1 g))
-    (cases_Bool (row_has q e))
+use Rattle.ring_laws.proofs.RespondedJobs.{some_same}
+use Rattle.ring_laws.proofs.Matched.{unmatched}
 
 -- ==== an open job is of a command that is running
 
@@ -188,8 +171,8 @@ record Agrees (rows : List PendingRow) (gs : List GivenJob) (us : List Unfinishe
   named : is_running us s ≡ true → id_of rows s ≡ Some id
 
 agree : (d : DeviceState) (rows : List PendingRow) (lists : List Taken) (gs : List GivenJob) (i s id : ℕ) → IsSound d → d.ring.dispatched ≤ i → Differ (map (λ (e : PendingRow). e.id) rows) → AreGiven d.settings rows lists gs (filter is_in_hand d.unfinished) →
-    IsNoteId rows (serials_in (drop i d.ring.laid)) s id → (id_of rows s ≡ None) ⊎ (id_of rows s ≡ Some id) → Agrees rows gs d.unfinished s id
-agree d rows lists gs i s id sound l differ given note own =
+    IsNoteId rows (serials_in (drop i d.ring.laid)) s id → Agrees rows gs d.unfinished s id
+agree d rows lists gs i s id sound l differ given note =
     record {
       same =
           ⊎_elim
@@ -209,7 +192,10 @@ agree d rows lists gs i s id sound l differ given note own =
     mine : is_running d.unfinished s ≡ true → id_of rows s ≡ Some id
     mine k =
         let j : JobOpen rows gs s = open_running d.settings rows lists s gs d.unfinished given k in
-        ⊎_elim (λ (n : id_of rows s ≡ None). let w : None ≡ Some j.id = sym n ∙ j.named in absurd (cc)) (λ (m : id_of rows s ≡ Some id). m) own
+        ⊎_elim
+        (λ (m : id_of rows s ≡ Some id). m)
+        (λ (n : (id_of rows s ≡ None) × IsLeftOver rows (serials_in (drop i d.ring.laid)) id). let w : None ≡ Some j.id = sym n.0 ∙ j.named in absurd (cc))
+        note
 
     runs : list_any (is_open_job id) gs ≡ true → is_running d.unfinished s ≡ true
     runs o =
@@ -223,27 +209,29 @@ agree d rows lists gs i s id sound l differ given note own =
         let first : is_among D' u.serial ≡ true = among_more d.ring.dispatched (take i d.ring.laid) u.serial (ap (λ xs. is_among (serials_in xs) u.serial) cut ∙ f.holds.dispatched) in
         let apart : Differ (D' ++ serials_in (drop i d.ring.laid)) = subst Differ (sym (serials_split i d.ring.laid)) (rise_differ 0 (serials_in d.ring.laid) d.accepted (laid_rise d sound.serials)) in
         ⊎_elim
-        (λ (n : serial_with rows id ≡ None). let w : None ≡ Some u.serial = sym n ∙ under in absurd (cc))
-        (λ (m : (t : ℕ) × (serial_with rows id ≡ Some t) × ((t ≡ s) ⊎ (is_among (serials_in (drop i d.ring.laid)) t ≡ true))).
-        let q : m.0 ≡ u.serial = some_same m.0 u.serial (sym m.1 ∙ under) in
+        (λ (m : id_of rows s ≡ Some id).
+        let q : s ≡ u.serial = some_same s u.serial (sym (serial_under rows s id differ m) ∙ under) in
+        ap (is_running d.unfinished) q ∙ k)
+        (λ (n : (id_of rows s ≡ None) × IsLeftOver rows (serials_in (drop i d.ring.laid)) id).
         ⊎_elim
-        (λ (e : m.0 ≡ s). ap (is_running d.unfinished) (sym e ∙ q) ∙ k)
-        (λ (b : is_among (serials_in (drop i d.ring.laid)) m.0 ≡ true).
-        let b' : is_among (serials_in (drop i d.ring.laid)) u.serial ≡ true = ap (is_among (serials_in (drop i d.ring.laid))) (sym q) ∙ b in
-        absurd (false≢true (sym (differ-split D' (serials_in (drop i d.ring.laid)) u.serial apart b') ∙ first)))
-        m.2)
+        (λ (z : serial_with rows id ≡ None). let w : None ≡ Some u.serial = sym z ∙ under in absurd (cc))
+        (λ (m : (t : ℕ) × (serial_with rows id ≡ Some t) × (is_among (serials_in (drop i d.ring.laid)) t ≡ true)).
+        let q : m.0 ≡ u.serial = some_same m.0 u.serial (sym m.1 ∙ under) in
+        let b : is_among (serials_in (drop i d.ring.laid)) u.serial ≡ true = ap (is_among (serials_in (drop i d.ring.laid))) (sym q) ∙ m.2 in
+        absurd (false≢true (sym (differ-split D' (serials_in (drop i d.ring.laid)) u.serial apart b) ∙ first)))
+        n.1)
         note
 
 -- ==== all of them
 
 all_agree : (d : DeviceState) (rows : List PendingRow) (lists : List Taken) (gs : List GivenJob) (i : ℕ) (ss ids : List ℕ) → IsSound d → d.ring.dispatched ≤ i → Differ (map (λ (e : PendingRow). e.id) rows) → AreGiven d.settings rows lists gs (filter is_in_hand d.unfinished) →
-    AreNoteIds rows (serials_in (drop i d.ring.laid)) ss ids → HaveOwnIds rows ss ids → map Some (filter (λ id. list_any (is_open_job id) gs) ids) ≡ map (id_of rows) (filter (is_running d.unfinished) ss)
-all_agree d rows lists gs i [] [] sound l differ given notes own = refl
-all_agree d rows lists gs i [] (id ∷ ids) sound l differ given notes own = absurd notes
-all_agree d rows lists gs i (s ∷ ss) [] sound l differ given notes own = absurd notes
-all_agree d rows lists gs i (s ∷ ss) (id ∷ ids) sound l differ given notes own =
-    let a : Agrees rows gs d.unfinished s id = agree d rows lists gs i s id sound l differ given notes.0 own.0 in
-    let rest : map Some (filter (λ id. list_any (is_open_job id) gs) ids) ≡ map (id_of rows) (filter (is_running d.unfinished) ss) = all_agree d rows lists gs i ss ids sound l differ given notes.1 own.1 in
+    AreNoteIds rows (serials_in (drop i d.ring.laid)) ss ids → map Some (filter (λ id. list_any (is_open_job id) gs) ids) ≡ map (id_of rows) (filter (is_running d.unfinished) ss)
+all_agree d rows lists gs i [] [] sound l differ given notes = refl
+all_agree d rows lists gs i [] (id ∷ ids) sound l differ given notes = absurd notes
+all_agree d rows lists gs i (s ∷ ss) [] sound l differ given notes = absurd notes
+all_agree d rows lists gs i (s ∷ ss) (id ∷ ids) sound l differ given notes =
+    let a : Agrees rows gs d.unfinished s id = agree d rows lists gs i s id sound l differ given notes.0 in
+    let rest : map Some (filter (λ id. list_any (is_open_job id) gs) ids) ≡ map (id_of rows) (filter (is_running d.unfinished) ss) = all_agree d rows lists gs i ss ids sound l differ given notes.1 in
     ⊎_elim
     (λ (k : is_running d.unfinished s ≡ true).
     let o : list_any (is_open_job id) gs ≡ true = a.same ∙ k in
@@ -252,10 +240,13 @@ all_agree d rows lists gs i (s ∷ ss) (id ∷ ids) sound l differ given notes o
     (λ (k : is_running d.unfinished s ≡ false). let o : list_any (is_open_job id) gs ≡ false = a.same ∙ k in rw (k, o) rest)
     (cases_Bool (is_running d.unfinished s))
 
-pub notes_answered : (r : RegionState) (t : TargetState) (user : UserState) (hand : List InHand) (d : DeviceState) (lists : List Taken) (n kind : ℕ) (ss : List ℕ) → CanDispatch r t user hand d lists → NotesName r.front t.rows d →
-    next_item d ≡ Some (record { len = n; laid = ring.Tmr kind ss }) →
+pub note_there : (r : RegionState) (t : TargetState) (user : UserState) (hand : List InHand) (d : DeviceState) (lists : List Taken) (n type_ : ℕ) (ss : List ℕ) → CanDispatch r t user hand d lists →
+    next_item d ≡ Some (record { len = n; laid = ring.Tmr type_ ss }) →
+    NoteStands t.rows (serials_in (take (next_place d.ring) d.ring.laid)) (serials_in (drop (next_place d.ring) d.ring.laid)) type_ ss (ids_at r d n ss)
+note_there r t user hand d lists n type_ ss h g = h.notes (next_place d.ring) n type_ ss (omega arith) g
+
+pub notes_answered : (r : RegionState) (t : TargetState) (user : UserState) (hand : List InHand) (d : DeviceState) (lists : List Taken) (n type_ : ℕ) (ss : List ℕ) → CanDispatch r t user hand d lists →
+    next_item d ≡ Some (record { len = n; laid = ring.Tmr type_ ss }) →
     map Some (filter (λ id. list_any (is_open_job id) user.jobs) (ids_at r d n ss)) ≡ map (id_of t.rows) (filter (is_running d.unfinished) ss)
-notes_answered r t user hand d lists n kind ss h names g =
-    let i : ℕ = next_place d.ring in
-    let l : d.ring.dispatched ≤ i = omega arith in
-    all_agree d t.rows lists user.jobs i ss (ids_at r d n ss) h.sound l h.ids.differ h.jobs.given (h.notes i n kind ss l g) (names i n kind ss l g)
+notes_answered r t user hand d lists n type_ ss h g =
+    all_agree d t.rows lists user.jobs (next_place d.ring) ss (ids_at r d n ss) h.sound (omega arith) h.ids.differ h.jobs.given (note_there r t user hand d lists n type_ ss h g).named

@@ -15,7 +15,8 @@ use Rattle.tcmu_model.specs.Represents.{command_places}
 use Rattle.ring_laws.specs.Placed.{HoldsItems, CanAnswer}
 use Rattle.ring_laws.proofs.Held.{holds}
 use Rattle.ring_laws.proofs.Kept.{command_long}
-use Rattle.ring_laws.proofs.Places.{apart_in_ring, slice_get-left, ends_within, used_is, lengths_more}
+use Rattle.ring_laws.proofs.Places.{apart_in_ring, ends_within, used_is, lengths_more}
+use Rattle.tcmu_types.proofs.Places.{get_append_left}
 
 -- ==== what placing an answer rests on
 
@@ -137,7 +138,7 @@ next-entry d sound h =
     let lf : length front ≡ d.ring.dispatched = length-take-le d.ring.dispatched d.ring.laid sound.dispatched in
     let tk : take n.index front ≡ take n.index d.ring.laid = take-take n.index d.ring.dispatched d.ring.laid (omega arith) in
     let there : slice_get d.ring.laid n.index ≡ Some n.item =
-    ap (λ xs. slice_get xs n.index) (sym (take-append-drop d.ring.dispatched d.ring.laid)) ∙ slice_get-left front (drop d.ring.dispatched d.ring.laid) n.index w ∙ n.there in
+    ap (λ xs. slice_get xs n.index) (sym (take-append-drop d.ring.dispatched d.ring.laid)) ∙ get_append_left front (drop d.ring.dispatched d.ring.laid) n.index w ∙ n.there in
     let before : commands_in (take n.index d.ring.laid) ≡ length d.placed = ap commands_in (sym tk) ∙ n.before in
     record {
       index = n.index;

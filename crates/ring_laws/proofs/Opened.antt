@@ -12,21 +12,11 @@ use Rattle.tcmu_model.specs.TargetSteps.{opening_target}
 use Rattle.tcmu_model.specs.UserSteps.{flags_in, opening_user}
 use Rattle.tcmu_model.specs.Owned.{ListsSound}
 use Rattle.tcmu_model.specs.Represents.{Represents}
+use Rattle.tcmu_model.proofs.Written.{length-padded}
 
 pub length-mailbox : (m : Mailbox) → ◌≡◌ {A = ℕ} (length (mailbox_bytes m)) 128
 unfolding le zeros mailbox_bytes
 length-mailbox m = refl
-
-pub length-zeros : (n : ℕ) → length (zeros n) ≡ n
-unfolding zeros
-length-zeros n = length-replicate n 0
-
-pub length-padded : (n : ℕ) (xs : List ℕ) → length xs ≤ n → length (padded n xs) ≡ n
-unfolding padded
-length-padded n xs h =
-    let a : length (xs ++ zeros (n - length xs)) ≡ length xs + length (zeros (n - length xs)) = length-append xs (zeros (n - length xs)) in
-    let b : length (zeros (n - length xs)) ≡ n - length xs = length-zeros (n - length xs) in
-    a ∙ (let q : length xs + length (zeros (n - length xs)) ≡ n = omega arith in q)
 
 pub take-padded : (n k : ℕ) (xs : List ℕ) → length xs ≡ k → take k (padded n xs) ≡ xs
 unfolding padded

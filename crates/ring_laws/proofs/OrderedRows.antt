@@ -14,7 +14,7 @@ use Rattle.tcmu_model.specs.Sound.{IsSound, Every, Rise, dispatched_serials, fin
 use Rattle.tcmu_model.proofs.Basics.{laid_rise, serials_split}
 use Rattle.tcmu_model.proofs.Counts.{state_at, state_is}
 use Rattle.tcmu_model.proofs.Everies.{every-back, every-both, every-filter, every-front, every-mapped, every-none, every-weaker, filter_all}
-use Rattle.tcmu_model.proofs.Facts.{waiting_undispatched}
+use Rattle.tcmu_model.proofs.Facts.{apart_behind, waiting_undispatched}
 use Rattle.tcmu_model.proofs.Rises.{among-take, among_every, every-among, not_among, rise_from, rise_seam, rise_within}
 use Rattle.tcmu_model.proofs.Standing.{answered_rows, in_hand_rows}
 use Rattle.ring_laws.specs.Placed.{parked_in}
@@ -25,18 +25,6 @@ use Rattle.ring_laws.proofs.PlacedAnswers.{serials_turned}
 pub rise_back : (low : ℕ) (xs ys : List ℕ) (high : ℕ) → Rise low (xs ++ ys) high → Rise low ys high
 rise_back low [] ys high r = r
 rise_back low (x ∷ xs) ys high r = rise_from x low ys high (omega (arith, r.0)) (rise_back x xs ys high r.1)
-
--- none of the back stands in front
-apart_from : (low : ℕ) (xs ys : List ℕ) (high : ℕ) → Rise low (xs ++ ys) high → Every (λ y. is_among xs y ≡ false) ys
-apart_from low xs [] high r = tt
-apart_from low xs (y ∷ ys) high r =
-    let s = rise_seam low xs y ys high r in
-    (not_among xs y s.0, further xs y ys high (every-weaker (λ x. x < y) (λ x. x ≤ y) xs (λ x l. omega (arith, l)) s.0) s.2)
-  where
-    further : (xs : List ℕ) (low : ℕ) (ys : List ℕ) (high : ℕ) → Every (λ x. x ≤ low) xs → Rise low ys high → Every (λ y. is_among xs y ≡ false) ys
-    further xs low [] high e r = tt
-    further xs low (y ∷ ys) high e r =
-        (not_among xs y (every-weaker (λ x. x ≤ low) (λ x. x < y) xs (λ x l. omega (arith, l, r.0)) e), further xs y ys high (every-weaker (λ x. x ≤ low) (λ x. x ≤ y) xs (λ x l. omega (arith, l, r.0)) e) r.1)
 
 -- behind one that is not in front none is
 later_not : (low : ℕ) (xs ys : List ℕ) (high a b : ℕ) → Rise low (xs ++ ys) high → is_among xs a ≡ false → is_among (xs ++ ys) a ≡ true → a < b → is_among xs b ≡ false
@@ -142,7 +130,7 @@ in_order d h a o =
     let D : List ℕ = dispatched_serials d.ring in
     let rising : Rise 0 laid d.accepted = laid_rise d h.serials in
     let r : Rise 0 (d.placed ++ rest) d.accepted = subst (λ (xs : List ℕ). Rise 0 xs d.accepted) b.1 rising in
-    let apart : Every (λ y. is_among d.placed y ≡ false) rest = apart_from 0 d.placed rest d.accepted r in
+    let apart : Every (λ y. is_among d.placed y ≡ false) rest = apart_behind 0 d.placed rest d.accepted r in
     let kept : Every (λ y. keep y ≡ true) rest = every-weaker (λ y. is_among d.placed y ≡ false) (λ y. keep y ≡ true) rest (λ y k. ap not (among-take (cleared_commands d.ring) d.placed y k)) apart in
     let e : map serial d.unfinished ≡ filter keep d.placed ++ rest =
     h.serials.order ∙ ap (filter keep) b.1 ∙ filter-append keep d.placed rest ∙ ap (λ ys. filter keep d.placed ++ ys) (filter_all keep rest kept) in

@@ -25,6 +25,7 @@ use Rattle.ring_laws.proofs.AnswerBytes.{turned-found}
 use Rattle.ring_laws.proofs.AnswerBlocks.{can_fill}
 use Rattle.ring_laws.proofs.Numbered.{can_answer}
 use Rattle.ring_laws.proofs.TakenOut.{none_at}
+use Rattle.ring_laws.proofs.Matched.{matched}
 
 -- ==== a command whose state turns
 
@@ -104,10 +105,6 @@ ids_parked front rows d s h = record { range = h.range; differ = h.differ; answe
 
 pub notes_parked : (front : List ℕ) (rows : List PendingRow) (d : DeviceState) (s : ℕ) → NotesStand front rows d → NotesStand front rows (parked_in d s)
 notes_parked front rows d s h = h
-
-pub matched : (b : Bool) (P Q : Type 0) → b ≡ true → MatchBool b P Q → P
-matched true P Q e h = h
-matched false P Q e h = absurd (false≢true e)
 
 pub blocks_parked : (area : List (Option (List ℕ))) (d : DeviceState) (lists : List Taken) (s : ℕ) → BlocksStand area d lists → BlocksStand area (parked_in d s) lists
 blocks_parked area d lists s h =

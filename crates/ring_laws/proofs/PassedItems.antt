@@ -29,7 +29,7 @@ use Rattle.ring_laws.proofs.CleanedOne.{take-next, next-place}
 use Rattle.ring_laws.proofs.EntriesThere.{IsThere, pad_there}
 use Rattle.ring_laws.proofs.Held.{holds}
 use Rattle.ring_laws.proofs.MailboxThere.{mailbox_of, device_mailbox_there}
-use Rattle.ring_laws.proofs.Places.{ends_within, used_is, lengths_more, lengths-append}
+use Rattle.ring_laws.proofs.Places.{ends_within, used_is, lengths_more, lengths-append, get-dropped}
 
 -- ==== how far an item may reach
 
@@ -192,11 +192,6 @@ pads_front (x ∷ xs) j h =
         (len : ℕ) × (slice_get (x ∷ xs) j ≡ Some (record { len = len; laid = ring.Pad }))
     first zero h p more = (x.len, ap (λ (l : Laid). Some (record { len = x.len; laid = l })) p)
     first (suc j) h p more = more j (omega arith)
-
-pub get-dropped : {X : Type 0} (xs : List X) (i j : ℕ) → slice_get xs (i + j) ≡ slice_get (drop i xs) j
-get-dropped xs zero j = let z : 0 + j ≡ j = omega arith in ap (slice_get xs) z
-get-dropped [] (suc i) j = refl
-get-dropped (x ∷ xs) (suc i) j = let z : suc i + j ≡ suc (i + j) = omega arith in ap (slice_get (x ∷ xs)) z ∙ get-dropped xs i j
 
 eights : (s : SettingsData) (start : ℕ) (is : List Item) → Along (IsItem s) start is → Every (λ (x : Item). 8 ≤ x.len) is
 eights s start [] h = tt

@@ -16,13 +16,13 @@ use Rattle.tcmu_model.specs.Regions.{RegionState}
 use Rattle.tcmu_model.specs.Picture.{place_of, told_length}
 use Rattle.tcmu_model.specs.Sides.{Recorded, PendingRow, TargetState, UserState, GivenJob, Carried}
 use Rattle.tcmu_model.specs.Sides as sides
-use Rattle.tcmu_model.specs.Represents.{AreNoteIds, RingStands, IdsStand, NotesStand, IsId, entry_at, ids_in, TargetKeeps, UserKeeps, pending_of, id_of, row_has, command_places}
+use Rattle.tcmu_model.specs.Represents.{NoteStands, RingStands, IdsStand, NotesStand, IsId, entry_at, ids_in, TargetKeeps, UserKeeps, pending_of, id_of, row_has, command_places}
 use Rattle.tcmu_model.specs.UserSteps.{Placing, placed_at, placed_one, with_payload}
 use Rattle.ring_laws.specs.Placed.{CanAnswer, CanPlace, placed_in}
 use Rattle.ring_laws.proofs.Numbered.{NextEntry, next-entry}
 use Rattle.ring_laws.proofs.AnswerBytes.{place-ring, place-ids, found-at, other-kept, answer_into}
 
-drop-at : {X : Type 0} (xs : List X) (i : ℕ) (x : X) → slice_get xs i ≡ Some x → drop i xs ≡ x ∷ drop (suc i) xs
+pub drop-at : {X : Type 0} (xs : List X) (i : ℕ) (x : X) → slice_get xs i ≡ Some x → drop i xs ≡ x ∷ drop (suc i) xs
 drop-at [] i x h = absurd (cc)
 drop-at (y ∷ xs) zero x h = cc
 drop-at (y ∷ xs) (suc i) x h = drop-at xs i x h
@@ -162,13 +162,13 @@ can_placed d s can =
 -- no note stands in the entry of an answer
 pub notes_placed : (r : RegionState) (user : UserState) (items : List Recorded) (rows : List PendingRow) (d : DeviceState) (lists : List Taken) (s : ℕ) (u : Unfinished) (p : sides.Parked) (parts : List (List ℕ)) (rest : List GivenJob) →
     CanAnswer d → RingStands r.front items d lists → CanPlace user rows d lists s u p parts → NotesStand r.front rows d → NotesStand (placed_one (placing_of r user) p rest).region.front rows (placed_in d s)
-notes_placed r user items rows d lists s u p parts rest can stands place notes = λ j n kind ss l g.
+notes_placed r user items rows d lists s u p parts rest can stands place notes = λ j n type_ ss l g.
     let i : Into user d = goes_into user rows d lists s u p parts can place in
     let c1 : d.ring.cleared ≤ d.ring.published = can.cleared in
     let c2 : d.ring.published ≤ d.ring.dispatched = can.published in
     let late : d.ring.dispatched ≤ j = l in
     let early : i.entry.index < d.ring.dispatched = i.entry.dispatched in
     let same : entry_at (answer_into r.front d (place_of d.ring i.entry.index) p.job.id u p.reply) (place_of d.ring j) n ≡ entry_at r.front (place_of d.ring j) n =
-    other-kept r.front d p.job.id u p.reply i.entry.index j i.entry.item (record { len = n; laid = ring.Tmr kind ss }) can stands.long i.entry.uncleared (omega arith) i.entry.there g i.entry.command (λ q. absurd (omega arith)) in
-    subst (λ (e : List ℕ). AreNoteIds rows (serials_in (drop j d.ring.laid)) ss (ids_in (length ss) 32 e))
-    (sym (ap (λ z. entry_at z (place_of d.ring j) n) (front_answered r user rows d lists s u p parts rest place i) ∙ same)) (notes j n kind ss l g)
+    other-kept r.front d p.job.id u p.reply i.entry.index j i.entry.item (record { len = n; laid = ring.Tmr type_ ss }) can stands.long i.entry.uncleared (omega arith) i.entry.there g i.entry.command (λ q. absurd (omega arith)) in
+    subst (λ (e : List ℕ). NoteStands rows (serials_in (take j d.ring.laid)) (serials_in (drop j d.ring.laid)) type_ ss (ids_in (length ss) 32 e))
+    (sym (ap (λ z. entry_at z (place_of d.ring j) n) (front_answered r user rows d lists s u p parts rest place i) ∙ same)) (notes j n type_ ss l g)

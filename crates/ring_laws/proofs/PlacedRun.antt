@@ -25,9 +25,8 @@ use Rattle.tcmu_model.specs.UserSteps.{Placing, placed_at, placed_front, placed_
 use Rattle.ring_laws.specs.Placed.{CanAnswer, CanFill, CanPlace, placed_in}
 use Rattle.ring_laws.proofs.AnswerBlocks.{fill_placed}
 use Rattle.ring_laws.proofs.OrderedRows.{InOrder, not_parked, turned-behind}
-use Rattle.ring_laws.proofs.ParkedKept.{matched}
 use Rattle.ring_laws.proofs.PlacedAnswers.{Into, can_placed, goes_into, offsets_placed, placing_of}
-use Rattle.ring_laws.proofs.RespondedJobs.{unmatched}
+use Rattle.ring_laws.proofs.Matched.{matched, unmatched}
 
 -- ==== lists
 

@@ -6,6 +6,7 @@ use Rattle.std.proofs.lemmas.List.{take_at, take-append-le, take-append-drop, ta
 use Rattle.std.proofs.lemmas.List.Sums.{sum_by-append, sum_by-take-le, sum_by-cons}
 use Rattle.tcmu_model.specs.RingState.{RingState, Item, Laid, lengths, head, used, free, need, pads, with_item, commands_in, is_command}
 use Rattle.tcmu_model.specs.RingState as ring
+use Rattle.tcmu_types.proofs.Places.{get_append_left}
 
 -- two stretches of a ring of n bytes, whole and no further than n from the first one's start to the second one's end, do not meet
 pub apart_in_ring : (n p a q b : ℕ) → 0 < n → p + a ≤ q → q + b ≤ p + n → p % n + a ≤ n → q % n + b ≤ n → (p % n + a ≤ q % n) ⊎ (q % n + b ≤ p % n)
@@ -15,14 +16,14 @@ apart_in_ring n p a q b z h k v w =
     (λ (l : q / n ≤ p / n). let m : n * (q / n) ≤ n * (p / n) = mul-le-mul_left n l in inl (omega arith))
     (cases_lt (p / n) (q / n))
 
-pub slice_get-left : {X : Type 0} (xs ys : List X) (i : ℕ) → i < length xs → slice_get (xs ++ ys) i ≡ slice_get xs i
-slice_get-left [] ys i h = absurd (omega arith)
-slice_get-left (x ∷ xs) ys zero h = refl
-slice_get-left (x ∷ xs) ys (suc i) h = slice_get-left xs ys i (omega arith)
-
 pub slice_get-right : {X : Type 0} (xs ys : List X) (i : ℕ) → slice_get (xs ++ ys) (length xs + i) ≡ slice_get ys i
 slice_get-right [] ys i = let e : 0 + i ≡ i = omega arith in ap (slice_get ys) e
 slice_get-right (x ∷ xs) ys i = let e : suc (length xs) + i ≡ suc (length xs + i) = omega arith in ap (slice_get (x ∷ (xs ++ ys))) e ∙ slice_get-right xs ys i
+
+pub get-dropped : {X : Type 0} (xs : List X) (i j : ℕ) → slice_get xs (i + j) ≡ slice_get (drop i xs) j
+get-dropped xs zero j = let z : 0 + j ≡ j = omega arith in ap (slice_get xs) z
+get-dropped [] (suc i) j = refl
+get-dropped (x ∷ xs) (suc i) j = let z : suc i + j ≡ suc (i + j) = omega arith in ap (slice_get (x ∷ xs)) z ∙ get-dropped xs i j
 
 -- ==== what is laid
 
@@ -57,11 +58,11 @@ laid_case r it i x h =
     ⊎_elim
     (λ (l : i < length r.laid).
     let m : i < length (r.laid ++ pads n) = let e : length (r.laid ++ pads n) ≡ length r.laid + length (pads n) = length-append r.laid (pads n) in omega arith in
-    Old l (sym (slice_get-left r.laid (pads n) i l) ∙ sym (slice_get-left (r.laid ++ pads n) (it ∷ []) i m) ∙ h))
+    Old l (sym (get_append_left r.laid (pads n) i l) ∙ sym (get_append_left (r.laid ++ pads n) (it ∷ []) i m) ∙ h))
     (λ (l : length r.laid ≤ i).
     ⊎_elim
     (λ (m : i < length (r.laid ++ pads n)).
-    let g : slice_get (pads n) (i - length r.laid) ≡ Some x = behind r.laid (pads n) i x l (sym (slice_get-left (r.laid ++ pads n) (it ∷ []) i m) ∙ h) in
+    let g : slice_get (pads n) (i - length r.laid) ≡ Some x = behind r.laid (pads n) i x l (sym (get_append_left (r.laid ++ pads n) (it ∷ []) i m) ∙ h) in
     ⊎_elim
     (λ (z : eqb n 0 ≡ true). let e : pads n ≡ [] = pads_none n (eqb-true n 0 z) in let k : slice_get {X = Item} [] (i - length r.laid) ≡ Some x = subst (λ (ys : List Item). slice_get ys (i - length r.laid) ≡ Some x) e g in absurd (cc))
     (λ (z : eqb n 0 ≡ false).

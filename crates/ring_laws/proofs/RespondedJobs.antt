@@ -28,8 +28,10 @@ use Rattle.ring_laws.specs.Responded.{CanRespond}
 use Rattle.ring_laws.proofs.Numbered.{can_answer}
 use Rattle.ring_laws.proofs.PlacedAnswers.{Into, goes_into, offsets_placed, placing_of}
 use Rattle.ring_laws.proofs.ParkedKept.{can_answer_parked, found_parked}
-use Rattle.ring_laws.proofs.RespondedKept.{Responds, responds, can_place, found-any, found-state}
+use Rattle.ring_laws.proofs.RespondedKept.{Responds, responds, can_place, found-state}
 use Rattle.ring_laws.proofs.TakenOut.{none_at}
+use Rattle.ring_laws.proofs.Matched.{unmatched}
+use Rattle.tcmu_model.proofs.Places.{any_first}
 
 -- ==== ids name one serial each
 
@@ -80,10 +82,6 @@ one_serial (e ∷ rows) a b id d h g =
 
 abbrev answered_rows : ℕ → List Unfinished → List Unfinished
 answered_rows s us = turned s Parked Placed (turned s Handled Parked us)
-
-pub unmatched : (b : Bool) (P Q : Type 0) → b ≡ false → MatchBool b P Q → Q
-unmatched true P Q e h = absurd (false≢true (sym e))
-unmatched false P Q e h = h
 
 pub some_same : (a b : ℕ) → Some a ≡ Some b → a ≡ b
 some_same a b h = cc
@@ -217,7 +215,7 @@ pub answer_responded : (user : UserState) (rows : List PendingRow) (d : DeviceSt
 unfolding user_respond_answer respond_answer
 answer_responded user rows d lists s u p parts h o =
     let start : events.Placing = record { placed = d.placed; unfinished = events.with_parked d s } in
-    let handled : is_handled d s ≡ true = found-any (is_at s Handled) d.unfinished u h.found in
+    let handled : is_handled d s ≡ true = any_first (is_at s Handled) d.unfinished u h.found in
     let there : list_any (is_at s Placed) (turned s Parked Placed (parked_in d s).unfinished) ≡ true = any-placed s (parked_in d s).unfinished (in_state Parked u) (found_parked d s u h.sound h.found) in
     let mine : cond user.flags.ooo respond.Placed (placed_or_parked p.job.id (first_of is_unanswered user.jobs)) ≡ respond.Placed =
     ap (λ b. cond b respond.Placed (placed_or_parked p.job.id (first_of is_unanswered user.jobs))) (ap (λ (f : Flags). f.ooo) h.flags ∙ o) in

@@ -30,16 +30,9 @@ use Rattle.ring_laws.specs.Responded.{CanRespond}
 use Rattle.ring_laws.proofs.PlacedAnswers.{Into, goes_into, placing_of, ring_placed, ids_placed, notes_placed, target_placed, user_placed}
 use Rattle.ring_laws.proofs.AnswerBlocks.{blocks_placed}
 use Rattle.ring_laws.proofs.ParkedKept.{turned_in, lists_turned, lists_parked, ring_parked, ids_parked, notes_parked, blocks_parked, target_parked, side_parked, can_answer_parked, can_fill_parked, found_parked}
+use Rattle.tcmu_model.proofs.Places.{any_first}
 
 -- ==== both sides place the one answer
-
-pub found-any : {X : Type 0} (p : X → Bool) (xs : List X) (x : X) → first_of p xs ≡ Some x → list_any p xs ≡ true
-found-any p [] x f = absurd (cc)
-found-any p (y ∷ xs) x f =
-    ⊎_elim
-    (λ (k : p y ≡ true). rw k refl)
-    (λ (k : p y ≡ false). let g : first_of p xs ≡ Some x = rw k at f in rw k (found-any p xs x g))
-    (cases_Bool (p y))
 
 device_responds : (d : DeviceState) (s : ℕ) → is_handled d s ≡ true → d.settings.flags.ooo ≡ true → after_respond d s ≡ placed_in (parked_in d s) s
 unfolding after_respond
@@ -114,7 +107,7 @@ pub record Responds (r : RegionState) (user : UserState) (d : DeviceState) (s : 
 pub responds : (r : RegionState) (user : UserState) (rows : List PendingRow) (d : DeviceState) (lists : List Taken) (s : ℕ) (u : Unfinished) (p : sides.Parked) (parts : List (List ℕ)) → CanRespond user rows d lists s u p parts → d.settings.flags.ooo ≡ true → Responds r user d s p
 responds r user rows d lists s u p parts h o =
     record {
-      device = device_responds d s (found-any (is_at s Handled) d.unfinished u h.found) o;
+      device = device_responds d s (any_first (is_at s Handled) d.unfinished u h.found) o;
       side = user_responds r user p (ap (λ (f : Flags). f.ooo) h.flags ∙ o);
     }
 
@@ -169,7 +162,7 @@ pages_responded r user rows d lists s u p parts h o pages =
 pub target_responded : (user : UserState) (t : TargetState) (rows : List PendingRow) (d : DeviceState) (lists : List Taken) (s : ℕ) (u : Unfinished) (p : sides.Parked) (parts : List (List ℕ)) →
     CanRespond user rows d lists s u p parts → d.settings.flags.ooo ≡ true → TargetKeeps t d lists → TargetKeeps t (after_respond d s) lists
 target_responded user t rows d lists s u p parts h o keeps =
-    subst (λ (z : DeviceState). TargetKeeps t z lists) (sym (device_responds d s (found-any (is_at s Handled) d.unfinished u h.found) o)) (target_placed t (parked_in d s) lists s (target_parked t d lists s keeps))
+    subst (λ (z : DeviceState). TargetKeeps t z lists) (sym (device_responds d s (any_first (is_at s Handled) d.unfinished u h.found) o)) (target_placed t (parked_in d s) lists s (target_parked t d lists s keeps))
 
 pub side_responded : (r : RegionState) (user : UserState) (rows : List PendingRow) (d : DeviceState) (lists : List Taken) (s : ℕ) (u : Unfinished) (p : sides.Parked) (parts : List (List ℕ)) →
     CanRespond user rows d lists s u p parts → d.settings.flags.ooo ≡ true → UserKeeps user d → UserKeeps (user_responded r user p).user (after_respond d s)
@@ -185,4 +178,4 @@ lists_responded user rows d lists s u p parts h o =
     let a : ListsSound (parked_in d s) lists = lists_parked d lists s h.owned in
     let b : ListsSound (turned_in (parked_in d s) s Parked Placed) lists = lists_turned (parked_in d s) lists s Parked Placed a in
     let k : ListsSound (placed_in (parked_in d s) s) lists = record { listed = b.listed; differ = b.differ; below = b.below; sizes = b.sizes; spans = b.spans } in
-    subst (λ (z : DeviceState). ListsSound z lists) (sym (device_responds d s (found-any (is_at s Handled) d.unfinished u h.found) o)) k
+    subst (λ (z : DeviceState). ListsSound z lists) (sym (device_responds d s (any_first (is_at s Handled) d.unfinished u h.found) o)) k

@@ -16,15 +16,14 @@ use Rattle.tcmu_model.specs.BlockLists.{Taken}
 use Rattle.tcmu_model.proofs.Basics.{cleared_published, rows_rise}
 use Rattle.tcmu_model.proofs.Everies.{every-weaker, every-both, every-drop}
 use Rattle.tcmu_model.proofs.Rises.{among-append, count_differ}
-use Rattle.tcmu_model.proofs.Standing.{answered_rows, placed_there}
+use Rattle.tcmu_model.proofs.Standing.{answered_rows, any_among, placed_there}
 use Rattle.tcmu_model.specs.Sides.{GivenJob, InHand, PendingRow, UserState}
 use Rattle.tcmu_model.specs.Represents.{AreGiven, AreOut, JobsStand, UserKeeps, is_out}
 use Rattle.ring_laws.specs.Restarted.{count_jobs, count_parked, restarted_answer}
 use Rattle.ring_laws.proofs.AnswerBlocks.{differ-right}
-use Rattle.ring_laws.proofs.ParkedKept.{matched}
-use Rattle.ring_laws.proofs.RespondedJobs.{unmatched}
 use Rattle.ring_laws.proofs.GivenBack.{split-left}
 use Rattle.ring_laws.proofs.JobsBack.{parked_among}
+use Rattle.ring_laws.proofs.Matched.{matched, unmatched}
 
 -- ==== counting
 
@@ -50,10 +49,6 @@ count_mapped f p (x ∷ xs) =
     let a : count_by p (map f (x ∷ xs)) ≡ cond (p (f x)) 1 0 + count_by p (map f xs) = sum_by-cons (λ y. cond {A = ℕ} (p y) 1 0) (f x) (map f xs) in
     let b : count_by (λ y. p (f y)) (x ∷ xs) ≡ cond (p (f x)) 1 0 + count_by (λ y. p (f y)) xs = sum_by-cons (λ y. cond {A = ℕ} (p (f y)) 1 0) x xs in
     omega (arith, a, b, count_mapped f p xs)
-
-any_serial : (us : List Unfinished) (s : ℕ) → list_any (has_serial s) us ≡ is_among (map (λ (u : Unfinished). u.serial) us) s
-any_serial [] s = refl
-any_serial (u ∷ us) s = ap (λ z. eqb u.serial s || z) (any_serial us s)
 
 -- ==== the jobs that are not placed
 
@@ -164,7 +159,7 @@ attached_count d sound att =
     let k : c + (p - c) ≡ p = omega arith in
     let there0 : Every (λ s. list_any (has_serial s) us ≡ true) B =
     subst (Every (λ s. list_any (has_serial s) us ≡ true)) (drop-drop (p - c) c d.placed ∙ ap (λ z. drop z d.placed) k) (every-drop (λ s. list_any (has_serial s) us ≡ true) (p - c) (drop c d.placed) (placed_there d sound)) in
-    let there : Every (λ s. is_among (map (λ (u : Unfinished). u.serial) us) s ≡ true) B = every-weaker (λ s. list_any (has_serial s) us ≡ true) (λ s. is_among (map (λ (u : Unfinished). u.serial) us) s ≡ true) B (λ s h. sym (any_serial us s) ∙ h) there0 in
+    let there : Every (λ s. is_among (map (λ (u : Unfinished). u.serial) us) s ≡ true) B = every-weaker (λ s. list_any (has_serial s) us ≡ true) (λ s. is_among (map (λ (u : Unfinished). u.serial) us) s ≡ true) B (λ s h. sym (any_among s us) ∙ h) there0 in
     let counted : count_by (is_among B) (map (λ (u : Unfinished). u.serial) us) ≡ length B = count_differ 0 (map (λ (u : Unfinished). u.serial) us) d.accepted B (rows_rise d sound.serials) differ there in
     let mapped : count_by (is_among B) (map (λ (u : Unfinished). u.serial) us) ≡ count_by (λ (u : Unfinished). is_among B u.serial) us = count_mapped (λ (u : Unfinished). u.serial) (is_among B) us in
     let long : length B ≡ length d.placed - p = length-drop p d.placed in

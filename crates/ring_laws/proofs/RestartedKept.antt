@@ -19,14 +19,14 @@ use Rattle.tcmu_model.specs.Represents.{AreGiven, AreOut, BlocksOf, BlocksStand,
 use Rattle.tcmu_model.specs.UserSteps.{region_abandoned, user_abandoned, with_job_back, with_parked_back}
 use Rattle.tcmu_model.specs.Owned.{ListsSound}
 use Rattle.ring_laws.specs.Restarted.{region_restarted, region_with_hand}
-use Rattle.ring_laws.proofs.LaidBlocks.{among-append, among-filter, every-join}
+use Rattle.ring_laws.proofs.LaidBlocks.{among-filter, every-join}
 use Rattle.ring_laws.proofs.Ticked.{ring_by, ids_by}
-use Rattle.ring_laws.proofs.ParkedKept.{matched}
-use Rattle.ring_laws.proofs.RespondedJobs.{unmatched}
 use Rattle.ring_laws.proofs.GivenBack.{all_back, back-other, back-data, data-other, held-home}
 use Rattle.ring_laws.proofs.HeldApart.{every-picked, picked-apart, picked-held, held-joined, differ-both}
 use Rattle.ring_laws.proofs.JobsBack.{GoesBack, all_jobs_back}
 use Rattle.ring_laws.proofs.Lost.{lost_blind, lost_hand, lost_payload, held_lost, none_in_hand, answers_lost}
+use Rattle.ring_laws.proofs.Matched.{matched, unmatched}
+use Rattle.tcmu_model.proofs.Rises.{among-append}
 
 -- ==== the region but for its blocks
 

@@ -9,6 +9,7 @@ use Rattle.tcmu_model.specs.BlockLists.{Taken, list_of}
 use Rattle.tcmu_model.specs.Picture.{command_iovs}
 use Rattle.tcmu_model.specs.Sides.{GivenJob, InHand, JobState, PendingRow}
 use Rattle.tcmu_model.specs.Represents.{AreGiven, AreOut, IsJobOf, id_of}
+use Rattle.ring_laws.proofs.Matched.{match_left}
 
 -- rows and lists give the command the same id and the same blocks
 abbrev pub HasSame : List PendingRow → List PendingRow → List Taken → List Taken → Unfinished → Type 0
@@ -27,10 +28,6 @@ job_same s rows rows' lists lists' u job parts m h =
       size = h.size;
       payload = h.payload;
     }
-
-match_left : (b : Bool) (P Q R : Type 0) → (P → R) → MatchBool b P Q → MatchBool b R Q
-match_left true P Q R f h = f h
-match_left false P Q R f h = h
 
 pub given_same : (s : SettingsData) (rows rows' : List PendingRow) (lists lists' : List Taken) (gs : List GivenJob) (us : List Unfinished) → Every (HasSame rows rows' lists lists') us → AreGiven s rows lists gs us → AreGiven s rows' lists' gs us
 given_same s rows rows' lists lists' [] [] m h = h

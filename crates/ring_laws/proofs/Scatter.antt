@@ -8,8 +8,8 @@ use Rattle.tcmu_model.specs.Sound.{Every, Differ}
 use Rattle.tcmu_model.specs.Layout.{zeros}
 use Rattle.tcmu_model.specs.Regions.{home}
 use Rattle.tcmu_model.specs.Areas.{block_bytes, bytes_along, over, written_along, IsHome}
-use Rattle.ring_laws.proofs.Places.{slice_get-left}
 use Rattle.ring_laws.proofs.Layouts.{take-past}
+use Rattle.tcmu_types.proofs.Places.{get_append_left}
 
 -- an area that has at least n blocks; new ones are zero
 abbrev pub grown : ℕ → List (Option (List ℕ)) → ℕ → List (Option (List ℕ))
@@ -84,4 +84,4 @@ scattered-data size area (c ∷ bs) bytes d e h =
 
 -- blocks that are there stay there when the area grows
 pub grown-old : (size : ℕ) (area : List (Option (List ℕ))) (n b : ℕ) (o : Option (List ℕ)) → slice_get area b ≡ Some o → slice_get (grown size area n) b ≡ Some o
-grown-old size area n b o h = slice_get-left area _ b (slice_get_within area b o h) ∙ h
+grown-old size area n b o h = get_append_left area _ b (slice_get_within area b o h) ∙ h

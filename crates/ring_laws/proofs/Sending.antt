@@ -18,7 +18,7 @@ use Rattle.tcmu_model.proofs.Everies.{every-weaker, every-both, every-back, ever
 use Rattle.tcmu_model.proofs.Facts.{waiting_rows, waiting_undispatched}
 use Rattle.tcmu_model.proofs.Rises.{rise_seam, rise_within, not_among}
 use Rattle.tcmu_model.proofs.Rows.{undispatched_waits}
-use Rattle.ring_laws.proofs.PassedItems.{get-dropped}
+use Rattle.ring_laws.proofs.Places.{get-dropped}
 
 -- ==== lists
 

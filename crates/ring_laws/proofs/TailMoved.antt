@@ -14,13 +14,14 @@ use Rattle.tcmu_model.specs.Sound.{IsSound}
 use Rattle.tcmu_model.specs.BlockLists.{Taken}
 use Rattle.tcmu_model.specs.Layout.{le, put, zeros, ring_start, data_start, tail_place, mailbox_bytes, device_mailbox}
 use Rattle.tcmu_model.specs.Regions.{RegionState}
-use Rattle.tcmu_model.proofs.Written.{length-le}
+use Rattle.tcmu_model.proofs.Written.{length-le, length-put}
 use Rattle.tcmu_model.proofs.Facts.{publishable_fits}
 use Rattle.tcmu_model.specs.Picture.{place_of, tail}
 use Rattle.tcmu_model.specs.Sides.{Recorded, PendingRow, TargetState, UserState, InHand}
-use Rattle.tcmu_model.specs.Represents.{RingStands, IdsStand, NotesStand, BlocksStand, JobsStand, TargetKeeps, UserKeeps, recorded, entry_at, id_at, ids_in, AreNoteIds}
+use Rattle.tcmu_model.specs.Represents.{RingStands, IdsStand, NotesStand, BlocksStand, JobsStand, TargetKeeps, UserKeeps, recorded, entry_at, id_at, ids_in, NoteStands}
+use Rattle.tcmu_model.specs.Owned.{ListsSound}
 use Rattle.tcmu_model.specs.UserSteps.{is_cmd, movable, moving, moving_items, user_publish_answer, user_published, region_published}
-use Rattle.ring_laws.proofs.Bytes.{length-written, part-written_behind}
+use Rattle.ring_laws.proofs.Bytes.{part-written_behind}
 use Rattle.ring_laws.proofs.Layouts.{take-written_inside, add-mod}
 use Rattle.ring_laws.proofs.Places.{lengths-append}
 use Rattle.ring_laws.proofs.RingLaid.{stands-by}
@@ -148,7 +149,7 @@ ring_tail front items d lists k h =
     let l4 : length (le 4 t) ≡ 4 = length-le 4 t in
     let long : length front ≡ data_start d.ring.size = h.long in
     record {
-      long = length-written front tail_place (le 4 t) (omega arith) ∙ h.long;
+      long = length-put front tail_place (le 4 t) (omega arith) ∙ h.long;
       mailbox = take-written_inside front tail_place (le 4 t) ring_start (omega arith) (omega arith) ∙ ap (λ m. put m tail_place (le 4 t)) h.mailbox
           ∙ tail_moved d.settings.flags d.ring.size (head d.ring) (tail d.ring) t;
       stands = λ i x c g. stands-by front front' d (published_to d k) lists lists i x
@@ -171,9 +172,9 @@ ids_tail front items rows d lists k h ids =
 
 pub notes_tail : (front : List ℕ) (items : List Recorded) (rows : List PendingRow) (d : DeviceState) (lists : List Taken) (k : ℕ) → RingStands front items d lists → NotesStand front rows d →
     NotesStand (put front tail_place (le 4 (place_of d.ring k))) rows (published_to d k)
-notes_tail front items rows d lists k h notes = λ i n kind ss l g.
-    subst (λ (e : List ℕ). AreNoteIds rows (serials_in (drop i d.ring.laid)) ss (ids_in (length ss) 32 e))
-    (sym (entry_kept front d.ring.size (place_of d.ring k) (place_of d.ring i) n h.long)) (notes i n kind ss l g)
+notes_tail front items rows d lists k h notes = λ i n type_ ss l g.
+    subst (λ (e : List ℕ). NoteStands rows (serials_in (take i d.ring.laid)) (serials_in (drop i d.ring.laid)) type_ ss (ids_in (length ss) 32 e))
+    (sym (entry_kept front d.ring.size (place_of d.ring k) (place_of d.ring i) n h.long)) (notes i n type_ ss l g)
 
 -- ==== the two sides
 
@@ -315,3 +316,29 @@ publish_same user d sound att keeps =
     let b : count_by is_cmd (moving_items user) ≡ commands_in (take (publishable d) d.ring.laid) - published_commands d.ring = omega (arith, commands_there user d m, w) in
     ap (λ n. publish.Moved n (count_by is_cmd (moving_items user))) a ∙ ap (publish.Moved (publishable d - d.ring.published)) b
     ∙ sym (ap (λ x. cond x (publish.Moved (publishable d - d.ring.published) (commands_in (take (publishable d) d.ring.laid) - published_commands d.ring)) publish.Detached) att)
+
+pub lists_published : (d : DeviceState) (lists : List Taken) → ListsSound d lists → ListsSound (after_publish d) lists
+unfolding after_publish
+lists_published d lists h =
+    ⊎_elim
+    (λ (a : d.attached ≡ true). rw a (record { listed = h.listed; differ = h.differ; below = h.below; sizes = h.sizes; spans = h.spans }))
+    (λ (a : d.attached ≡ false). rw a (record { listed = h.listed; differ = h.differ; below = h.below; sizes = h.sizes; spans = h.spans }))
+    (cases_Bool d.attached)
+
+pub pages_published : (r : RegionState) (user : UserState) (d : DeviceState) → r.pages ≡ d.settings.pages → (region_published r user).pages ≡ (after_publish d).settings.pages
+unfolding after_publish region_published
+pages_published r user d h = region ∙ h ∙ sym device
+  where
+    region : (region_published r user).pages ≡ r.pages
+    region =
+        ⊎_elim
+        (λ (e : eqb (moving user) 0 ≡ true). rw e refl)
+        (λ (e : eqb (moving user) 0 ≡ false). rw e refl)
+        (cases_Bool (eqb (moving user) 0))
+
+    device : (after_publish d).settings.pages ≡ d.settings.pages
+    device =
+        ⊎_elim
+        (λ (a : d.attached ≡ true). rw a refl)
+        (λ (a : d.attached ≡ false). rw a refl)
+        (cases_Bool d.attached)

@@ -15,10 +15,13 @@ use Rattle.tcmu_model.specs.BlockLists.{Taken, list_of, held_by}
 use Rattle.tcmu_model.specs.Pending.{PendingData}
 use Rattle.tcmu_model.proofs.Everies.{every-map}
 use Rattle.tcmu_model.specs.Picture.{place_of, item_bytes, entry_of, with_answer, request_of, ids_named}
+use Rattle.tcmu_model.specs.Regions.{RegionState}
 use Rattle.tcmu_model.specs.Sides.{Recorded, PendingRow, GivenJob, JobState, InHand, TargetState, UserState}
-use Rattle.tcmu_model.specs.Represents.{RingStands, IdsStand, NotesStand, BlocksOf, BlocksStand, JobsStand, AreGiven, AreOut, IsGiven, IsOut, is_out, IsJobOf, IsId, id_of, row_has, has_id, serial_with, AreNoteIds, TargetKeeps, UserKeeps, entry_at, id_in, ids_in, pending_of}
+use Rattle.tcmu_model.specs.Represents.{RingStands, IdsStand, NotesStand, BlocksOf, BlocksStand, JobsStand, AreGiven, AreOut, IsGiven, IsOut, is_out, IsJobOf, IsId, id_of, row_has, has_id, serial_with, TargetKeeps, UserKeeps, entry_at, id_in, ids_in, pending_of}
 use Rattle.tcmu_model.specs.TargetSteps.{is_due_at, expired_at, checked, ticked_log, target_tick_answer, target_ticked, target_blocked}
 use Rattle.tcmu_model.specs.Owned.{ListsSound}
+use Rattle.ring_laws.proofs.NoteIds.{note_id_same, note_stands_by}
+use Rattle.ring_laws.proofs.Matched.{match_left}
 
 -- ==== the ring, whatever changes of the commands but their answers
 
@@ -103,6 +106,10 @@ pub lists_blocked : (d : DeviceState) (lists : List Taken) (b : Bool) → ListsS
 unfolding after_block
 lists_blocked d lists b h = record { listed = h.listed; differ = h.differ; below = h.below; sizes = h.sizes; spans = h.spans }
 
+pub pages_blocked : (r : RegionState) (d : DeviceState) (b : Bool) → r.pages ≡ d.settings.pages → r.pages ≡ (after_block d b).settings.pages
+unfolding after_block
+pages_blocked r d b h = h
+
 -- ==== tick: the commands
 
 expired_found : (now q : ℕ) (us : List Unfinished) (rl : Bool) (id : ℕ) (request : List ℕ) → with_answer rl id request (first_of (has_serial q) (map (expire now) us)) ≡ with_answer rl id request (first_of (has_serial q) us)
@@ -154,10 +161,6 @@ held_expired lists now (u ∷ us) =
 
 job_blind : (s : SettingsData) (rows : List PendingRow) (lists : List Taken) (u : Unfinished) (b : Bool) (job : JobState) (parts : List (List ℕ)) → IsJobOf s rows lists u job parts → IsJobOf s rows lists (record u { expired = b }) job parts
 job_blind s rows lists u b job parts h = record { id = h.id; cdb = h.cdb; iovs = h.iovs; in_len = h.in_len; carried = h.carried; count = h.count; size = h.size; payload = h.payload }
-
-match_left : (b : Bool) (P Q R : Type 0) → (P → R) → MatchBool b P Q → MatchBool b R Q
-match_left true P Q R f h = f h
-match_left false P Q R f h = h
 
 given_blind : (s : SettingsData) (rows : List PendingRow) (lists : List Taken) (g : GivenJob) → IsBlind (IsGiven s rows lists g)
 given_blind s rows lists g u b h = (h.0, match_left (has_state Parked u) _ _ _ (λ p. (p.0, p.1, p.2, p.3, job_blind s rows lists u b p.0.job p.3 p.4)) h.1)
@@ -219,13 +222,6 @@ serial_expired now (e ∷ es) id =
     (λ (b : has_id id e ≡ true). let m : has_id id (expired_at now e) ≡ true = k ∙ b in rw (m, b) (ap Some (serial_kept now e)))
     (λ (b : has_id id e ≡ false). let m : has_id id (expired_at now e) ≡ false = k ∙ b in rw (m, b) (serial_expired now es id))
     (cases_Bool (has_id id e))
-
-note_ids_by : (rows rows' : List PendingRow) (behind ss ids : List ℕ) → ((id : ℕ) → serial_with rows' id ≡ serial_with rows id) → AreNoteIds rows behind ss ids → AreNoteIds rows' behind ss ids
-note_ids_by rows rows' behind [] [] m h = h
-note_ids_by rows rows' behind [] (id ∷ ids) m h = absurd h
-note_ids_by rows rows' behind (s ∷ ss) [] m h = absurd h
-note_ids_by rows rows' behind (s ∷ ss) (id ∷ ids) m h =
-    (subst (λ (o : Option ℕ). (o ≡ None) ⊎ ((t : ℕ) × (o ≡ Some t) × ((t ≡ s) ⊎ (is_among behind t ≡ true)))) (sym (m id)) h.0, note_ids_by rows rows' behind ss ids m h.1)
 
 -- ==== tick: the target's records
 
@@ -323,8 +319,12 @@ ids_ticked front rows d n h =
 
 pub notes_ticked : (front : List ℕ) (rows : List PendingRow) (d : DeviceState) (n : ℕ) → NotesStand front rows d → NotesStand front (map (expired_at (later d.now n)) rows) (after_tick d n)
 unfolding after_tick
-notes_ticked front rows d n h = λ i m kind ss l g.
-    note_ids_by rows (map (expired_at (later d.now n)) rows) (serials_in (drop i d.ring.laid)) ss (ids_in (length ss) 32 (entry_at front (place_of d.ring i) m)) (serial_expired (later d.now n) rows) (h i m kind ss l g)
+notes_ticked front rows d n h = λ i m type_ ss l g.
+    let now : ℕ = later d.now n in
+    let rows' : List PendingRow = map (expired_at now) rows in
+    let behind : List ℕ = serials_in (drop i d.ring.laid) in
+    note_stands_by rows rows' (serials_in (take i d.ring.laid)) behind behind type_ ss (ids_in (length ss) 32 (entry_at front (place_of d.ring i) m))
+    (λ s id b k. note_id_same rows rows' behind s id (id_expired now rows s) (serial_expired now rows id) k) (h i m type_ ss l g)
 
 pub jobs_ticked : (user : UserState) (hand : List InHand) (rows : List PendingRow) (d : DeviceState) (lists : List Taken) (n : ℕ) → JobsStand user hand rows d lists →
     JobsStand user hand (map (expired_at (later d.now n)) rows) (after_tick d n) lists
@@ -369,3 +369,7 @@ lists_ticked d lists n h =
           (λ u p. blind (λ (v : Unfinished). length (list_of lists v.serial) ≡ blocks_of d.settings.pages v.command) now u (λ v b q. q) p) h.sizes;
       spans = h.spans;
     }
+
+pub pages_ticked : (r : RegionState) (d : DeviceState) (n : ℕ) → r.pages ≡ d.settings.pages → r.pages ≡ (after_tick d n).settings.pages
+unfolding after_tick
+pages_ticked r d n h = h

@@ -17,11 +17,11 @@ is_refusal (submit.FullRing need free) = true
 is_refusal (submit.FullBlocks need free) = true
 
 -- no command enters
-abbrev pub is_waiting : Enter → Bool
-is_waiting (enter.Entered s) = false
-is_waiting enter.Empty = true
-is_waiting (enter.FullRing need free) = true
-is_waiting (enter.FullBlocks need free) = true
+abbrev pub enters_none : Enter → Bool
+enters_none (enter.Entered s) = false
+enters_none enter.Empty = true
+enters_none (enter.FullRing need free) = true
+enters_none (enter.FullBlocks need free) = true
 
 -- no note is laid
 abbrev pub is_unnoted : Tmr → Bool

@@ -34,7 +34,8 @@ pub fn completion_law()
 /// that may end earlier; the jobs, both sides' records and the soundness of the block lists are kept.
 pub fn clean_law()
     ensures answer { (r : RegionState) (t : TargetState) (d : DeviceState) (lists : List Taken) → CanClean r t d lists → target_clean_answer r t ≡ Logged (clean_answer d) }
-    ensures ring { (r : RegionState) (t : TargetState) (d : DeviceState) (lists : List Taken) → CanClean r t d lists → RingStands (region_cleaned r t).front (target_cleaned r t).items (after_clean d) lists }
+    ensures ring { (r : RegionState) (t : TargetState) (d : DeviceState) (lists : List Taken) →
+        CanClean r t d lists → RingStands (region_cleaned r t).front (target_cleaned r t).items (after_clean d) lists }
     ensures ids { (r : RegionState) (t : TargetState) (d : DeviceState) (lists : List Taken) → CanClean r t d lists → IdsStand (region_cleaned r t).front (target_cleaned r t).rows (after_clean d) }
     ensures notes { (r : RegionState) (t : TargetState) (d : DeviceState) (lists : List Taken) → CanClean r t d lists → NotesStand r.front t.rows d →
         NotesStand (region_cleaned r t).front (target_cleaned r t).rows (after_clean d) }
@@ -44,4 +45,5 @@ pub fn clean_law()
     ensures target { (r : RegionState) (t : TargetState) (d : DeviceState) (lists : List Taken) → CanClean r t d lists → TargetKeeps (target_cleaned r t) (after_clean d) lists }
     ensures side { (user : UserState) (d : DeviceState) → UserKeeps user d → UserKeeps user (after_clean d) }
     ensures lists { (d : DeviceState) (lists : List Taken) → IsSound d → ListsSound d lists → ListsSound (after_clean d) lists }
+    ensures pages { (r : RegionState) (t : TargetState) (d : DeviceState) → r.pages ≡ d.settings.pages → (region_cleaned r t).pages ≡ (after_clean d).settings.pages }
 {}

@@ -1,41 +1,29 @@
 //! What a dispatch keeps: the user side goes to its next entry, and answers the job, the note, or nothing.
-ghost use Rattle.std.specs.Prelude.{◌≡◌, ℕ, List, Ok};
-ghost use Rattle.tcmu_model.specs.RingState.{head};
+ghost use Rattle.std.specs.Prelude.{◌≡◌, List};
 ghost use Rattle.tcmu_model.specs.Device.{DeviceState};
 ghost use Rattle.tcmu_model.specs.Events.{after_dispatch, dispatch_answer};
 ghost use Rattle.tcmu_model.specs.BlockLists.{Taken};
-ghost use Rattle.tcmu_model.specs.Layout.{device_mailbox};
-ghost use Rattle.tcmu_model.specs.Picture.{tail};
 ghost use Rattle.tcmu_model.specs.Regions.{RegionState};
 ghost use Rattle.tcmu_model.specs.Sound.{IsSound};
-ghost use Rattle.tcmu_model.specs.Sides.{InHand, Recorded, TargetState, UserState};
+ghost use Rattle.tcmu_model.specs.Sides.{InHand, TargetState, UserState};
 ghost use Rattle.tcmu_model.specs.Represents.{BlocksStand, IdsStand, JobsStand, NotesStand, RingStands, TargetKeeps, UserKeeps};
 ghost use Rattle.tcmu_model.specs.UserNext.{nexted};
-ghost use Rattle.tcmu_model.specs.UserSteps.{user_mailbox};
 ghost use Rattle.tcmu_model.specs.Owned.{ListsSound};
-ghost use Rattle.ring_laws.specs.Dispatched.{AnswersDispatch, CanDispatch, NotesName, hand_dispatched};
-
-/// The mailbox of a region that represents a sound device has no fault: the user side reads the device's flags, size, head and tail.
-pub fn mailbox_law()
-    ensures { (r : RegionState) (items : List Recorded) (d : DeviceState) (lists : List Taken) →
-        IsSound d → RingStands r.front items d lists → user_mailbox r ≡ Ok (device_mailbox d.settings.flags d.ring.size (head d.ring) (tail d.ring)) }
-{}
+ghost use Rattle.ring_laws.specs.Dispatched.{AnswersDispatch, CanDispatch, hand_dispatched};
 
 /// The user side of an attached device passes the padding in front of the next item and reads that item, so no fault is answered, and
 /// nothing exactly where the device answers nothing. A command's blocks are at home, so its job has them: just they are lent then. The
-/// job is the last given and the last in hand, and the offset of its entry is kept. A note names, of its commands, those that are running;
-/// that rests on two more facts, which no point has: its kind is a byte, and it names each command by the command's own id (`names`).
+/// job is the last given and the last in hand, and the offset of its entry is kept. A note is answered with its type and with the ids, in its
+/// order, of those of its commands that are running.
 pub fn dispatch_law()
     ensures answer { (r : RegionState) (t : TargetState) (user : UserState) (hand : List InHand) (d : DeviceState) (lists : List Taken) →
-        CanDispatch r t user hand d lists → AnswersDispatch r.front t.rows d lists (dispatch_answer d) (nexted r user).answer }
+        CanDispatch r t user hand d lists → AnswersDispatch t.rows d lists (dispatch_answer d) (nexted r user).answer }
     ensures ring { (r : RegionState) (t : TargetState) (user : UserState) (hand : List InHand) (d : DeviceState) (lists : List Taken) →
         CanDispatch r t user hand d lists → RingStands (nexted r user).region.front t.items (after_dispatch d) lists }
     ensures ids { (r : RegionState) (t : TargetState) (user : UserState) (hand : List InHand) (d : DeviceState) (lists : List Taken) →
         CanDispatch r t user hand d lists → IdsStand (nexted r user).region.front t.rows (after_dispatch d) }
     ensures notes { (r : RegionState) (t : TargetState) (user : UserState) (hand : List InHand) (d : DeviceState) (lists : List Taken) →
         CanDispatch r t user hand d lists → NotesStand (nexted r user).region.front t.rows (after_dispatch d) }
-    ensures names { (r : RegionState) (t : TargetState) (user : UserState) (hand : List InHand) (d : DeviceState) (lists : List Taken) →
-        CanDispatch r t user hand d lists → NotesName r.front t.rows d → NotesName (nexted r user).region.front t.rows (after_dispatch d) }
     ensures blocks { (r : RegionState) (t : TargetState) (user : UserState) (hand : List InHand) (d : DeviceState) (lists : List Taken) →
         CanDispatch r t user hand d lists → BlocksStand (nexted r user).region.blocks (after_dispatch d) lists }
     ensures jobs { (r : RegionState) (t : TargetState) (user : UserState) (hand : List InHand) (d : DeviceState) (lists : List Taken) →

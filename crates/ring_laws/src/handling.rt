@@ -1,9 +1,10 @@
 //! What the answer of a handler keeps: the region and both sides' records stay as they are, and the job in hand has its reply.
-ghost use Rattle.std.specs.Prelude.{◌≡◌, ◌<◌, ℕ, List, Option, Some};
+ghost use Rattle.std.specs.Prelude.{◌≡◌, ℕ, List, Option, Some};
 ghost use Rattle.tcmu_types.specs.Data.{ReplyData};
 ghost use Rattle.tcmu_model.specs.Device.{Unfinished, DeviceState};
 ghost use Rattle.tcmu_model.specs.Events.{after_handle, command_out};
 ghost use Rattle.tcmu_model.specs.BlockLists.{Taken};
+ghost use Rattle.tcmu_model.specs.Regions.{RegionState};
 ghost use Rattle.tcmu_model.specs.Sound.{IsSound};
 ghost use Rattle.tcmu_model.specs.Sides.{InHand, PendingRow, Recorded, TargetState, UserState};
 ghost use Rattle.tcmu_model.specs.Represents.{RingStands, IdsStand, NotesStand, BlocksStand, JobsStand, TargetKeeps, UserKeeps};
@@ -23,4 +24,5 @@ pub fn handle_law()
     ensures target { (t : TargetState) (d : DeviceState) (lists : List Taken) (s : ℕ) (reply : ReplyData) → TargetKeeps t d lists → TargetKeeps t (after_handle d s reply) lists }
     ensures side { (user : UserState) (d : DeviceState) (s : ℕ) (reply : ReplyData) → UserKeeps user d → UserKeeps user (after_handle d s reply) }
     ensures lists { (d : DeviceState) (lists : List Taken) (s : ℕ) (reply : ReplyData) → ListsSound d lists → ListsSound (after_handle d s reply) lists }
+    ensures pages { (r : RegionState) (d : DeviceState) (s : ℕ) (reply : ReplyData) → r.pages ≡ d.settings.pages → r.pages ≡ (after_handle d s reply).settings.pages }
 {}

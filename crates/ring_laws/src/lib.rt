@@ -1,12 +1,15 @@
 //! The laws of a region that represents a device: what each event of the device keeps of it. They are about definitions alone, and
 //! the contracts of the two sides and of the ring path cite both. Those definitions stand in tcmu_model; in specs/ here is what laws rest on.
+//! The clauses of a law come in one order: the answer; what stands, point by point (ring, ids, notes, blocks, jobs, target, side); the block
+//! lists, the pages and the sizes of blocks; then what is the event's own.
 #![tactic(auto)]
 
 mod answering;
 mod attaching;
 mod cleaning;
-mod entering;
+mod delaying;
 mod dispatching;
+mod entering;
 mod handling;
 mod in_hand;
 mod kept_lists;
@@ -16,22 +19,20 @@ mod opening;
 mod parking;
 mod placing;
 mod publishing;
+mod refusing;
 mod resetting;
 mod responding;
+mod restarting;
 mod sizes;
 mod submitting;
 mod ticking;
-mod waiting;
 
 pub use answering::answering_law;
-mod restarting;
-mod ticking;
-mod waiting;
-
 pub use attaching::attaching_law;
 pub use cleaning::{clean_law, completion_law};
+pub use delaying::delayed_law;
+pub use dispatching::dispatch_law;
 pub use entering::enter_law;
-pub use dispatching::{dispatch_law, mailbox_law};
 pub use handling::handle_law;
 pub use in_hand::hand_law;
 pub use kept_lists::kept_law;
@@ -41,10 +42,10 @@ pub use opening::opening_law;
 pub use parking::parking_law;
 pub use placing::placing_law;
 pub use publishing::publish_law;
+pub use refusing::refused_law;
 pub use resetting::reset_law;
 pub use responding::respond_law;
+pub use restarting::restart_law;
 pub use sizes::sizes_law;
 pub use submitting::submit_law;
-pub use restarting::restart_law;
 pub use ticking::{block_law, tick_law};
-pub use waiting::{delayed_law, refused_law};

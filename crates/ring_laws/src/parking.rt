@@ -14,15 +14,15 @@ ghost use Rattle.tcmu_model.specs.Represents.{BlocksStand, IdsStand, IsJobOf, Jo
 ghost use Rattle.tcmu_model.specs.Owned.{ListsSound};
 ghost use Rattle.ring_laws.specs.Placed.{CanAnswer, CanFill, parked_in};
 
-/// A command that is handled is parked: nothing is written, and its blocks stay lent. The user side has the job with its reply, and it is out of
-/// hand. Behind it answers can be placed, and the command is
-/// found among the parked ones.
+/// A command that is handled is parked: nothing is written, and its blocks stay lent. The user side has the job with its reply, and it is out
+/// of hand. Behind it answers can be placed, and the command is found among the parked ones.
 pub fn parking_law()
     ensures ring { (front : List ℕ) (items : List Recorded) (d : DeviceState) (lists : List Taken) (s : ℕ) → RingStands front items d lists → RingStands front items (parked_in d s) lists }
     ensures ids { (front : List ℕ) (rows : List PendingRow) (d : DeviceState) (s : ℕ) → IdsStand front rows d → IdsStand front rows (parked_in d s) }
     ensures notes { (front : List ℕ) (rows : List PendingRow) (d : DeviceState) (s : ℕ) → NotesStand front rows d → NotesStand front rows (parked_in d s) }
     ensures blocks { (area : List (Option (List ℕ))) (d : DeviceState) (lists : List Taken) (s : ℕ) → BlocksStand area d lists → BlocksStand area (parked_in d s) lists }
-    ensures jobs { (front : List ℕ) (user : UserState) (hand : List InHand) (rows : List PendingRow) (d : DeviceState) (lists : List Taken) (s : ℕ) (u : Unfinished) (p : sides.Parked) (parts : List (List ℕ)) →
+    ensures jobs { (front : List ℕ) (user : UserState) (hand : List InHand) (rows : List PendingRow) (d : DeviceState) (lists : List Taken) (s : ℕ) (u : Unfinished)
+        (p : sides.Parked) (parts : List (List ℕ)) →
         IsSound d → first_of (is_at s Handled) d.unfinished ≡ Some u → u.reply ≡ Some p.reply → IsJobOf d.settings rows lists u p.job parts →
         IdsStand front rows d → JobsStand user hand rows d lists →
         JobsStand (with_jobs user (with_first (is_open_job p.job.id) (with_parked p) user.jobs)) (hand_responded hand s) rows (parked_in d s) lists }

@@ -7,10 +7,11 @@ ghost use Rattle.tcmu_model.specs.Regions.{RegionState};
 ghost use Rattle.tcmu_model.specs.Sound.{IsSound};
 ghost use Rattle.tcmu_model.specs.Sides.{InHand, PendingRow, Recorded, TargetState, UserState};
 ghost use Rattle.tcmu_model.specs.Represents.{RingStands, IdsStand, NotesStand, BlocksStand, JobsStand, TargetKeeps, UserKeeps};
+ghost use Rattle.tcmu_model.specs.Owned.{ListsSound};
 ghost use Rattle.tcmu_model.specs.UserSteps.{region_published, user_publish_answer, user_published};
 
 /// The user side of an attached device moves the tail just as far as the device does, and answers the same. The ring stands with the new
-/// tail in its mailbox; ids, notes, blocks, jobs and both sides' records are kept.
+/// tail in its mailbox; ids, notes, blocks, jobs, both sides' records and the block lists are kept.
 pub fn publish_law()
     ensures answer { (user : UserState) (d : DeviceState) → IsSound d → d.attached ≡ true → UserKeeps user d → user_publish_answer user ≡ publish_answer d }
     ensures ring { (r : RegionState) (user : UserState) (items : List Recorded) (d : DeviceState) (lists : List Taken) →
@@ -28,4 +29,6 @@ pub fn publish_law()
     ensures target { (t : TargetState) (user : UserState) (d : DeviceState) (lists : List Taken) →
         IsSound d → d.attached ≡ true → TargetKeeps t d lists → UserKeeps user d → TargetKeeps t (after_publish d) lists }
     ensures side { (user : UserState) (d : DeviceState) → IsSound d → d.attached ≡ true → UserKeeps user d → UserKeeps (user_published user) (after_publish d) }
+    ensures lists { (d : DeviceState) (lists : List Taken) → ListsSound d lists → ListsSound (after_publish d) lists }
+    ensures pages { (r : RegionState) (user : UserState) (d : DeviceState) → r.pages ≡ d.settings.pages → (region_published r user).pages ≡ (after_publish d).settings.pages }
 {}

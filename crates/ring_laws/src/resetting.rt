@@ -37,16 +37,16 @@ pub fn reset_law()
     ensures target { (r : RegionState) (t : TargetState) (d : DeviceState) (lists : List Taken) (level n : ℕ) →
         CanClean r t d lists → reset_answer d level ≡ Reset n → TargetKeeps (target_reset r t level) (after_reset d level) [] }
     ensures side { (d : DeviceState) (level n : ℕ) → IsSound d → reset_answer d level ≡ Reset n → UserKeeps (opening_user d.settings) (after_reset d level) }
+    ensures lists { (d : DeviceState) (level n : ℕ) → reset_answer d level ≡ Reset n → ListsSound (after_reset d level) [] }
+    ensures kept { (d : DeviceState) (lists : List Taken) (level n : ℕ) → reset_answer d level ≡ Reset n → kept_lists (after_reset d level) lists ≡ [] }
+    ensures pages { (r : RegionState) (d : DeviceState) (level n : ℕ) →
+        r.pages ≡ d.settings.pages → reset_answer d level ≡ Reset n → (region_reset r).pages ≡ (after_reset d level).settings.pages }
     ensures attached { (r : RegionState) (t : TargetState) (d : DeviceState) (lists : List Taken) (level n : ℕ) →
         IsSound d → RingStands r.front t.items d lists → r.pages ≡ d.settings.pages → reset_answer d level ≡ Reset n →
         user_attached (region_reset r) ≡ Ok (opening_user d.settings) }
     ensures reattached { (r : RegionState) (t : TargetState) (user : UserState) (hand : List InHand) (rows : List PendingRow) (d : DeviceState) (lists : List Taken) (level n : ℕ) →
         IsSound d → RingStands r.front t.items d lists → r.pages ≡ d.settings.pages → JobsStand user hand rows d lists → reset_answer d level ≡ Reset n →
         region_reattached (region_reset r) user ≡ region_reset r }
-    ensures lists { (d : DeviceState) (level n : ℕ) → reset_answer d level ≡ Reset n → ListsSound (after_reset d level) [] }
-    ensures kept { (d : DeviceState) (lists : List Taken) (level n : ℕ) → reset_answer d level ≡ Reset n → kept_lists (after_reset d level) lists ≡ [] }
-    ensures pages { (r : RegionState) (d : DeviceState) (level n : ℕ) →
-        r.pages ≡ d.settings.pages → reset_answer d level ≡ Reset n → (region_reset r).pages ≡ (after_reset d level).settings.pages }
     ensures not_blocked { (d : DeviceState) (level : ℕ) → reset_answer d level ≡ NotBlocked → after_reset d level ≡ d }
     ensures handlers_out { (d : DeviceState) (level n : ℕ) → reset_answer d level ≡ HandlersOut n → after_reset d level ≡ d }
 {}

@@ -18,19 +18,24 @@ ghost use Rattle.ring_laws.specs.Responded.{CanRespond};
 pub fn respond_law()
     ensures answer { (user : UserState) (rows : List PendingRow) (d : DeviceState) (lists : List Taken) (s : ℕ) (u : Unfinished) (p : Parked) (parts : List (List ℕ)) →
         CanRespond user rows d lists s u p parts → user_respond_answer user p.job.id ≡ respond_answer d s }
-    ensures ring { (r : RegionState) (user : UserState) (items : List Recorded) (rows : List PendingRow) (d : DeviceState) (lists : List Taken) (s : ℕ) (u : Unfinished) (p : Parked) (parts : List (List ℕ)) →
+    ensures ring { (r : RegionState) (user : UserState) (items : List Recorded) (rows : List PendingRow) (d : DeviceState) (lists : List Taken) (s : ℕ) (u : Unfinished)
+        (p : Parked) (parts : List (List ℕ)) →
         CanRespond user rows d lists s u p parts → RingStands r.front items d lists → IdsStand r.front rows d →
         RingStands (user_responded r user p).region.front items (after_respond d s) lists }
-    ensures ids { (r : RegionState) (user : UserState) (items : List Recorded) (rows : List PendingRow) (d : DeviceState) (lists : List Taken) (s : ℕ) (u : Unfinished) (p : Parked) (parts : List (List ℕ)) →
+    ensures ids { (r : RegionState) (user : UserState) (items : List Recorded) (rows : List PendingRow) (d : DeviceState) (lists : List Taken) (s : ℕ) (u : Unfinished)
+        (p : Parked) (parts : List (List ℕ)) →
         CanRespond user rows d lists s u p parts → RingStands r.front items d lists → IdsStand r.front rows d →
         IdsStand (user_responded r user p).region.front rows (after_respond d s) }
-    ensures notes { (r : RegionState) (user : UserState) (items : List Recorded) (rows : List PendingRow) (d : DeviceState) (lists : List Taken) (s : ℕ) (u : Unfinished) (p : Parked) (parts : List (List ℕ)) →
+    ensures notes { (r : RegionState) (user : UserState) (items : List Recorded) (rows : List PendingRow) (d : DeviceState) (lists : List Taken) (s : ℕ) (u : Unfinished)
+        (p : Parked) (parts : List (List ℕ)) →
         CanRespond user rows d lists s u p parts → RingStands r.front items d lists → IdsStand r.front rows d → NotesStand r.front rows d →
         NotesStand (user_responded r user p).region.front rows (after_respond d s) }
-    ensures blocks { (r : RegionState) (user : UserState) (items : List Recorded) (rows : List PendingRow) (d : DeviceState) (lists : List Taken) (s : ℕ) (u : Unfinished) (p : Parked) (parts : List (List ℕ)) →
+    ensures blocks { (r : RegionState) (user : UserState) (items : List Recorded) (rows : List PendingRow) (d : DeviceState) (lists : List Taken) (s : ℕ) (u : Unfinished)
+        (p : Parked) (parts : List (List ℕ)) →
         CanRespond user rows d lists s u p parts → RingStands r.front items d lists → IdsStand r.front rows d → r.pages ≡ d.settings.pages → BlocksStand r.blocks d lists →
         BlocksStand (user_responded r user p).region.blocks (after_respond d s) lists }
-    ensures jobs { (r : RegionState) (user : UserState) (hand : List InHand) (rows : List PendingRow) (d : DeviceState) (lists : List Taken) (s : ℕ) (u : Unfinished) (p : Parked) (parts : List (List ℕ)) →
+    ensures jobs { (r : RegionState) (user : UserState) (hand : List InHand) (rows : List PendingRow) (d : DeviceState) (lists : List Taken) (s : ℕ) (u : Unfinished)
+        (p : Parked) (parts : List (List ℕ)) →
         CanRespond user rows d lists s u p parts → IdsStand r.front rows d → JobsStand user hand rows d lists →
         JobsStand (user_responded r user p).user (hand_responded hand s) rows (after_respond d s) lists }
     ensures target { (user : UserState) (t : TargetState) (rows : List PendingRow) (d : DeviceState) (lists : List Taken) (s : ℕ) (u : Unfinished) (p : Parked) (parts : List (List ℕ)) →

@@ -3,6 +3,7 @@ ghost use Rattle.std.specs.Prelude.{◌≡◌, ℕ, Bool, List, Option, map};
 ghost use Rattle.tcmu_model.specs.Device.{DeviceState};
 ghost use Rattle.tcmu_model.specs.Events.{after_block, after_tick, later, tick_answer};
 ghost use Rattle.tcmu_model.specs.BlockLists.{Taken};
+ghost use Rattle.tcmu_model.specs.Regions.{RegionState};
 ghost use Rattle.tcmu_model.specs.Sides.{InHand, PendingRow, Recorded, TargetState, UserState};
 ghost use Rattle.tcmu_model.specs.Represents.{RingStands, IdsStand, NotesStand, BlocksStand, JobsStand, TargetKeeps, UserKeeps};
 ghost use Rattle.tcmu_model.specs.TargetSteps.{expired_at, target_blocked, target_tick_answer, target_ticked};
@@ -23,6 +24,7 @@ pub fn tick_law()
     ensures target { (t : TargetState) (d : DeviceState) (lists : List Taken) (n : ℕ) → TargetKeeps t d lists → TargetKeeps (target_ticked t n) (after_tick d n) lists }
     ensures side { (user : UserState) (d : DeviceState) (n : ℕ) → UserKeeps user d → UserKeeps user (after_tick d n) }
     ensures lists { (d : DeviceState) (lists : List Taken) (n : ℕ) → ListsSound d lists → ListsSound (after_tick d n) lists }
+    ensures pages { (r : RegionState) (d : DeviceState) (n : ℕ) → r.pages ≡ d.settings.pages → r.pages ≡ (after_tick d n).settings.pages }
 {}
 
 /// A block and an unblock turn the target's bit and leave every point as it is.
@@ -36,4 +38,5 @@ pub fn block_law()
     ensures target { (t : TargetState) (d : DeviceState) (lists : List Taken) (b : Bool) → TargetKeeps t d lists → TargetKeeps (target_blocked t b) (after_block d b) lists }
     ensures side { (user : UserState) (d : DeviceState) (b : Bool) → UserKeeps user d → UserKeeps user (after_block d b) }
     ensures lists { (d : DeviceState) (lists : List Taken) (b : Bool) → ListsSound d lists → ListsSound (after_block d b) lists }
+    ensures pages { (r : RegionState) (d : DeviceState) (b : Bool) → r.pages ≡ d.settings.pages → r.pages ≡ (after_block d b).settings.pages }
 {}

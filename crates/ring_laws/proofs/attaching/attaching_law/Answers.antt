@@ -1,5 +1,6 @@
-use Rattle.ring_laws.proofs.MailboxShown.{mailbox_shown, attached_same, reattached_same}
+use Rattle.ring_laws.proofs.AttachedUser.{attached_same, reattached_same}
+use Rattle.ring_laws.proofs.MailboxThere.{device_mailbox_there}
 use Rattle.ring_laws.proofs.attaching.attaching_law.Goals as goal
 
 pub returns : goal.returns
-returns c = record { mailbox = mailbox_shown; attached = attached_same; reattached = reattached_same }
+returns c = record { mailbox = device_mailbox_there; attached = attached_same; reattached = reattached_same }

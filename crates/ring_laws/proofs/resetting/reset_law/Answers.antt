@@ -14,11 +14,11 @@ returns c =
       hand = hand_reset;
       target = target_reset_keeps;
       side = side_reset;
-      attached = attached_reset;
-      reattached = reattached_reset;
       lists = lists_reset;
       kept = kept_reset;
       pages = pages_reset;
+      attached = attached_reset;
+      reattached = reattached_reset;
       not_blocked = not_blocked_same;
       handlers_out = handlers_out_same;
     }
