@@ -24,7 +24,7 @@ use Rattle.ring_laws.proofs.Places.{slice_get-right}
 use Rattle.ring_laws.proofs.Answered.{response_apart, response_here, id_of_answered, answered_over, length-response}
 use Rattle.ring_laws.specs.Placed.{CanAnswer, placed_in}
 use Rattle.ring_laws.proofs.Numbered.{NextEntry, items_apart, counted-before}
-use Rattle.ring_laws.proofs.Kept.{id-same}
+use Rattle.ring_laws.proofs.LaidIds.{id-same}
 use Rattle.tcmu_types.proofs.Places.{get_append_left}
 
 pub command-of : (n : ℕ) (l : Laid) → is_command (record { len = n; laid = l }) ≡ true → (q : ℕ) × (c : CommandData) × (l ≡ ring.Cmd q c)

@@ -2,7 +2,7 @@
 use Rattle.std.proofs.Common.{◌≡◌, ◌≢◌, ℕ, ◌+◌, ◌-◌, ◌*◌, ◌/◌, ◌%◌, ◌^◌, ◌≤◌, ◌<◌, ◌&&◌, ◌||◌, inr, Bool, true, false, not, cond, List, [], ◌∷◌, ◌++◌, length, take, drop, map, refl, sym, ap, ◌∙◌, arith, suc, zero, Option, Some, None, slice_get, subst, ⊎_elim, eqb}
 use Rattle.std.specs.List.{list_any}
 use Rattle.std.specs.Option.{is_some}
-use Rattle.std.proofs.lemmas.Bool.{cases_Bool, eqb-true, eqb-false, cases_lt, ne_eqb, eq-eqb, false≢true, or_parts, or_left, or_right}
+use Rattle.std.proofs.lemmas.Bool.{cases_Bool, eqb-false, cases_lt, ne_eqb, eq-eqb, false≢true, or_parts, or_left, or_right}
 use Rattle.std.proofs.Math.Nat.{mul-le-mul_left}
 use Rattle.std.proofs.lemmas.List.{take-take, take_all, length-take-le, take-append-drop, drop_all}
 use Rattle.std.proofs.lemmas.List.Sums.{sum_by_push}
@@ -28,7 +28,7 @@ use Rattle.tcmu_model.specs.Sides.{PendingRow, Recorded, TargetState}
 use Rattle.tcmu_model.specs.Represents.{RingStands, recorded}
 use Rattle.tcmu_model.specs.TargetCleans.{CleanAnswer, Logged, BadTail, Broken, all_cleaned, one_cleaned, unless_broken, logged_or_broken, ends_at, tail_read, tail_fits, target_cleaned, target_clean_answer}
 use Rattle.ring_laws.specs.Cleaned.{CanClean}
-use Rattle.ring_laws.proofs.Held.{holds}
+use Rattle.ring_laws.proofs.SoundRing.{holds}
 use Rattle.ring_laws.proofs.Numbered.{can_answer, counted-before}
 use Rattle.ring_laws.proofs.Places.{used_is, lengths_more}
 use Rattle.ring_laws.proofs.CleanedOne.{CleanWith, CleanAt, clean-one, clean-pass, commands-next, next-place, placed-first, take-next, found-serial_is}

@@ -25,7 +25,7 @@ use Rattle.ring_laws.specs.Cleaned.{CanClean}
 use Rattle.ring_laws.proofs.Agree.{held-same}
 use Rattle.ring_laws.proofs.LaidBlocks.{covered, stand-other}
 use Rattle.ring_laws.proofs.CleanedAll.{cleaned-at, get-take}
-use Rattle.ring_laws.proofs.CleanedKept.{target_cleaned_keeps}
+use Rattle.ring_laws.proofs.CleanedRecords.{target_cleaned_keeps}
 use Rattle.ring_laws.proofs.SameJobs.{HasSame, given_same, outs_same}
 use Rattle.ring_laws.proofs.AnswerBlocks.{differ-right}
 

@@ -31,8 +31,8 @@ use Rattle.tcmu_model.specs.Represents.{RingStands, IdsStand, BlocksOf, BlocksSt
 use Rattle.tcmu_model.specs.TargetCleans.{one_cleaned, answered_by, response_in, completions_read, past}
 use Rattle.ring_laws.specs.Cleaned.{response_of}
 use Rattle.tcmu_model.specs.Owned.{ListsSound}
-use Rattle.ring_laws.proofs.Held.{holds}
-use Rattle.ring_laws.proofs.Kept.{command_long}
+use Rattle.ring_laws.proofs.SoundRing.{holds}
+use Rattle.ring_laws.proofs.LaidIds.{command_long}
 use Rattle.ring_laws.proofs.Layouts.{add-mod, length-request, length-iovs}
 use Rattle.ring_laws.proofs.AnswerBlocks.{can_fill}
 use Rattle.ring_laws.proofs.Completing.{response_of_entry, response_read, completed-log}

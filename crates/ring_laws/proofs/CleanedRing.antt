@@ -1,16 +1,16 @@
 -- What a clean keeps of the ring, of the ids and of the notes.
-use Rattle.std.proofs.Common.{◌≡◌, ℕ, ◌+◌, ◌-◌, ◌≤◌, ◌⊎◌, inl, true, false, List, [], ◌∷◌, ◌++◌, length, take, drop, map, refl, sym, ap, ◌∙◌, arith, suc, zero, Option, Some, None, slice_get, subst, ⊎_elim, eqb}
-use Rattle.std.proofs.lemmas.Bool.{cases_Bool, ne_eqb, true≢false, or_right}
+use Rattle.std.proofs.Common.{◌≡◌, ℕ, ◌+◌, ◌-◌, ◌≤◌, true, false, List, ◌++◌, length, take, drop, map, refl, sym, ap, ◌∙◌, arith, Some, slice_get, subst, ⊎_elim, eqb}
+use Rattle.std.proofs.lemmas.Bool.{cases_Bool, true≢false}
 use Rattle.tcmu_types.specs.Data.{CommandData}
 use Rattle.tcmu_model.specs.RingState.{Item, Laid, commands_in, serials_in}
 use Rattle.tcmu_model.specs.RingState as ring
 use Rattle.tcmu_model.specs.Device.{Unfinished, DeviceState}
 use Rattle.tcmu_model.specs.Events.{is_among, after_clean, answered, cleaned_books}
-use Rattle.tcmu_model.specs.Sound.{IsSound, Differ, Rise, dispatched_serials}
+use Rattle.tcmu_model.specs.Sound.{IsSound, Differ, dispatched_serials}
 use Rattle.tcmu_model.specs.BlockLists.{Taken, list_of}
 use Rattle.tcmu_model.specs.Regions.{RegionState}
 use Rattle.tcmu_model.proofs.Basics.{laid_rise, rows_rise, serials_split}
-use Rattle.tcmu_model.proofs.Rises.{not_above, among-append, among-take, among_every, every-among}
+use Rattle.tcmu_model.proofs.Rises.{among-take, among_every, every-among}
 use Rattle.tcmu_model.proofs.Fronts.{commands_more}
 use Rattle.tcmu_model.specs.Picture.{place_of, item_bytes, request_of, ids_named}
 use Rattle.tcmu_model.specs.Sides.{PendingRow, TargetState}
@@ -18,7 +18,7 @@ use Rattle.tcmu_model.specs.Represents.{RingStands, IdsStand, NotesStand, entry_
 use Rattle.tcmu_model.specs.TargetCleans.{region_cleaned, target_cleaned}
 use Rattle.ring_laws.specs.Cleaned.{CanClean}
 use Rattle.ring_laws.proofs.RingLaid.{entry_same}
-use Rattle.ring_laws.proofs.Submit.{serial_at}
+use Rattle.ring_laws.proofs.LaidRing.{serial_at}
 use Rattle.ring_laws.proofs.CleanedOne.{CleanAt}
 use Rattle.ring_laws.proofs.CleanedAll.{cleaned-at, not-before}
 use Rattle.ring_laws.proofs.NoteIds.{RowsDiffer, note_id_fewer, note_stands_by, serials_of_rows}

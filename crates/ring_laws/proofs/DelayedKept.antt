@@ -1,5 +1,5 @@
 -- A command that is accepted and delayed: the region stays as it is.
-use Rattle.std.proofs.Common.{◌≡◌, ℕ, ◌+◌, true, List, [], ◌∷◌, ◌++◌, refl, ap, ◌∙◌, Option}
+use Rattle.std.proofs.Common.{◌≡◌, ℕ, ◌+◌, List, [], ◌∷◌, ◌++◌, refl, ap, ◌∙◌, Option}
 use Rattle.tcmu_types.specs.Data.{CommandData, SettingsData}
 use Rattle.tcmu_types.specs.declared.answer.Submit.TheVariants as submit
 use Rattle.tcmu_model.specs.Device.{Delayed, DeviceState}

@@ -23,7 +23,7 @@ use Rattle.ring_laws.proofs.AnswerBytes.{turned-found}
 use Rattle.ring_laws.proofs.CleanedOne.{commands-next}
 use Rattle.ring_laws.proofs.NextCases.{after_at, after_detached, behind_item, by_next, noted_in, sent_in}
 use Rattle.ring_laws.proofs.PlacedAnswers.{pending_turned}
-use Rattle.ring_laws.proofs.Submit.{commands-append}
+use Rattle.ring_laws.proofs.LaidRing.{commands-append}
 use Rattle.ring_laws.proofs.TailMoved.{take_more}
 use Rattle.ring_laws.proofs.Ticked.{ring_by}
 

@@ -33,7 +33,7 @@ use Rattle.ring_laws.specs.Restarted.{count_jobs, count_parked}
 use Rattle.ring_laws.proofs.Layouts.{take-written_inside, mailbox_moved}
 use Rattle.ring_laws.proofs.TailMoved.{tail_moved}
 use Rattle.ring_laws.proofs.Opened.{flags-again}
-use Rattle.ring_laws.proofs.CleanedKept.{target_cleaned_keeps}
+use Rattle.ring_laws.proofs.CleanedRecords.{target_cleaned_keeps}
 use Rattle.ring_laws.proofs.AttachedUser.{attached_same, reattached_same}
 use Rattle.ring_laws.proofs.RestartedAnswer.{jobs_counted}
 

@@ -1,7 +1,6 @@
 -- A handler answers: the jobs.
-use Rattle.std.proofs.Common.{◌≡◌, ◌≢◌, ℕ, Bool, true, false, cond, List, [], ◌∷◌, map, filter, refl, sym, ap, ◌∙◌, Option, Some, None, subst, ⊎_elim}
-use Rattle.std.specs.Bool.{MatchBool}
-use Rattle.std.proofs.lemmas.Bool.{cases_Bool, ne_eqb, eq-eqb, false≢true}
+use Rattle.std.proofs.Common.{◌≡◌, ◌≢◌, ℕ, true, false, cond, List, [], ◌∷◌, map, filter, refl, sym, ap, ◌∙◌, Option, Some, None, subst, ⊎_elim}
+use Rattle.std.proofs.lemmas.Bool.{cases_Bool, ne_eqb, eq-eqb}
 use Rattle.tcmu_types.specs.Data.{ReplyData, SettingsData}
 use Rattle.tcmu_types.specs.Rules.{takes_payload}
 use Rattle.tcmu_model.specs.declared.state.CommandState.TheVariants.{Out, Handled}
@@ -19,6 +18,7 @@ use Rattle.tcmu_model.specs.Represents.{AreGiven, AreOut, IsGiven, IsJobOf, Jobs
 use Rattle.tcmu_model.specs.HandSteps.{hand_has, hand_answered, with_answer}
 use Rattle.ring_laws.proofs.Numbered.{can_answer}
 use Rattle.ring_laws.proofs.TakenOut.{none_at}
+use Rattle.ring_laws.proofs.Matched.{unmatched}
 
 -- no data is in before the answer is placed
 pub none_in : (n : ℕ) (u : Unfinished) → u.state ≡ Out → data_in n u.state u.reply ≡ zeros n
@@ -36,11 +36,7 @@ job_handled s rows lists u reply job parts st h =
     record { id = h.id; cdb = h.cdb; iovs = h.iovs; in_len = h.in_len; carried = h.carried; count = h.count; size = h.size; payload = h.payload ∙ payload_same u reply st }
 
 given_one : (s : SettingsData) (rows : List PendingRow) (lists : List Taken) (g : GivenJob) (u : Unfinished) (reply : ReplyData) → u.state ≡ Out → IsGiven s rows lists g u → IsGiven s rows lists g (with_reply reply u)
-given_one s rows lists g u reply st h = (h.0, unparked (has_state state.Parked u) _ _ (rw st refl) h.1)
-  where
-    unparked : (b : Bool) (P Q : Type 0) → b ≡ false → MatchBool b P Q → Q
-    unparked true P Q e h = absurd (false≢true (sym e))
-    unparked false P Q e h = h
+given_one s rows lists g u reply st h = (h.0, unmatched (has_state state.Parked u) _ _ (rw st refl) h.1)
 
 given_handled : (s : SettingsData) (rows : List PendingRow) (lists : List Taken) (k : ℕ) (reply : ReplyData) (gs : List GivenJob) (us : List Unfinished) →
     AreGiven s rows lists gs (filter is_in_hand us) → AreGiven s rows lists gs (filter is_in_hand (with_first (is_at k Out) (with_reply reply) us))

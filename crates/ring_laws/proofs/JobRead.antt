@@ -28,7 +28,7 @@ use Rattle.tcmu_model.proofs.Facts.{placed_dispatched}
 use Rattle.tcmu_model.proofs.Fronts.{commands_more}
 use Rattle.tcmu_model.proofs.Indexed.{item_at}
 use Rattle.ring_laws.proofs.EntriesThere.{AreInside, IsRequest, request_there}
-use Rattle.ring_laws.proofs.Kept.{id_front, command_long}
+use Rattle.ring_laws.proofs.LaidIds.{id_front, command_long}
 use Rattle.ring_laws.proofs.Layouts.{length-iovs}
 use Rattle.ring_laws.proofs.MailboxThere.{mailbox_of}
 use Rattle.ring_laws.proofs.PassedItems.{Within, item_within, item_there}

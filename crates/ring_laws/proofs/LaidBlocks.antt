@@ -1,6 +1,6 @@
 -- A command is laid: the blocks and their data.
 use Rattle.std.proofs.Common.{◌≡◌, ℕ, ◌+◌, ◌-◌, ◌*◌, ◌/◌, ◌≤◌, ◌<◌, ◌⊎◌, ◌||◌, inl, inr, max, Bool, true, false, cond, List, [], ◌∷◌, ◌++◌, length, take, filter, replicate, refl, sym, ap, ◌∙◌, arith, suc, zero, Option, Some, None, slice_get, length-append, subst, ⊎_elim, eqb}
-use Rattle.std.proofs.lemmas.Bool.{cases_Bool, eqb-true, cases_lt, ne_eqb, eq-eqb, false≢true, or_parts, or_left, or_right}
+use Rattle.std.proofs.lemmas.Bool.{cases_Bool, cases_lt, ne_eqb, eq-eqb, false≢true, or_parts, or_left, or_right}
 use Rattle.std.specs.Bool.{MatchBool}
 use Rattle.std.proofs.lemmas.List.{take-take, take-replicate, length-replicate}
 use Rattle.tcmu_types.specs.Data.{CommandData}
@@ -27,8 +27,8 @@ use Rattle.ring_laws.proofs.Places.{slice_get-right}
 use Rattle.ring_laws.proofs.Free.{length-least_free, least-are, IsFree, least-differ}
 use Rattle.ring_laws.proofs.Scatter.{grown, scattered-other, scattered-data, along-same, grown-old}
 use Rattle.ring_laws.proofs.LaidEntry.{laid_in}
-use Rattle.ring_laws.proofs.Submit.{first-append, first-here, unlisted, cmd_item, with_waiting}
-use Rattle.ring_laws.proofs.Kept.{rows_below, lists_below, every-push}
+use Rattle.ring_laws.proofs.LaidRing.{first-append, first-here, unlisted, cmd_item, with_waiting}
+use Rattle.ring_laws.proofs.LaidIds.{rows_below, lists_below, every-push}
 use Rattle.ring_laws.proofs.TargetAnswers.{held_length}
 use Rattle.tcmu_model.proofs.Everies.{every-weaker}
 use Rattle.tcmu_model.proofs.Rises.{among-append, among_every, every-among}

@@ -1,5 +1,5 @@
 -- A command is laid: the notes, the jobs, the user side, and the sizes of the blocks.
-use Rattle.std.proofs.Common.{◌≡◌, ℕ, ◌-◌, ◌≤◌, ◌<◌, ◌⊎◌, inl, inr, true, false, List, [], ◌∷◌, ◌++◌, length, replicate, filter, refl, sym, ap, ◌∙◌, arith, Option, Some, None, append-nil, ⊎_elim, eqb}
+use Rattle.std.proofs.Common.{◌≡◌, ℕ, ◌-◌, ◌≤◌, ◌<◌, inl, inr, true, false, List, [], ◌∷◌, ◌++◌, length, replicate, filter, refl, sym, ap, ◌∙◌, arith, Option, Some, None, append-nil, ⊎_elim, eqb}
 use Rattle.std.specs.Option.{option_map}
 use Rattle.std.proofs.lemmas.Bool.{cases_Bool, false≢true, or_left}
 use Rattle.std.proofs.lemmas.List.Elements.{filter-append}
@@ -19,8 +19,8 @@ use Rattle.tcmu_model.specs.Sides.{InHand, PendingRow, TargetState, UserState}
 use Rattle.tcmu_model.specs.Represents.{IsId, IsLeftOver, IsNoteId, JobsStand, NotesStand, RingStands, TargetKeeps, UserKeeps, has_id, id_of, is_out, row_has, serial_with}
 use Rattle.tcmu_model.specs.TargetSteps.{block_data, blocks_given, region_laid, row_of, target_laid}
 use Rattle.tcmu_model.specs.Owned.{HasRoom, ListsSound}
-use Rattle.ring_laws.proofs.Submit.{first-append, first-here, not_below, cmd_item, with_waiting, laid_command}
-use Rattle.ring_laws.proofs.Kept.{entries_laid, lists_below, rows_below}
+use Rattle.ring_laws.proofs.LaidRing.{first-append, first-here, not_below, cmd_item, with_waiting, laid_command}
+use Rattle.ring_laws.proofs.LaidIds.{entries_laid, lists_below, rows_below}
 use Rattle.ring_laws.proofs.LaidPoints.{jobs_laid, notes_laid, side_laid}
 use Rattle.ring_laws.proofs.SameJobs.{HasSame}
 use Rattle.ring_laws.proofs.Sized.{sized_along, sized_grown}

@@ -16,8 +16,8 @@ use Rattle.tcmu_model.proofs.Rises.{among-append, among-here}
 use Rattle.tcmu_model.proofs.Everies.{every-append, every-weaker}
 use Rattle.tcmu_model.specs.Owned.{ListsSound, HasRoom}
 use Rattle.ring_laws.proofs.Places.{laid_with, LaidCase, laid_case, Old, Padding, New}
-use Rattle.ring_laws.proofs.Submit.{first-append, first-here, not_below, serial_at, unlisted, cmd_item, with_waiting}
-use Rattle.ring_laws.proofs.Kept.{rows_below, lists_below}
+use Rattle.ring_laws.proofs.LaidRing.{first-append, first-here, not_below, serial_at, unlisted, cmd_item, with_waiting}
+use Rattle.ring_laws.proofs.LaidIds.{rows_below, lists_below}
 use Rattle.ring_laws.proofs.TargetAnswers.{held_length}
 use Rattle.ring_laws.proofs.Free.{IsFree, length-least_free, least-are, least-differ}
 

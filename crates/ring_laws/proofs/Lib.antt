@@ -2,13 +2,13 @@ pub mod Opened
 pub mod Matched
 pub mod Bytes
 pub mod Places
-pub mod Held
+pub mod SoundRing
 pub mod Layouts
 pub mod LaidEntry
 pub mod RingLaid
 pub mod Agree
-pub mod Submit
-pub mod Kept
+pub mod LaidRing
+pub mod LaidIds
 pub mod TargetAnswers
 pub mod Scatter
 pub mod Free
@@ -34,7 +34,7 @@ pub mod HandledKept
 pub mod TakenOut
 pub mod CleanedOne
 pub mod CleanedAll
-pub mod CleanedKept
+pub mod CleanedRecords
 pub mod CleanedRing
 pub mod CleanedJobs
 pub mod HandledJobs

@@ -19,7 +19,7 @@ use Rattle.tcmu_model.specs.Sides.{Recorded}
 use Rattle.tcmu_model.specs.Represents.{RingStands}
 use Rattle.tcmu_model.specs.UserSteps.{user_mailbox, of_size, ring_size}
 use Rattle.tcmu_model.proofs.Written.{lengths as writes, field-in, field-front}
-use Rattle.ring_laws.proofs.Held.{holds}
+use Rattle.ring_laws.proofs.SoundRing.{holds}
 use Rattle.ring_laws.proofs.LaidEntry.{times_eight}
 use Rattle.ring_laws.specs.Placed.{HoldsItems}
 

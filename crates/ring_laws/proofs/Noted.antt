@@ -1,9 +1,9 @@
 -- A note is laid, and the target answers as the device.
-use Rattle.std.proofs.Common.{◌≡◌, ℕ, ◌+◌, ◌%◌, ◌^◌, ◌≤◌, ◌<◌, inl, inr, Bool, true, false, not, cond, List, [], ◌∷◌, ◌++◌, length, take, drop, map, refl, sym, ap, ◌∙◌, arith, Option, Some, None, slice_get, append-nil, subst, ⊎_elim, eqb}
+use Rattle.std.proofs.Common.{◌≡◌, ℕ, ◌+◌, ◌%◌, ◌^◌, ◌≤◌, ◌<◌, inl, Bool, true, false, not, cond, List, [], ◌∷◌, ◌++◌, length, take, drop, map, refl, sym, ap, ◌∙◌, arith, Option, Some, None, slice_get, append-nil, subst, ⊎_elim, eqb}
 use Rattle.std.specs.Prelude.{nat_le}
 use Rattle.std.specs.Option.{option_map}
 use Rattle.std.specs.List.{list_any}
-use Rattle.std.proofs.lemmas.Bool.{cases_Bool, eqb-true, eq-eqb, ne_eqb, false≢true, leb-true}
+use Rattle.std.proofs.lemmas.Bool.{cases_Bool, eqb-true, false≢true, leb-true}
 use Rattle.std.proofs.lemmas.List.{length-map}
 use Rattle.std.proofs.Math.Seq.{take-append_seam}
 use Rattle.tcmu_types.specs.Data.{SettingsData}
@@ -16,7 +16,7 @@ use Rattle.tcmu_model.specs.RingState.{RingState, Item, Laid, lengths, head, use
 use Rattle.tcmu_model.specs.RingState as ring
 use Rattle.tcmu_model.specs.Device.{Unfinished, DeviceState, has_serial}
 use Rattle.tcmu_model.specs.Events.{after_tmr, is_among, tmr_answer, tmr_length_of, unknown_serial, with_note}
-use Rattle.tcmu_model.specs.Sound.{IsSound, Every, Differ}
+use Rattle.tcmu_model.specs.Sound.{IsSound, Every}
 use Rattle.tcmu_model.specs.BlockLists.{Taken, list_of}
 use Rattle.tcmu_model.specs.Pending.{PendingData}
 use Rattle.tcmu_model.specs.Layout.{tmr_bytes}
@@ -29,19 +29,19 @@ use Rattle.tcmu_model.proofs.Rises.{among_every}
 use Rattle.tcmu_model.proofs.SoundLaying.{tmr_sizes}
 use Rattle.tcmu_model.proofs.Standing.{any_among}
 use Rattle.tcmu_model.specs.Sides.{InHand, PendingRow, TargetState, UserState}
-use Rattle.tcmu_model.specs.Represents.{AreNoteIds, BlocksStand, IdsStand, IsId, IsNoteId, JobsStand, NoteStands, NotesStand, RingStands, TargetKeeps, UserKeeps, entry_at, has_id, id_at, id_of, ids_in, pending_of, recorded, row_has, serial_with}
+use Rattle.tcmu_model.specs.Represents.{AreNoteIds, BlocksStand, IdsStand, IsId, IsNoteId, JobsStand, NoteStands, NotesStand, RingStands, TargetKeeps, UserKeeps, entry_at, id_at, id_of, ids_in, pending_of, recorded, row_has}
 use Rattle.tcmu_model.specs.TargetSteps.{fits_in, free_in, id_or_zero, ids_of, need_in, pad_in, pads_of, region_noted, target_noted, target_tmr_answer, unknown_in}
 use Rattle.tcmu_model.specs.Owned.{ListsSound}
 use Rattle.ring_laws.specs.Refused.{is_unnoted}
 use Rattle.ring_laws.proofs.Agree.{Agrees, agrees}
-use Rattle.ring_laws.proofs.Held.{holds}
+use Rattle.ring_laws.proofs.SoundRing.{holds}
 use Rattle.ring_laws.proofs.Places.{laid_with, LaidCase, laid_case, Old, Padding, New, take-laid}
 use Rattle.ring_laws.proofs.LaidEntry.{entered, laid_in}
 use Rattle.ring_laws.proofs.LaidPoints.{SameEntries, jobs_laid, notes_laid, serials-pads, side_laid}
 use Rattle.ring_laws.proofs.SameJobs.{HasSame}
 use Rattle.ring_laws.proofs.RingLaid.{SameItems, new-entry, old-entry, ring-laid}
-use Rattle.ring_laws.proofs.Submit.{commands-append, front_same}
-use Rattle.ring_laws.proofs.Kept.{command_long, commands-pads, id-same}
+use Rattle.ring_laws.proofs.LaidRing.{commands-append, front_same}
+use Rattle.ring_laws.proofs.LaidIds.{command_long, commands-pads, id-same}
 use Rattle.ring_laws.proofs.NoteBytes.{ids_again, length-note}
 use Rattle.ring_laws.proofs.TargetAnswers.{Rooms, rooms}
 

@@ -1,9 +1,9 @@
 -- A note is answered with the ids of those of its commands that are running: each is the id of an open job, and no other is.
-use Rattle.std.proofs.Common.{◌≡◌, ℕ, ◌≤◌, ◌⊎◌, ◌&&◌, Bool, true, false, not, List, [], ◌∷◌, ◌++◌, take, drop, map, filter, refl, sym, ap, ◌∙◌, arith, Option, Some, None, subst, ⊎_elim, eqb}
+use Rattle.std.proofs.Common.{◌≡◌, ℕ, ◌≤◌, ◌&&◌, Bool, true, false, not, List, [], ◌∷◌, ◌++◌, take, drop, map, filter, refl, sym, ap, ◌∙◌, arith, Option, Some, None, subst, ⊎_elim, eqb}
 use Rattle.std.specs.Bool.{MatchBool}
 use Rattle.std.specs.List.{list_any}
 use Rattle.std.specs.Option.{is_some}
-use Rattle.std.proofs.lemmas.Bool.{cases_Bool, eqb-true, eq-eqb, ne_eqb, false≢true, true≢false, or_left, or_right, and_parts}
+use Rattle.std.proofs.lemmas.Bool.{cases_Bool, eqb-true, eq-eqb, false≢true, true≢false, or_left, or_right, and_parts}
 use Rattle.std.proofs.lemmas.List.{take-take}
 use Rattle.tcmu_types.specs.Data.{SettingsData}
 use Rattle.tcmu_model.specs.declared.state.CommandState.{CommandState}

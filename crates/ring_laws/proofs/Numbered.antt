@@ -13,8 +13,8 @@ use Rattle.tcmu_model.proofs.Rises.{not_above}
 use Rattle.tcmu_model.specs.Picture.{place_of}
 use Rattle.tcmu_model.specs.Represents.{command_places}
 use Rattle.ring_laws.specs.Placed.{HoldsItems, CanAnswer}
-use Rattle.ring_laws.proofs.Held.{holds}
-use Rattle.ring_laws.proofs.Kept.{command_long}
+use Rattle.ring_laws.proofs.SoundRing.{holds}
+use Rattle.ring_laws.proofs.LaidIds.{command_long}
 use Rattle.ring_laws.proofs.Places.{apart_in_ring, ends_within, used_is, lengths_more}
 use Rattle.tcmu_types.proofs.Places.{get_append_left}
 

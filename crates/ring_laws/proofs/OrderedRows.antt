@@ -15,7 +15,7 @@ use Rattle.tcmu_model.proofs.Basics.{laid_rise, serials_split}
 use Rattle.tcmu_model.proofs.Counts.{state_at, state_is}
 use Rattle.tcmu_model.proofs.Everies.{every-back, every-both, every-filter, every-front, every-mapped, every-none, every-weaker, filter_all}
 use Rattle.tcmu_model.proofs.Facts.{apart_behind, waiting_undispatched}
-use Rattle.tcmu_model.proofs.Rises.{among-take, among_every, every-among, not_among, rise_from, rise_seam, rise_within}
+use Rattle.tcmu_model.proofs.Rises.{among-take, among_every, every-among, rise_from, rise_within}
 use Rattle.tcmu_model.proofs.Standing.{answered_rows, in_hand_rows}
 use Rattle.ring_laws.specs.Placed.{parked_in}
 use Rattle.ring_laws.proofs.PlacedAnswers.{serials_turned}

@@ -1,8 +1,7 @@
 -- A respond out of order: the jobs that are left, and the answers of both sides.
-use Rattle.std.proofs.Common.{◌≡◌, ◌≢◌, ℕ, ◌&&◌, Bool, true, false, not, cond, List, [], ◌∷◌, map, filter, refl, sym, ap, ◌∙◌, Some, None, subst, ⊎_elim, eqb}
-use Rattle.std.specs.Bool.{MatchBool}
+use Rattle.std.proofs.Common.{◌≡◌, ◌≢◌, ℕ, ◌&&◌, true, false, not, cond, List, [], ◌∷◌, map, filter, refl, sym, ap, ◌∙◌, Some, None, subst, ⊎_elim, eqb}
 use Rattle.std.specs.Option.{is_some, option_map}
-use Rattle.std.proofs.lemmas.Bool.{cases_Bool, eqb-true, ne_eqb, eq-eqb, true≢false, false≢true, and_parts}
+use Rattle.std.proofs.lemmas.Bool.{cases_Bool, eqb-true, ne_eqb, eq-eqb, true≢false, and_parts}
 use Rattle.std.specs.List.{list_any}
 use Rattle.tcmu_types.specs.Data.{SettingsData}
 use Rattle.tcmu_types.specs.declared.settings.Flags.{Flags}

@@ -1,6 +1,5 @@
 -- Jobs of commands that keep their ids and their block lists, where rows and lists change for others.
-use Rattle.std.proofs.Common.{◌≡◌, ℕ, Bool, true, false, List, [], ◌∷◌, length, ap, ◌∙◌, sym}
-use Rattle.std.specs.Bool.{MatchBool}
+use Rattle.std.proofs.Common.{◌≡◌, ℕ, List, [], ◌∷◌, length, ap, ◌∙◌, sym}
 use Rattle.tcmu_types.specs.Data.{SettingsData}
 use Rattle.tcmu_model.specs.declared.state.CommandState.TheVariants.{Parked}
 use Rattle.tcmu_model.specs.Device.{Unfinished, has_state}

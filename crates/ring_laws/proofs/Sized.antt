@@ -24,13 +24,14 @@ use Rattle.tcmu_model.specs.EntryReading.{entry_read}
 use Rattle.tcmu_model.specs.Regions.{AreSized, HaveSize, RegionState, can_lend, home, named_by, opening_region, put_where, returned, size_of, without}
 use Rattle.tcmu_model.specs.Areas.{over, written_along}
 use Rattle.tcmu_model.specs.Sides.{Carried, Copied, GivenJob, InHand, JobState, Moved, Parked, PendingRow, TargetState, UserState}
-use Rattle.tcmu_model.specs.Represents.{AreGiven, IsJobOf, JobsStand}
+use Rattle.tcmu_model.specs.Represents.{AreGiven, AreOut, IsJobOf, JobsStand, is_out}
 use Rattle.tcmu_model.specs.TargetSteps.{blocks_held}
 use Rattle.tcmu_model.specs.TargetCleans.{region_cleaned, region_reset, target_cleaned}
 use Rattle.tcmu_model.specs.UserSteps.{Placing, is_open_job, moving, placed_at, placed_front, placed_one, placing_by, region_abandoned, region_published, user_mailbox, user_responded, with_job_back, with_jobs, with_parked, with_parked_back, with_payload}
 use Rattle.tcmu_model.specs.UserNext.{Nexted, BadEntry, command_next, iovs_in, most_entries, next_of, next_within, nexted, note_next, region_lent, tmr_ids_in, with_passed, with_unknown}
 use Rattle.tcmu_model.proofs.Everies.{every-with_first}
 use Rattle.tcmu_model.proofs.Written.{length-zeros}
+use Rattle.ring_laws.specs.Restarted.{region_restarted, region_with_hand}
 use Rattle.ring_laws.specs.Sizes.{IsSized}
 use Rattle.ring_laws.proofs.AnswerData.{sizes-scattered}
 
@@ -194,6 +195,21 @@ pub sized_abandoned : (r : RegionState) (user : UserState) (hand : List InHand) 
 sized_abandoned r user hand rows d lists pages jobs h =
     own_size (block_size d.settings.pages) (region_abandoned r user.jobs)
     (all_back (block_size d.settings.pages) r user.jobs (ap block_size pages, subst (λ n. AreSized (block_size n) r.blocks) pages h) (given_move d.settings rows lists user.jobs (filter is_in_hand d.unfinished) jobs.given))
+
+hand_back : (s : SettingsData) (rows : List PendingRow) (lists : List Taken) (r : RegionState) (hs : List InHand) (us : List Unfinished) → HasBlocks (block_size s.pages) r → AreOut s rows lists hs us → HasBlocks (block_size s.pages) (region_with_hand r hs)
+hand_back s rows lists r [] us b a = b
+hand_back s rows lists r (x ∷ hs) [] b a = absurd a
+hand_back s rows lists r (x ∷ hs) (u ∷ us) b a = hand_back s rows lists (with_job_back r x.job) hs us (job_back (block_size s.pages) r x.job b (job_moves s rows lists u x.job a.0.2.0 a.0.2.1)) a.1
+
+pub sized_restarted : (r : RegionState) (user : UserState) (hand : List InHand) (rows : List PendingRow) (d : DeviceState) (lists : List Taken) →
+    r.pages ≡ d.settings.pages → JobsStand user hand rows d lists → IsSized r → IsSized (region_restarted r hand user)
+unfolding region_restarted
+sized_restarted r user hand rows d lists pages jobs h =
+    let size : ℕ = block_size d.settings.pages in
+    let here : HasBlocks size r = (ap block_size pages, subst (λ n. AreSized (block_size n) r.blocks) pages h) in
+    own_size size (region_abandoned (region_with_hand r hand) user.jobs)
+    (all_back size (region_with_hand r hand) user.jobs (hand_back d.settings rows lists r hand (filter is_out d.unfinished) here jobs.out)
+    (given_move d.settings rows lists user.jobs (filter is_in_hand d.unfinished) jobs.given))
 
 -- ==== next, over any bytes
 

@@ -26,7 +26,7 @@ use Rattle.ring_laws.proofs.RingLaid.{stands-by}
 use Rattle.ring_laws.proofs.LaidBlocks.{blocks_stand_laid}
 use Rattle.ring_laws.proofs.LaidLists.{lists_sound_laid}
 use Rattle.ring_laws.proofs.LaidCommands.{notes_stand_laid, jobs_stand_laid, side_stands_laid, pages_laid, sized_laid}
-use Rattle.ring_laws.proofs.Kept.{stands_laid, ids_stand_laid, target_stands_laid}
+use Rattle.ring_laws.proofs.LaidIds.{stands_laid, ids_stand_laid, target_stands_laid}
 
 -- what a queued answer says of room
 room_of : (d : DeviceState) (c : CommandData) → IsSound d → 2 * entry_length_in d c ≤ d.ring.size → fits_ring d c ≡ true → fits_blocks d c ≡ true → HasRoom d c

@@ -25,9 +25,9 @@ use Rattle.ring_laws.proofs.Bytes.{part-written_behind}
 use Rattle.ring_laws.proofs.Layouts.{take-written_inside, add-mod}
 use Rattle.ring_laws.proofs.Places.{lengths-append}
 use Rattle.ring_laws.proofs.RingLaid.{stands-by}
-use Rattle.ring_laws.proofs.Submit.{commands-append}
+use Rattle.ring_laws.proofs.LaidRing.{commands-append}
 use Rattle.ring_laws.proofs.Agree.{sum-recorded}
-use Rattle.ring_laws.proofs.Kept.{id-same}
+use Rattle.ring_laws.proofs.LaidIds.{id-same}
 
 -- the device with its items published up to an index
 abbrev pub published_to : DeviceState → ℕ → DeviceState

@@ -1,4 +1,4 @@
-//! The target answers as the device.
+//! The answers of the target to submit, enter, block and unblock.
 ghost use Rattle.std.specs.Prelude.{◌≡◌, ℕ, Bool, List};
 ghost use Rattle.tcmu_types.specs.Data.{CommandData};
 ghost use Rattle.tcmu_model.specs.Device.{DeviceState};
@@ -10,7 +10,8 @@ ghost use Rattle.tcmu_model.specs.TargetSteps.{target_block_answer, target_enter
 ghost use Rattle.tcmu_model.specs.Owned.{ListsSound};
 ghost use Rattle.tcmu_model.specs.Represents.{RingStands, TargetKeeps};
 
-/// The target answers as the device does: to a command, to one that waits for room, and to block and unblock.
+/// The target answers as the device does: to a command, to the first delayed one that would enter, and to block and unblock. The answers of
+/// other events stand in the laws of those events.
 pub fn answering_law()
     ensures submit { (front : List ℕ) (t : TargetState) (d : DeviceState) (lists : List Taken) (c : CommandData) →
         IsSound d → ListsSound d lists → RingStands front t.items d lists → TargetKeeps t d lists → target_submit_answer t c ≡ submit_answer d c }

@@ -30,8 +30,9 @@ pub fn completion_law()
 {}
 
 /// The target finds neither a tail that is no item's end nor an id without a command, and logs as many completions as the device, the same
-/// ones in the same order. The ring stands with its items cleared, the ids and the notes with the rows that are left, the blocks in an area
-/// that may end earlier; the jobs, both sides' records and the soundness of the block lists are kept.
+/// ones in the same order. The ring stands with its items cleared, the ids and the notes with the rows that are left (the id of a
+/// command that is finished is left over in a note), the blocks in an area that may end earlier; the jobs, both sides' records and the
+/// soundness of the block lists are kept.
 pub fn clean_law()
     ensures answer { (r : RegionState) (t : TargetState) (d : DeviceState) (lists : List Taken) → CanClean r t d lists → target_clean_answer r t ≡ Logged (clean_answer d) }
     ensures ring { (r : RegionState) (t : TargetState) (d : DeviceState) (lists : List Taken) →

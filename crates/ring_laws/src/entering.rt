@@ -12,7 +12,7 @@ ghost use Rattle.tcmu_model.specs.Owned.{ListsSound};
 ghost use Rattle.tcmu_model.specs.Represents.{BlocksStand, IdsStand, IsId, JobsStand, NotesStand, RingStands, TargetKeeps, UserKeeps};
 ghost use Rattle.ring_laws.specs.Sizes.{IsSized};
 
-/// The first command that waits enters: the answer's serial is its own, and every point is kept, as laying does.
+/// The first delayed command enters: the serial of the answer is its own, and every point is kept, as laying does.
 pub fn enter_law()
     ensures serial { (d : DeviceState) (w : Delayed) (ws : List Delayed) (s : ℕ) → IsSound d → d.delayed ≡ w ∷ ws → enter_answer d ≡ Entered s → s ≡ w.serial }
     ensures ring { (r : RegionState) (t : TargetState) (d : DeviceState) (lists : List Taken) (w : Delayed) (ws : List Delayed) (s id : ℕ) →

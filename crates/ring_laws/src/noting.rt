@@ -14,9 +14,9 @@ ghost use Rattle.tcmu_model.specs.Owned.{ListsSound};
 ghost use Rattle.ring_laws.specs.Refused.{is_unnoted};
 ghost use Rattle.ring_laws.specs.Sizes.{IsSized};
 
-/// The target answers as the device. A note that is laid, whose type is a byte, stands in the ring and names each of its serials by that serial's id;
-/// no command's id, block or job is touched, and both sides' records and the soundness of the block lists are kept. At any other answer nothing
-/// changes.
+/// The target answers as the device. A note that is laid stands in the ring, and names each of its commands, all laid before it, by that
+/// command's id; its type is a byte. No command's id, block or job is touched, and both sides' records and the soundness of the block lists
+/// are kept. At any other answer nothing changes.
 pub fn tmr_law()
     ensures answer { (front : List ℕ) (t : TargetState) (d : DeviceState) (lists : List Taken) (ss : List ℕ) →
         IsSound d → ListsSound d lists → RingStands front t.items d lists → TargetKeeps t d lists → target_tmr_answer t ss ≡ tmr_answer d ss }

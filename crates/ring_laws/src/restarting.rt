@@ -10,6 +10,7 @@ ghost use Rattle.tcmu_model.specs.Represents.{BlocksStand, IdsStand, JobsStand, 
 ghost use Rattle.tcmu_model.specs.UserSteps.{user_abandoned};
 ghost use Rattle.tcmu_model.specs.Owned.{ListsSound};
 ghost use Rattle.ring_laws.specs.Restarted.{region_restarted, restarted_answer};
+ghost use Rattle.ring_laws.specs.Sizes.{IsSized};
 
 /// The jobs in hand and the parked ones go back with their blocks as they are, so every block is at home again, with the payload that it had
 /// in its job; no command is in hand any more. Entries and ids stay, and with them the answers that are placed, which their commands
@@ -33,4 +34,6 @@ pub fn restart_law()
     ensures lists { (d : DeviceState) (lists : List Taken) → ListsSound d lists → ListsSound (after_restart d) lists }
     ensures pages { (r : RegionState) (user : UserState) (hand : List InHand) (d : DeviceState) →
         r.pages ≡ d.settings.pages → (region_restarted r hand user).pages ≡ (after_restart d).settings.pages }
+    ensures sized { (r : RegionState) (user : UserState) (hand : List InHand) (rows : List PendingRow) (d : DeviceState) (lists : List Taken) →
+        r.pages ≡ d.settings.pages → JobsStand user hand rows d lists → IsSized r → IsSized (region_restarted r hand user) }
 {}

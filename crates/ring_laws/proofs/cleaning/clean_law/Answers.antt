@@ -1,5 +1,5 @@
 use Rattle.ring_laws.proofs.CleanedAll.{answer_cleaned}
-use Rattle.ring_laws.proofs.CleanedKept.{target_cleaned_keeps, side_cleaned, pages_cleaned}
+use Rattle.ring_laws.proofs.CleanedRecords.{target_cleaned_keeps, side_cleaned, pages_cleaned}
 use Rattle.ring_laws.proofs.CleanedRing.{ring_cleaned, ids_cleaned, notes_cleaned}
 use Rattle.ring_laws.proofs.CleanedJobs.{blocks_cleaned, jobs_cleaned, lists_cleaned}
 use Rattle.ring_laws.proofs.cleaning.clean_law.Goals as goal
@@ -15,4 +15,6 @@ returns c =
       jobs = jobs_cleaned;
       target = target_cleaned_keeps;
       side = side_cleaned;
-      lists = lists_cleaned; pages = pages_cleaned; }
+      lists = lists_cleaned;
+      pages = pages_cleaned;
+    }

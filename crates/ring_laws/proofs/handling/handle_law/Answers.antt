@@ -3,4 +3,4 @@ use Rattle.ring_laws.proofs.HandledKept.{ring_handled, ids_handled, notes_handle
 use Rattle.ring_laws.proofs.handling.handle_law.Goals as goal
 
 pub returns : goal.returns
-returns c = record { ring = ring_handled; ids = ids_handled; notes = notes_handled; blocks = blocks_handled; jobs = jobs_handled; target = target_handled; side = side_handled; lists = lists_handled; pages = pages_handled; }
+returns c = record { ring = ring_handled; ids = ids_handled; notes = notes_handled; blocks = blocks_handled; jobs = jobs_handled; target = target_handled; side = side_handled; lists = lists_handled; pages = pages_handled }

@@ -2,4 +2,4 @@ use Rattle.ring_laws.proofs.TailMoved.{publish_same, ring_published, ids_publish
 use Rattle.ring_laws.proofs.publishing.publish_law.Goals as goal
 
 pub returns : goal.returns
-returns c = record { answer = publish_same; ring = ring_published; ids = ids_published; notes = notes_published; blocks = blocks_published; jobs = jobs_published; target = target_published; side = side_published; lists = lists_published; pages = pages_published; }
+returns c = record { answer = publish_same; ring = ring_published; ids = ids_published; notes = notes_published; blocks = blocks_published; jobs = jobs_published; target = target_published; side = side_published; lists = lists_published; pages = pages_published }

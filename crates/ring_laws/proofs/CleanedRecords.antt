@@ -1,4 +1,4 @@
--- What a clean keeps, point by point.
+-- What a clean keeps of both sides' records, and of the pages.
 use Rattle.std.proofs.Common.{◌≡◌, true, false, List, length, ⊎_elim, eqb}
 use Rattle.std.proofs.lemmas.Bool.{cases_Bool}
 use Rattle.tcmu_model.specs.Device.{DeviceState}

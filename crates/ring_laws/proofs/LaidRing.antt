@@ -30,7 +30,7 @@ use Rattle.tcmu_model.proofs.Indexed.{every_at}
 use Rattle.tcmu_model.specs.Owned.{ListsSound, HasRoom}
 use Rattle.ring_laws.proofs.Layouts.{add-mod, length-iovs, length-request, id_of_request}
 use Rattle.ring_laws.specs.Placed.{HoldsItems}
-use Rattle.ring_laws.proofs.Held.{holds}
+use Rattle.ring_laws.proofs.SoundRing.{holds}
 use Rattle.ring_laws.proofs.Places.{laid_with, lengths_to_new}
 use Rattle.ring_laws.proofs.LaidEntry.{laid_in, entered}
 use Rattle.ring_laws.proofs.RingLaid.{SameItems, ring-laid}

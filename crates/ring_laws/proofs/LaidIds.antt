@@ -27,13 +27,13 @@ use Rattle.tcmu_model.proofs.Everies.{every-weaker, every-map, every-append, eve
 use Rattle.tcmu_model.proofs.Indexed.{every_at, item_at}
 use Rattle.tcmu_model.specs.TargetSteps.{row_of}
 use Rattle.tcmu_model.specs.Owned.{ListsSound, HasRoom}
-use Rattle.ring_laws.proofs.Held.{holds}
+use Rattle.ring_laws.proofs.SoundRing.{holds}
 use Rattle.ring_laws.proofs.Places.{laid_with, LaidCase, laid_case, Old, Padding, New, take-laid}
 use Rattle.ring_laws.proofs.LaidEntry.{laid_in}
 use Rattle.ring_laws.proofs.RingLaid.{old-entry, new-entry}
 use Rattle.ring_laws.proofs.LaidPoints.{SameEntries}
 use Rattle.ring_laws.proofs.Agree.{blocks-same}
-use Rattle.ring_laws.proofs.Submit.{first-append, first-here, not_below, serial_at, unlisted, cmd_item, with_waiting, commands-append, LaidCommand, laid_command, within_ring}
+use Rattle.ring_laws.proofs.LaidRing.{first-append, first-here, not_below, serial_at, unlisted, cmd_item, with_waiting, commands-append, LaidCommand, laid_command, within_ring}
 use Rattle.tcmu_model.proofs.SoundLaying.{entry_least}
 
 -- ==== what is below the new serial

@@ -1,11 +1,9 @@
 -- What a sound ring gives of its items, and of what stands before the next one.
-use Rattle.std.proofs.Common.{◌≡◌, ℕ, ◌+◌, ◌%◌, ◌≤◌, List, [], ◌∷◌, take, refl, sym, ap, ◌∙◌, arith, subst}
-use Rattle.std.proofs.lemmas.List.Sums.{sum_by-cons}
-use Rattle.tcmu_types.specs.Data.{SettingsData}
-use Rattle.tcmu_model.specs.RingState.{Item, lengths}
+use Rattle.std.proofs.Common.{◌≡◌, ℕ, ◌+◌, ◌%◌, ◌≤◌, take, sym, ap, ◌∙◌, arith, subst}
+use Rattle.tcmu_model.specs.RingState.{lengths}
 use Rattle.tcmu_model.specs.Device.{DeviceState}
 use Rattle.ring_laws.specs.Placed.{HoldsItems}
-use Rattle.tcmu_model.specs.Sound.{IsSound, IsItem, Along}
+use Rattle.tcmu_model.specs.Sound.{IsSound}
 use Rattle.tcmu_model.proofs.Indexed.{item_at}
 use Rattle.tcmu_model.proofs.Laying.{aligned}
 
