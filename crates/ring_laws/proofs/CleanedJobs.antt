@@ -87,11 +87,11 @@ not-held lists p (u ∷ us) b h =
     (λ (k : p u ≡ false). let z : is_among (list_of lists u.serial ++ held_by lists (without_first p us)) b ≡ false = among-append (list_of lists u.serial) (held_by lists (without_first p us)) b ∙ rw t.0 (not-held lists p us b t.1) in rw k z)
     (cases_Bool (p u))
 
-differ-back : (xs ys : List ℕ) → Differ (xs ++ ys) → Differ ys
+pub differ-back : (xs ys : List ℕ) → Differ (xs ++ ys) → Differ ys
 differ-back [] ys d = d
 differ-back (x ∷ xs) ys d = differ-back xs ys d.1
 
-differ-fewer : (xs ys zs : List ℕ) → Differ (xs ++ ys) → Differ zs → ((b : ℕ) → is_among ys b ≡ false → is_among zs b ≡ false) → Differ (xs ++ zs)
+pub differ-fewer : (xs ys zs : List ℕ) → Differ (xs ++ ys) → Differ zs → ((b : ℕ) → is_among ys b ≡ false → is_among zs b ≡ false) → Differ (xs ++ zs)
 differ-fewer [] ys zs d e f = e
 differ-fewer (x ∷ xs) ys zs d e f =
     let t = or_parts (is_among xs x) (is_among ys x) (sym (among-append xs ys x) ∙ d.0) in

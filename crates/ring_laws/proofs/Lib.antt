@@ -38,3 +38,6 @@ pub mod ParkedKept
 pub mod RespondedKept
 pub mod RespondedJobs
 pub mod ParkedJobs
+pub mod PendingRows
+pub mod CountedSerials
+pub mod AnyCalls

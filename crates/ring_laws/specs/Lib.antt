@@ -2,3 +2,4 @@ pub mod Placed
 pub mod Responded
 pub mod Cleaned
 pub mod Refused
+pub mod Calls

@@ -2,6 +2,7 @@
 //! the contracts of the two sides and of the ring path cite both. Those definitions stand in tcmu_model; in specs/ here is what laws rest on.
 #![tactic(auto)]
 
+mod any_bytes;
 mod cleaning;
 mod handling;
 mod kept_lists;
@@ -13,6 +14,7 @@ mod responding;
 mod ticking;
 mod waiting;
 
+pub use any_bytes::{calls_law};
 pub use cleaning::{clean_law, completion_law};
 pub use handling::handle_law;
 pub use kept_lists::kept_law;
