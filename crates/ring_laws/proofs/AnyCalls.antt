@@ -249,7 +249,7 @@ sound_reset r t level h = sound_emptied (target_cleaned r t) level (sound_cleane
 -- ==== any call
 
 pub sound_called : (r : RegionState) (t : TargetState) (call : TargetCall) → TargetSound t → CanCall t call → TargetSound (target_called r t call)
-sound_called r t (Submits c id) h can = sound_submitted t c id h can.1
+sound_called r t (Submits c id) h can = sound_submitted t c id h can
 sound_called r t (Enters id) h can = sound_entered t id h can
 sound_called r t (Notes type_ ss) h can = sound_noted t ss (target_tmr_answer t ss) h
 sound_called r t (Ticks n) h can = sound_ticked t n h
@@ -260,3 +260,6 @@ sound_called r t (Resets level) h can = sound_reset r t level h
 pub sound_all : (t : TargetState) (ms : List CallMade) (after : TargetState) → TargetSound t → Called t ms after → TargetSound after
 sound_all t [] after h c = subst TargetSound (sym c) h
 sound_all t (m ∷ ms) after h c = sound_all (target_called m.region t m.call) ms after (sound_called m.region t m.call h c.0) c.1
+
+pub sound_from_opening : (s : SettingsData) (ms : List CallMade) (t : TargetState) → Called (opening_target s) ms t → TargetSound t
+sound_from_opening s ms t c = sound_all (opening_target s) ms t (sound_opened s) c

@@ -41,3 +41,8 @@ pub mod ParkedJobs
 pub mod PendingRows
 pub mod CountedSerials
 pub mod AnyCalls
+pub mod AnyCleans
+pub mod AnyStops
+pub mod AnySerials
+pub mod AnySettings
+pub mod AnyCommands

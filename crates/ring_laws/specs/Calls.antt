@@ -1,11 +1,11 @@
 -- The target over any bytes: its calls in any order, each on a region whose bytes may have become anything since the one before.
-use Rattle.std.specs.Prelude.{◌≡◌, ℕ, ◌+◌, ◌-◌, ◌<◌, ◌≤◌, ◌==◌, ◌&&◌, not, nat_lt, nat_le, Bool, true, false, List, [], ◌∷◌, ◌++◌, length, take, map, slice_get, Some, if◌then◌else◌}
+use Rattle.std.specs.Prelude.{◌≡◌, ℕ, ◌+◌, ◌-◌, ◌<◌, ◌≤◌, ◌==◌, ◌&&◌, not, nat_lt, nat_le, Bool, true, false, List, [], ◌∷◌, ◌++◌, length, take, map, slice_get, Some, None, if◌then◌else◌}
 use Rattle.std.specs.List.{count_by}
 use Rattle.tcmu_types.specs.Data.{CommandData, DoneData}
-use Rattle.tcmu_types.specs.Rules.{IsCommand}
 use Rattle.tcmu_types.specs.declared.answer.Submit.{Submit}
 use Rattle.tcmu_types.specs.declared.answer.Submit.TheVariants as submit
 use Rattle.tcmu_types.specs.declared.answer.Enter.TheVariants as enter
+use Rattle.tcmu_model.specs.Lists.{first_of}
 use Rattle.tcmu_model.specs.Lengths.{blocks_of}
 use Rattle.tcmu_model.specs.Device.{Delayed}
 use Rattle.tcmu_model.specs.Events.{is_among}
@@ -14,9 +14,9 @@ use Rattle.tcmu_model.specs.Regions.{RegionState, size_of}
 use Rattle.tcmu_model.specs.Pending.{PendingData}
 use Rattle.tcmu_model.specs.Areas.{bytes_along}
 use Rattle.tcmu_model.specs.Sides.{PendingRow, TargetState}
-use Rattle.tcmu_model.specs.Represents.{IsId}
+use Rattle.tcmu_model.specs.Represents.{IsId, has_id, row_has}
 use Rattle.tcmu_model.specs.TargetSteps.{blocks_held, target_submit_answer, target_submitted, target_enter_answer, target_entered, target_tmr_answer, target_noted, target_ticked, target_blocked}
-use Rattle.tcmu_model.specs.TargetCleans.{target_cleaned, target_reset}
+use Rattle.tcmu_model.specs.TargetCleans.{target_cleaned, region_cleaned, reset_logs, target_reset}
 
 -- ==== calls
 
@@ -45,9 +45,9 @@ pub record IsFreeId (t : TargetState) (id : ℕ) : Type 0 where
   pub range : IsId id
   pub free : is_among (map (λ e. e.id) t.rows) id ≡ false
 
--- where a command is laid its id is free; nothing else is asked of a call
+-- where a command is laid its id is free; nothing else is asked of a call, also not that a reset finds the target blocked
 abbrev pub CanCall : TargetState → TargetCall → Type 0
-CanCall t (Submits c id) = IsCommand c × ((s : ℕ) → target_submit_answer t c ≡ submit.Queued s → IsFreeId t id)
+CanCall t (Submits c id) = (s : ℕ) → target_submit_answer t c ≡ submit.Queued s → IsFreeId t id
 CanCall t (Enters id) = (s : ℕ) → target_enter_answer t ≡ enter.Entered s → IsFreeId t id
 CanCall t (Notes type_ ss) = Unit {0}
 CanCall t (Ticks n) = Unit {0}
@@ -110,6 +110,41 @@ pub record CompletesOwn (r : RegionState) (p : PendingData) (e : DoneData) : Typ
   pub init : e.init ≡ p.init
   pub tag : e.tag ≡ p.tag
   pub payload : (n : ℕ) × (n ≤ p.in_len) × (e.payload ≡ take n (bytes_along (size_of r) r.blocks p.blocks))
+
+-- one of a command that was pending and had not expired, and that is taken out
+pub record CompletedBy (r : RegionState) (before after : List PendingRow) (e : DoneData) : Type 0 where
+  pub row : PendingRow
+  pub there : first_of (row_has e.serial) before ≡ Some row
+  pub unexpired : row.pending.expired ≡ false
+  pub gone : first_of (row_has e.serial) after ≡ None
+  pub own : CompletesOwn r row.pending e
+
+-- a clean puts such completions behind the log, and no others
+pub record CleanLogs (r : RegionState) (t after : TargetState) : Type 0 where
+  pub more : List DoneData
+  pub log : after.log ≡ t.log ++ more
+  pub each : Every (CompletedBy r t.rows after.rows) more
+
+-- ==== where a clean stops
+
+-- a clean leaves the target and the region as they are
+pub record Unchanged (r : RegionState) (t : TargetState) : Type 0 where
+  pub target : target_cleaned r t ≡ t
+  pub region : region_cleaned r t ≡ r
+
+-- a clean has stopped at an id that no command has, and keeps it
+pub record StopsAt (id : ℕ) (t : TargetState) : Type 0 where
+  pub kept : t.broken ≡ Some id
+  pub none : first_of (has_id id) t.rows ≡ None
+
+-- a target with nothing in it, which has logged what was left behind a clean
+pub record Emptied (cleaned : TargetState) (level : ℕ) (t : TargetState) : Type 0 where
+  pub rows : t.rows ≡ []
+  pub delayed : t.delayed ≡ []
+  pub items : t.items ≡ []
+  pub broken : t.broken ≡ None
+  pub accepted : t.accepted ≡ cleaned.accepted
+  pub log : t.log ≡ cleaned.log ++ reset_logs cleaned level
 
 -- ==== the commands of a list of calls
 
