@@ -46,3 +46,4 @@ pub mod AnyStops
 pub mod AnySerials
 pub mod AnySettings
 pub mod AnyCommands
+pub mod AnyAreas

@@ -22,7 +22,7 @@ no_rows limit = record { range = tt; ids = tt; blocks = tt; below = tt; room = o
 
 -- ==== one is added
 
-held_push : (rows : List PendingRow) (e : PendingRow) → blocks_held (rows ++ e ∷ []) ≡ blocks_held rows ++ e.pending.blocks
+pub held_push : (rows : List PendingRow) (e : PendingRow) → blocks_held (rows ++ e ∷ []) ≡ blocks_held rows ++ e.pending.blocks
 held_push [] e = append-nil e.pending.blocks
 held_push (x ∷ rows) e = ap (λ bs. x.pending.blocks ++ bs) (held_push rows e) ∙ sym (append_assoc x.pending.blocks (blocks_held rows) e.pending.blocks)
 
@@ -68,7 +68,7 @@ held_differ p (e ∷ rows) d =
     rw k z)
     (cases_Bool (p e))
 
-held_every : (P : ℕ → Type 0) (p : PendingRow → Bool) (rows : List PendingRow) → Every P (blocks_held rows) → Every P (blocks_held (without_first p rows))
+pub held_every : (P : ℕ → Type 0) (p : PendingRow → Bool) (rows : List PendingRow) → Every P (blocks_held rows) → Every P (blocks_held (without_first p rows))
 held_every P p [] h = tt
 held_every P p (e ∷ rows) h =
     let back : Every P (blocks_held rows) = every-back P e.pending.blocks (blocks_held rows) h in
@@ -129,7 +129,7 @@ only_expires now e =
         (λ (k : is_due_at now e ≡ false). rw k refl)
         (cases_Bool (is_due_at now e))
 
-held_expired : (now : ℕ) (rows : List PendingRow) → blocks_held (map (expired_at now) rows) ≡ blocks_held rows
+pub held_expired : (now : ℕ) (rows : List PendingRow) → blocks_held (map (expired_at now) rows) ≡ blocks_held rows
 held_expired now [] = refl
 held_expired now (e ∷ rows) =
     ap (λ bs. bs ++ blocks_held (map (expired_at now) rows)) (only_expires now e).blocks ∙ ap (λ bs. e.pending.blocks ++ bs) (held_expired now rows)

@@ -3,3 +3,4 @@ pub mod Responded
 pub mod Cleaned
 pub mod Refused
 pub mod Calls
+pub mod CalledOn

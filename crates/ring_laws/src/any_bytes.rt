@@ -1,12 +1,13 @@
 //! What the target keeps over any bytes that the user side leaves in the region between its calls.
 ghost use Rattle.std.specs.Prelude.{◌≡◌, ◌≤◌, ◌<◌, ◌+◌, ℕ, Bool, true, List, Some, None, length, map, if◌then◌else◌};
 ghost use Rattle.tcmu_types.specs.Data.{SettingsData};
-ghost use Rattle.tcmu_model.specs.Regions.{RegionState};
+ghost use Rattle.tcmu_model.specs.Regions.{RegionState, opening_region};
 ghost use Rattle.tcmu_model.specs.Sides.{TargetState};
 ghost use Rattle.tcmu_model.specs.Sound.{Differ, Every, times_logged};
 ghost use Rattle.tcmu_model.specs.Represents.{IsId};
 ghost use Rattle.tcmu_model.specs.TargetSteps.{blocks_held, opening_target};
 ghost use Rattle.tcmu_model.specs.TargetCleans.{BadTail, Broken, target_clean_answer, target_cleaned, target_reset};
+ghost use Rattle.ring_laws.specs.CalledOn.{CalledOn};
 ghost use Rattle.ring_laws.specs.Calls.{CallMade, Called, CanCall, CleanLogs, Emptied, HasSerial, IsDoneOf, IsRowOf, StopsAt, TargetCall, TargetSound, Unchanged, accepted_along, is_given, target_called, times_delayed, times_pending};
 
 /// The target is sound as it opens, and each of its calls keeps it so, on a region of any bytes and any area; so it is behind any list of calls.
@@ -45,6 +46,16 @@ pub fn commands_law()
     ensures delayed { (s : SettingsData) (calls : List CallMade) (t : TargetState) → Called (opening_target s) calls t →
         Every (λ w. HasSerial (accepted_along (opening_target s) calls) w.serial w.command) t.delayed }
     ensures log { (s : SettingsData) (calls : List CallMade) (t : TargetState) → Called (opening_target s) calls t → Every (IsDoneOf (accepted_along (opening_target s) calls)) t.log }
+{}
+
+/// On the one region that was made with the target's settings, whose area the target alone grows and shrinks, the area has all blocks that are held and at
+/// most as many as the settings allow, whatever the user side writes and lends between two calls. All other laws here hold of these calls too.
+pub fn area_law()
+    ensures called { (r : RegionState) (t : TargetState) (calls : List CallMade) (left : RegionState) (after : TargetState) → CalledOn r t calls left after → Called t calls after }
+    ensures held { (s : SettingsData) (calls : List CallMade) (r : RegionState) (t : TargetState) → CalledOn (opening_region s) (opening_target s) calls r t →
+        Every (λ n. n < length r.blocks) (blocks_held t.rows) }
+    ensures most { (s : SettingsData) (calls : List CallMade) (r : RegionState) (t : TargetState) → CalledOn (opening_region s) (opening_target s) calls r t → length r.blocks ≤ s.blocks }
+    ensures pages { (s : SettingsData) (calls : List CallMade) (r : RegionState) (t : TargetState) → CalledOn (opening_region s) (opening_target s) calls r t → r.pages ≡ s.pages }
 {}
 
 /// Whatever the region holds, a clean logs completions of commands that it takes out, each with the first bytes along its own blocks, and no others.
