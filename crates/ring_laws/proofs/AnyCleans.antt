@@ -179,14 +179,16 @@ logs_one r a t k p e h f false x =
     record {
       more = h.logs.more ++ d ∷ [];
       log = ap (λ l. l ++ d ∷ []) h.logs.log ∙ append_assoc t.log h.logs.more (d ∷ []);
-      each = every-append (CompletedBy r t.rows (without_first p k.rows)) h.logs.more (d ∷ []) (gone_longer r t.rows k.rows p h.logs.more h.logs.each)
-          (record {
-            row = e;
-            there = ap (λ n. first_of (row_has n) t.rows) s ∙ there;
-            unexpired = x;
-            gone = ap (λ n. first_of (row_has n) (without_first p k.rows)) s ∙ gone;
-            own = own_read r e.pending a;
-          }, tt);
+      each = every-append (CompletedBy r t.rows (without_first p k.rows)) h.logs.more (d ∷ []) (gone_longer r t.rows k.rows p h.logs.more h.logs.each) (
+        record {
+          row = e;
+          there = ap (λ n. first_of (row_has n) t.rows) s ∙ there;
+          unexpired = x;
+          gone = ap (λ n. first_of (row_has n) (without_first p k.rows)) s ∙ gone;
+          own = own_read r e.pending a;
+        },
+        tt,
+      );
     }
 
 still_after : (r : RegionState) (t k : TargetState) (p : PendingRow → Bool) → CleanedTo r t k → (s : ℕ) (e : PendingRow) → first_of (row_has s) (without_first p k.rows) ≡ Some e → first_of (row_has s) t.rows ≡ Some e

@@ -138,7 +138,7 @@ pub rows_expired : (limit now : ℕ) (rows : List PendingRow) → RowsSound limi
 rows_expired limit now rows h =
     let held : blocks_held (map (expired_at now) rows) ≡ blocks_held rows = held_expired now rows in
     let range : Every (λ (e : PendingRow). IsId e.id) (map (expired_at now) rows) =
-        every-map (expired_at now) (λ (e : PendingRow). IsId e.id) (λ (e : PendingRow). IsId e.id) rows (λ e k. subst IsId (sym (only_expires now e).id) k) h.range in
+    every-map (expired_at now) (λ (e : PendingRow). IsId e.id) (λ (e : PendingRow). IsId e.id) rows (λ e k. subst IsId (sym (only_expires now e).id) k) h.range in
     record {
       range = range;
       ids = subst Differ (sym (map_kept (expired_at now) (λ (e : PendingRow). e.id) rows (λ e. (only_expires now e).id))) h.ids;

@@ -14,7 +14,9 @@ mod responding;
 mod ticking;
 mod waiting;
 
-pub use any_bytes::{any_clean_law, any_reset_law, area_law, calls_law, commands_law, held_law, serials_law};
+pub use any_bytes::{
+    any_clean_law, any_reset_law, area_law, calls_law, commands_law, held_law, serials_law,
+};
 pub use cleaning::{clean_law, completion_law};
 pub use handling::handle_law;
 pub use kept_lists::kept_law;
