@@ -47,3 +47,8 @@ pub mod AnySerials
 pub mod AnySettings
 pub mod AnyCommands
 pub mod AnyAreas
+pub mod PassedEntries
+pub mod AnyAttached
+pub mod AnyNext
+pub mod AnyAnswers
+pub mod AnyLogs

@@ -1,5 +1,5 @@
 -- The target over any bytes: its calls in any order, each on a region whose bytes may have become anything since the one before.
-use Rattle.std.specs.Prelude.{◌≡◌, ℕ, ◌+◌, ◌-◌, ◌<◌, ◌≤◌, ◌==◌, ◌&&◌, not, nat_lt, nat_le, Bool, true, false, List, [], ◌∷◌, ◌++◌, length, take, map, slice_get, Some, None, if◌then◌else◌}
+use Rattle.std.specs.Prelude.{◌≡◌, ◌⊎◌, ℕ, ◌+◌, ◌-◌, ◌<◌, ◌≤◌, ◌==◌, ◌&&◌, not, nat_lt, nat_le, Bool, true, false, List, [], ◌∷◌, ◌++◌, length, take, map, slice_get, Some, None, if◌then◌else◌}
 use Rattle.std.specs.List.{count_by}
 use Rattle.tcmu_types.specs.Data.{CommandData, DoneData}
 use Rattle.tcmu_types.specs.declared.answer.Submit.{Submit}
@@ -124,6 +124,16 @@ pub record CleanLogs (r : RegionState) (t after : TargetState) : Type 0 where
   pub more : List DoneData
   pub log : after.log ≡ t.log ++ more
   pub each : Every (CompletedBy r t.rows after.rows) more
+
+-- a completion without bytes, or one of a pending command, with bytes of its own blocks
+abbrev pub HasOwnBytes : RegionState → List PendingRow → DoneData → Type 0
+HasOwnBytes r rows e = (e.payload ≡ []) ⊎ ((row : PendingRow) × (first_of (row_has e.serial) rows ≡ Some row) × CompletesOwn r row.pending e)
+
+-- a call puts such completions behind the log, and takes none back
+pub record CallLogs (r : RegionState) (t after : TargetState) : Type 0 where
+  pub more : List DoneData
+  pub log : after.log ≡ t.log ++ more
+  pub each : Every (HasOwnBytes r t.rows) more
 
 -- ==== where a clean stops
 

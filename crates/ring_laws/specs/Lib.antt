@@ -4,3 +4,4 @@ pub mod Cleaned
 pub mod Refused
 pub mod Calls
 pub mod CalledOn
+pub mod UserKept

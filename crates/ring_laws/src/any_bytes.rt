@@ -8,13 +8,15 @@ ghost use Rattle.tcmu_model.specs.Represents.{IsId};
 ghost use Rattle.tcmu_model.specs.TargetSteps.{blocks_held, opening_target};
 ghost use Rattle.tcmu_model.specs.TargetCleans.{BadTail, Broken, target_clean_answer, target_cleaned, target_reset};
 ghost use Rattle.ring_laws.specs.CalledOn.{CalledOn};
-ghost use Rattle.ring_laws.specs.Calls.{CallMade, Called, CanCall, CleanLogs, Emptied, HasSerial, IsDoneOf, IsRowOf, StopsAt, TargetCall, TargetSound, Unchanged, accepted_along, is_given, target_called, times_delayed, times_pending};
+ghost use Rattle.ring_laws.specs.Calls.{CallLogs, CallMade, Called, CanCall, CleanLogs, Emptied, HasSerial, IsDoneOf, IsRowOf, StopsAt, TargetCall, TargetSound, Unchanged, accepted_along, is_given, target_called, times_delayed, times_pending};
 
-/// The target is sound as it opens, and each of its calls keeps it so, on a region of any bytes and any area; so it is behind any list of calls.
+/// The target is sound as it opens, and each of its calls keeps it so, on a region of any bytes and any area; so it is behind any list of calls. No call takes
+/// a completion back, and the bytes of each new one are the first along its own command's blocks in the region at that call.
 pub fn calls_law()
     ensures opening { (s : SettingsData) → TargetSound (opening_target s) }
     ensures each { (r : RegionState) (t : TargetState) (call : TargetCall) → TargetSound t → CanCall t call → TargetSound (target_called r t call) }
     ensures all { (s : SettingsData) (calls : List CallMade) (t : TargetState) → Called (opening_target s) calls t → TargetSound t }
+    ensures logs { (r : RegionState) (t : TargetState) (call : TargetCall) → TargetSound t → CallLogs r t (target_called r t call) }
 {}
 
 /// Over any list of calls, and any bytes written between them: no serial is logged twice, and each accepted one is once logged, or once pending and not

@@ -3,6 +3,7 @@
 #![tactic(auto)]
 
 mod any_bytes;
+mod any_region;
 mod cleaning;
 mod handling;
 mod kept_lists;
@@ -17,6 +18,7 @@ mod waiting;
 pub use any_bytes::{
     any_clean_law, any_reset_law, area_law, calls_law, commands_law, held_law, serials_law,
 };
+pub use any_region::{any_publish_law, any_respond_law, attach_law, next_law, reattach_law};
 pub use cleaning::{clean_law, completion_law};
 pub use handling::handle_law;
 pub use kept_lists::kept_law;
