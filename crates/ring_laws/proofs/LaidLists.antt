@@ -21,7 +21,7 @@ use Rattle.ring_laws.proofs.LaidIds.{rows_below, lists_below}
 use Rattle.ring_laws.proofs.TargetAnswers.{held_length}
 use Rattle.ring_laws.proofs.Free.{IsFree, length-least_free, least-are, least-differ}
 
-differ-append : (xs ys : List ℕ) → Differ xs → Differ ys → Every (λ y. is_among xs y ≡ false) ys → Differ (xs ++ ys)
+pub differ-append : (xs ys : List ℕ) → Differ xs → Differ ys → Every (λ y. is_among xs y ≡ false) ys → Differ (xs ++ ys)
 differ-append [] ys d e h = e
 differ-append (x ∷ xs) ys d e h = (
   among-append xs ys x ∙ ap (λ b. b || is_among ys x) d.0 ∙ not_there ys h,

@@ -75,3 +75,17 @@ pub mod RestartedKept
 pub mod RestartedAnswer
 pub mod AttachedUser
 pub mod EmptiedKept
+pub mod PendingRows
+pub mod CountedSerials
+pub mod AnyCalls
+pub mod AnyCleans
+pub mod AnyStops
+pub mod AnySerials
+pub mod AnySettings
+pub mod AnyCommands
+pub mod AnyAreas
+pub mod PassedEntries
+pub mod AnyAttached
+pub mod AnyNext
+pub mod AnyAnswers
+pub mod AnyLogs

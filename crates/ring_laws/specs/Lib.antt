@@ -8,3 +8,6 @@ pub mod Dispatched
 pub mod Restarted
 pub mod Attached
 pub mod Emptied
+pub mod Calls
+pub mod CalledOn
+pub mod UserKept

@@ -6,6 +6,8 @@
 
 mod answering;
 mod attaching;
+mod any_bytes;
+mod any_region;
 mod cleaning;
 mod delaying;
 mod dispatching;
@@ -29,6 +31,10 @@ mod ticking;
 
 pub use answering::answering_law;
 pub use attaching::attaching_law;
+pub use any_bytes::{
+    any_clean_law, any_reset_law, area_law, calls_law, commands_law, held_law, serials_law,
+};
+pub use any_region::{any_publish_law, any_respond_law, attach_law, next_law, reattach_law};
 pub use cleaning::{clean_law, completion_law};
 pub use delaying::delayed_law;
 pub use dispatching::dispatch_law;

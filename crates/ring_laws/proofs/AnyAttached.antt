@@ -1,0 +1,30 @@
+-- The user side as it is attached, over any bytes.
+use Rattle.std.proofs.Common.{◌≡◌, ℕ, Result, Ok, Err, refl, sym, ap, ◌∙◌, subst}
+use Rattle.tcmu_model.specs.declared.mailbox.Mailbox.{Mailbox}
+use Rattle.tcmu_model.specs.declared.mailbox.MailboxFault.{MailboxFault}
+use Rattle.tcmu_model.specs.Regions.{RegionState}
+use Rattle.tcmu_model.specs.Sides.{UserState}
+use Rattle.tcmu_model.specs.UserSteps.{user_mailbox, user_of, attached_to, user_attached}
+use Rattle.ring_laws.specs.UserKept.{UserSound, HasRing}
+use Rattle.ring_laws.proofs.PassedEntries.{ReadFrom, read_from}
+
+pub attached_sound : (r : RegionState) (u : UserState) → user_attached r ≡ Ok u → UserSound u × HasRing r u
+unfolding user_attached
+attached_sound r u h = go (user_mailbox r) refl h
+  where
+    same : (x y : UserState) → ◌≡◌ {A = Result UserState MailboxFault} (Ok x) (Ok y) → x ≡ y
+    same x y q = cc
+
+    go : (o : Result Mailbox MailboxFault) → user_mailbox r ≡ o → attached_to r.pages o ≡ Ok u → UserSound u × HasRing r u
+    go (Err fault) e q = absurd (cc)
+    go (Ok m) e q =
+        let f : ReadFrom r m = read_from r m e in
+        let b = f.bounded in
+        subst (λ (v : UserState). UserSound v × HasRing r v) (same (user_of r.pages m) u q)
+        (record {
+          ring = b.ring;
+          place = record { below = b.tail_below; aligned = b.tail_aligned };
+          tail = record { below = b.tail_below; aligned = b.tail_aligned };
+          items = tt;
+          offsets = tt;
+        }, f.front)

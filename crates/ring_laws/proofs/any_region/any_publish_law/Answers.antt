@@ -1,0 +1,5 @@
+use Rattle.ring_laws.proofs.AnyAnswers.{publish_sound, publish_sizes, publish_only, publish_blocks}
+use Rattle.ring_laws.proofs.any_region.any_publish_law.Goals as goal
+
+pub returns : goal.returns
+returns c = record { sound = publish_sound; sizes = publish_sizes; only = publish_only; blocks = publish_blocks }

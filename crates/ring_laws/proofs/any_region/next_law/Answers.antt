@@ -1,0 +1,12 @@
+use Rattle.ring_laws.proofs.AnyNext.{next_keeps, next_sizes, next_ring}
+use Rattle.ring_laws.proofs.any_region.next_law.Goals as goal
+
+pub returns : goal.returns
+returns c =
+    record {
+      sound = λ r u h e. (next_keeps r u h e).user;
+      ring = next_ring;
+      sizes = next_sizes;
+      bits = λ r u h e. (next_keeps r u h e).bits;
+      blocks = λ r u h e. (next_keeps r u h e).blocks;
+    }

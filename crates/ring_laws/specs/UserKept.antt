@@ -1,0 +1,71 @@
+-- What the user side keeps over any bytes that the target left, and which bytes of the region it changes.
+use Rattle.std.specs.Prelude.{◌≡◌, ◌≢◌, ◌⊎◌, ℕ, ◌+◌, ◌-◌, ◌%◌, ◌≤◌, ◌<◌, List, length, slice_get, Option, Some}
+use Rattle.tcmu_model.specs.Layout.{ring_start, data_start, tail_place}
+use Rattle.tcmu_model.specs.MailboxReading.{IsRingSize}
+use Rattle.tcmu_model.specs.EntryReading.{op_at}
+use Rattle.tcmu_model.specs.Regions.{RegionState}
+use Rattle.tcmu_model.specs.Sound.{Every}
+use Rattle.tcmu_model.specs.Sides.{UserState}
+use Rattle.tcmu_model.specs.UserNext.{NextAnswer, Job, Note, Nothing, BadMailbox, BadEntry, region_lent}
+use Rattle.ring_laws.specs.CalledOn.{SameArea}
+
+-- ==== the user side's own records
+
+-- a place in a ring, where an entry may begin
+pub record IsPlace (ring at : ℕ) : Type 0 where
+  pub below : at < ring
+  pub aligned : at % 8 ≡ 0
+
+pub record UserSound (u : UserState) : Type 0 where
+  pub ring : IsRingSize u.ring
+  pub place : IsPlace u.ring u.place
+  pub tail : IsPlace u.ring u.tail
+  pub items : Every (λ x. x.len % 8 ≡ 0) u.items
+  -- a response fits at each kept offset
+  pub offsets : Every (λ at. at + 112 ≤ u.ring) u.offsets
+
+-- a region of the ring size that the user side read when it was attached
+abbrev pub HasRing : RegionState → UserState → Type 0
+HasRing r u = length r.front ≡ data_start u.ring
+
+-- ==== what changes of a region
+
+-- the sizes of all its parts stay
+pub record SameSizes (before after : RegionState) : Type 0 where
+  pub front : length after.front ≡ length before.front
+  pub area : SameArea before after
+
+-- a byte gets its lowest bit, which it lacked: it is byte 7 of an entry whose operation code is none of the three
+pub record SetsBit (front after : List ℕ) (i : ℕ) : Type 0 where
+  pub byte : ℕ
+  pub was : slice_get front i ≡ Some byte
+  pub clear : byte % 2 ≡ 0
+  pub now_set : slice_get after i ≡ Some (byte + 1)
+  pub behind : ring_start + 7 ≤ i
+  pub place : i % 8 ≡ 7
+  pub unknown : 2 < op_at front (i - 7)
+
+abbrev pub OnlySetsBits : List ℕ → List ℕ → Type 0
+OnlySetsBits front after = (i : ℕ) → (slice_get after i ≡ slice_get front i) ⊎ SetsBit front after i
+
+-- the blocks behind a next: just those of its job's iovecs are lent, where they can be
+abbrev pub blocks_behind : RegionState → NextAnswer → List (Option (List ℕ))
+blocks_behind r (Job job) = (region_lent r job.iovs).blocks
+blocks_behind r (Note type_ ids) = r.blocks
+blocks_behind r Nothing = r.blocks
+blocks_behind r (BadMailbox fault) = r.blocks
+blocks_behind r (BadEntry at fault) = r.blocks
+
+-- a byte of the id, or one of bytes 7 to 111, of the entry at a ring offset
+pub record IsAnswered (i at : ℕ) : Type 0 where
+  pub from_ : ring_start + at + 4 ≤ i
+  pub to : i < ring_start + at + 112
+  pub but : i ≢ ring_start + at + 6
+
+-- no byte changes but in the answers of the entries at these offsets
+abbrev pub OnlyAnswers : List ℕ → List ℕ → List ℕ → Type 0
+OnlyAnswers offsets front after = (i : ℕ) → Every (λ at. ¬ IsAnswered i at) offsets → slice_get after i ≡ slice_get front i
+
+-- no byte changes but the four of the mailbox's tail
+abbrev pub OnlyTail : List ℕ → List ℕ → Type 0
+OnlyTail front after = (i : ℕ) → (i < tail_place) ⊎ (tail_place + 4 ≤ i) → slice_get after i ≡ slice_get front i

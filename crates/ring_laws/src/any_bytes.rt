@@ -1,0 +1,75 @@
+//! What the target keeps over any bytes that the user side leaves in the region between its calls.
+ghost use Rattle.std.specs.Prelude.{◌≡◌, ◌≤◌, ◌<◌, ◌+◌, ℕ, Bool, true, List, Some, None, length, map, if◌then◌else◌};
+ghost use Rattle.tcmu_types.specs.Data.{SettingsData};
+ghost use Rattle.tcmu_model.specs.Regions.{RegionState, opening_region};
+ghost use Rattle.tcmu_model.specs.Sides.{TargetState};
+ghost use Rattle.tcmu_model.specs.Sound.{Differ, Every, times_logged};
+ghost use Rattle.tcmu_model.specs.Represents.{IsId};
+ghost use Rattle.tcmu_model.specs.TargetSteps.{blocks_held, opening_target};
+ghost use Rattle.tcmu_model.specs.TargetCleans.{BadTail, Broken, target_clean_answer, target_cleaned, target_reset};
+ghost use Rattle.ring_laws.specs.CalledOn.{CalledOn};
+ghost use Rattle.ring_laws.specs.Calls.{CallLogs, CallMade, Called, CanCall, CleanLogs, Emptied, HasSerial, IsDoneOf, IsRowOf, StopsAt, TargetCall, TargetSound, Unchanged, accepted_along, is_given, target_called, times_delayed, times_pending};
+
+/// The target is sound as it opens, and each of its calls keeps it so, on a region of any bytes and any area; so it is behind any list of calls. No call takes
+/// a completion back, and the bytes of each new one are the first along its own command's blocks in the region at that call.
+pub fn calls_law()
+    ensures opening { (s : SettingsData) → TargetSound (opening_target s) }
+    ensures each { (r : RegionState) (t : TargetState) (call : TargetCall) → TargetSound t → CanCall t call → TargetSound (target_called r t call) }
+    ensures all { (s : SettingsData) (calls : List CallMade) (t : TargetState) → Called (opening_target s) calls t → TargetSound t }
+    ensures logs { (r : RegionState) (t : TargetState) (call : TargetCall) → TargetSound t → CallLogs r t (target_called r t call) }
+{}
+
+/// Over any list of calls, and any bytes written between them: no serial is logged twice, and each accepted one is once logged, or once pending and not
+/// expired, or once delayed, and no other is. A pending command that expired is in the log.
+pub fn serials_law()
+    ensures once { (s : SettingsData) (calls : List CallMade) (t : TargetState) → Called (opening_target s) calls t → Differ (map (λ e. e.serial) t.log) }
+    ensures given { (s : SettingsData) (calls : List CallMade) (t : TargetState) → Called (opening_target s) calls t → Every (λ e. (1 ≤ e.serial) × (e.serial ≤ t.accepted)) t.log }
+    ensures accounted { (s : SettingsData) (calls : List CallMade) (t : TargetState) (k : ℕ) → Called (opening_target s) calls t →
+        times_logged t.log k + times_pending t.rows k + times_delayed t.delayed k ≡ (if is_given t.accepted k then 1 else 0) }
+    ensures expired { (s : SettingsData) (calls : List CallMade) (t : TargetState) → Called (opening_target s) calls t →
+        Every (λ e. e.pending.expired ≡ true → times_logged t.log e.pending.serial ≡ 1) t.rows }
+{}
+
+/// Over the same, no two commands have one id, no block is held twice, and each held block is below the limit.
+pub fn held_law()
+    ensures range { (s : SettingsData) (calls : List CallMade) (t : TargetState) → Called (opening_target s) calls t → Every (λ e. IsId e.id) t.rows }
+    ensures ids { (s : SettingsData) (calls : List CallMade) (t : TargetState) → Called (opening_target s) calls t → Differ (map (λ e. e.id) t.rows) }
+    ensures blocks { (s : SettingsData) (calls : List CallMade) (t : TargetState) → Called (opening_target s) calls t → Differ (blocks_held t.rows) }
+    ensures below { (s : SettingsData) (calls : List CallMade) (t : TargetState) → Called (opening_target s) calls t → Every (λ n. n < s.blocks) (blocks_held t.rows) }
+{}
+
+/// Over the same, the serial of the k-th command that was accepted is k. Each pending command has its command's initiator, tag and data-in length, and as
+/// many blocks as its command needs; each that waits is as it was accepted; and each completion is for its command's initiator and tag, with no more bytes
+/// than its command asked for.
+pub fn commands_law()
+    ensures count { (s : SettingsData) (calls : List CallMade) (t : TargetState) → Called (opening_target s) calls t → length (accepted_along (opening_target s) calls) ≡ t.accepted }
+    ensures rows { (s : SettingsData) (calls : List CallMade) (t : TargetState) → Called (opening_target s) calls t →
+        Every (λ e. IsRowOf (accepted_along (opening_target s) calls) s.pages e.pending) t.rows }
+    ensures delayed { (s : SettingsData) (calls : List CallMade) (t : TargetState) → Called (opening_target s) calls t →
+        Every (λ w. HasSerial (accepted_along (opening_target s) calls) w.serial w.command) t.delayed }
+    ensures log { (s : SettingsData) (calls : List CallMade) (t : TargetState) → Called (opening_target s) calls t → Every (IsDoneOf (accepted_along (opening_target s) calls)) t.log }
+{}
+
+/// On the one region that was made with the target's settings, whose area the target alone grows and shrinks, the area has all blocks that are held and at
+/// most as many as the settings allow, whatever the user side writes and lends between two calls. All other laws here hold of these calls too.
+pub fn area_law()
+    ensures called { (r : RegionState) (t : TargetState) (calls : List CallMade) (left : RegionState) (after : TargetState) → CalledOn r t calls left after → Called t calls after }
+    ensures held { (s : SettingsData) (calls : List CallMade) (r : RegionState) (t : TargetState) → CalledOn (opening_region s) (opening_target s) calls r t →
+        Every (λ n. n < length r.blocks) (blocks_held t.rows) }
+    ensures most { (s : SettingsData) (calls : List CallMade) (r : RegionState) (t : TargetState) → CalledOn (opening_region s) (opening_target s) calls r t → length r.blocks ≤ s.blocks }
+    ensures pages { (s : SettingsData) (calls : List CallMade) (r : RegionState) (t : TargetState) → CalledOn (opening_region s) (opening_target s) calls r t → r.pages ≡ s.pages }
+{}
+
+/// Whatever the region holds, a clean logs completions of commands that it takes out, each with the first bytes along its own blocks, and no others.
+/// With a kept id, or with a tail that is no item's end, it changes nothing. An id that it stops at is no command's.
+pub fn any_clean_law()
+    ensures logs { (r : RegionState) (t : TargetState) → TargetSound t → CleanLogs r t (target_cleaned r t) }
+    ensures kept { (r : RegionState) (t : TargetState) (id : ℕ) → t.broken ≡ Some id → (target_clean_answer r t ≡ Broken id) × Unchanged r t }
+    ensures bad_tail { (r : RegionState) (t : TargetState) (tail : ℕ) → target_clean_answer r t ≡ BadTail tail → Unchanged r t }
+    ensures stops { (r : RegionState) (t : TargetState) (id : ℕ) → t.broken ≡ None → target_clean_answer r t ≡ Broken id → StopsAt id (target_cleaned r t) }
+{}
+
+/// A reset empties the target, whatever the region holds: behind what a clean would log, all that is left is logged.
+pub fn any_reset_law()
+    ensures empties { (r : RegionState) (t : TargetState) (level : ℕ) → Emptied (target_cleaned r t) level (target_reset r t level) }
+{}

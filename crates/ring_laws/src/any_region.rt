@@ -1,0 +1,46 @@
+//! What the user side keeps, and what it changes of the region, over any bytes that the target left there.
+ghost use Rattle.std.specs.Prelude.{◌≡◌, Ok};
+ghost use Rattle.tcmu_model.specs.UserNext.{nexted};
+ghost use Rattle.tcmu_model.specs.Regions.{RegionState};
+ghost use Rattle.tcmu_model.specs.Sides.{Parked, UserState};
+ghost use Rattle.tcmu_model.specs.UserSteps.{region_published, region_reattached, user_abandoned, user_attached, user_published, user_responded};
+ghost use Rattle.ring_laws.specs.UserKept.{HasRing, OnlyAnswers, OnlySetsBits, OnlyTail, SameSizes, UserSound, blocks_behind};
+
+/// A user side that is attached, over any bytes, is sound, and the region has the ring size that it read.
+pub fn attach_law()
+    ensures sound { (r : RegionState) (u : UserState) → user_attached r ≡ Ok u → UserSound u }
+    ensures ring { (r : RegionState) (u : UserState) → user_attached r ≡ Ok u → HasRing r u }
+{}
+
+/// A next keeps the user side sound, on a region of any bytes that has its ring's size, and leaves the sizes of all parts of the region. Before the data area
+/// it changes nothing but the lowest bit of byte 7 of entries whose operation code is none of the three; of the blocks just those of a job's iovecs are lent.
+pub fn next_law()
+    ensures sound { (r : RegionState) (u : UserState) → UserSound u → HasRing r u → UserSound (nexted r u).user }
+    ensures ring { (r : RegionState) (u : UserState) → UserSound u → HasRing r u → HasRing (nexted r u).region (nexted r u).user }
+    ensures sizes { (r : RegionState) (u : UserState) → UserSound u → HasRing r u → SameSizes r (nexted r u).region }
+    ensures bits { (r : RegionState) (u : UserState) → UserSound u → HasRing r u → OnlySetsBits r.front (nexted r u).region.front }
+    ensures blocks { (r : RegionState) (u : UserState) → UserSound u → HasRing r u → (nexted r u).region.blocks ≡ blocks_behind r (nexted r u).answer }
+{}
+
+/// So does a respond. Before the data area it changes nothing but the id and bytes 7 to 111 of entries at offsets that were kept.
+pub fn any_respond_law()
+    ensures sound { (r : RegionState) (u : UserState) (p : Parked) → UserSound u → HasRing r u → UserSound (user_responded r u p).user }
+    ensures ring { (r : RegionState) (u : UserState) (p : Parked) → UserSound u → HasRing r u → HasRing (user_responded r u p).region (user_responded r u p).user }
+    ensures sizes { (r : RegionState) (u : UserState) (p : Parked) → UserSound u → HasRing r u → SameSizes r (user_responded r u p).region }
+    ensures only { (r : RegionState) (u : UserState) (p : Parked) → UserSound u → HasRing r u → OnlyAnswers u.offsets r.front (user_responded r u p).region.front }
+{}
+
+/// So does a publish, which changes just the mailbox's tail.
+pub fn any_publish_law()
+    ensures sound { (u : UserState) → UserSound u → UserSound (user_published u) }
+    ensures sizes { (r : RegionState) (u : UserState) → HasRing r u → SameSizes r (region_published r u) }
+    ensures only { (r : RegionState) (u : UserState) → HasRing r u → OnlyTail r.front (region_published r u).front }
+    ensures blocks { (r : RegionState) (u : UserState) → (region_published r u).blocks ≡ r.blocks }
+{}
+
+/// And so do the giving up of jobs and a new attach, which change nothing before the data area.
+pub fn reattach_law()
+    ensures sound { (u : UserState) → UserSound u → UserSound (user_abandoned u) }
+    ensures sizes { (r : RegionState) (u : UserState) → SameSizes r (region_reattached r u) }
+    ensures front { (r : RegionState) (u : UserState) → (region_reattached r u).front ≡ r.front }
+{}
