@@ -4,4 +4,5 @@ pub mod Cleaned
 pub mod Refused
 pub mod Calls
 pub mod CalledOn
+pub mod RingKept
 pub mod UserKept
