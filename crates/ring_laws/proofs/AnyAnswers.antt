@@ -1,26 +1,25 @@
 -- A respond, a publish and the giving up of jobs over any bytes: what the user side keeps, and what it changes of the region.
-use Rattle.std.proofs.Common.{◌≡◌, ◌≢◌, ◌⊎◌, inl, inr, ℕ, ◌+◌, ◌-◌, ◌%◌, ◌<◌, ◌≤◌, Bool, true, false, cond, ◌&&◌, eqb, leb, ◌==◌, List, [], ◌∷◌, ◌++◌, length, take, drop, slice_get, suc, Option, Some, None, Result, Ok, Err, refl, sym, ap, ◌∙◌, arith, subst, ⊎_elim}
-use Rattle.std.proofs.Math.ListN.{set}
+use Rattle.std.proofs.Common.{◌≡◌, ◌⊎◌, inl, inr, ℕ, ◌+◌, ◌-◌, ◌%◌, ◌<◌, ◌≤◌, Bool, true, false, cond, eqb, leb, List, [], ◌∷◌, length, take, drop, slice_get, suc, Option, Some, None, Result, Ok, Err, refl, ap, ◌∙◌, arith, subst, ⊎_elim}
 use Rattle.std.specs.List.{sum_by, list_all}
-use Rattle.std.proofs.lemmas.Bool.{cases_Bool, cases_lt, eqb-true, eqb-false, and_parts, leb-true, false≢true}
+use Rattle.std.proofs.lemmas.Bool.{cases_Bool, cases_lt, eqb-true, eqb-false, and_parts, leb-true}
 use Rattle.std.proofs.lemmas.List.{length-set}
 use Rattle.std.proofs.lemmas.List.Sums.{sum_by-cons}
 use Rattle.tcmu_types.specs.Data.{ReplyData}
 use Rattle.tcmu_types.specs.declared.iovec.Iov.{Iov}
 use Rattle.tcmu_model.specs.declared.mailbox.MailboxFault.{MailboxFault}
 use Rattle.tcmu_model.specs.Lists.{without_first, with_first}
-use Rattle.tcmu_model.specs.Layout.{le, put, ring_start, data_start, tail_place, response_bytes, with_response}
+use Rattle.tcmu_model.specs.Layout.{le, put, ring_start, tail_place, response_bytes, with_response}
 use Rattle.tcmu_model.specs.EntryReading.{lies_inside}
 use Rattle.tcmu_model.specs.Iovecs.{scattered}
 use Rattle.tcmu_model.specs.Regions.{RegionState, size_of, bytes_of, overlaid, blocks_over, wrote, copied_in, given_back, named_by, put_where, put_home, returned}
 use Rattle.tcmu_model.specs.Picture.{told_length}
 use Rattle.tcmu_model.specs.Sound.{Every}
-use Rattle.tcmu_model.specs.Sides.{Recorded, Carried, Moved, Copied, JobState, Parked, GivenJob, UserState}
-use Rattle.tcmu_model.specs.UserSteps.{lie_in_area, with_payload, Placing, answered_region, placed_at, placed_one, placed_front, is_open_job, with_parked, with_jobs, placing_by, user_responded, moving, moving_items, user_published, region_published, with_job_back, with_parked_back, region_abandoned, user_abandoned, user_attached, or_refused, region_reattached}
+use Rattle.tcmu_model.specs.Sides.{Recorded, Carried, Moved, Copied, Parked, GivenJob, UserState}
+use Rattle.tcmu_model.specs.UserSteps.{lie_in_area, with_payload, Placing, placed_at, placed_one, placed_front, is_open_job, with_parked, with_jobs, placing_by, user_responded, moving, moving_items, user_published, region_published, with_parked_back, region_abandoned, user_abandoned, user_attached, or_refused, region_reattached}
 use Rattle.tcmu_model.proofs.Everies.{every-take, every-drop}
 use Rattle.tcmu_model.proofs.Written.{length-le, put-nothing}
-use Rattle.ring_laws.specs.CalledOn.{SameArea}
-use Rattle.ring_laws.specs.UserKept.{IsPlace, UserSound, HasRing, SameSizes, IsAnswered, OnlyAnswers, OnlyTail}
+use Rattle.ring_laws.specs.CalledOn.{SameSizes}
+use Rattle.ring_laws.specs.UserKept.{UserSound, HasRing, IsAnswered, OnlyAnswers, OnlyTail}
 use Rattle.tcmu_model.proofs.Written.{length-put}
 use Rattle.ring_laws.proofs.Answered.{length-response}
 use Rattle.ring_laws.proofs.AnyNext.{get-other, next_place}

@@ -1,5 +1,5 @@
 -- The area of the one region that a target is called on has all blocks that are held.
-use Rattle.std.proofs.Common.{◌≡◌, ℕ, ◌+◌, ◌-◌, ◌<◌, ◌≤◌, max, Bool, true, false, cond, eqb, List, [], ◌∷◌, ◌++◌, length, take, drop, map, replicate, slice_get, Option, Some, None, refl, sym, ap, ◌∙◌, arith, subst, ⊎_elim, length-append, length-take}
+use Rattle.std.proofs.Common.{◌≡◌, ℕ, ◌+◌, ◌-◌, ◌<◌, ◌≤◌, Bool, true, false, cond, eqb, List, [], ◌∷◌, ◌++◌, length, take, drop, replicate, slice_get, Option, Some, None, refl, sym, ap, ◌∙◌, arith, subst, ⊎_elim, length-append, length-take}
 use Rattle.std.proofs.Math.ListN.{set}
 use Rattle.std.proofs.lemmas.Bool.{cases_Bool}
 use Rattle.std.proofs.lemmas.List.{length-set, length-replicate}
@@ -16,9 +16,8 @@ use Rattle.tcmu_model.specs.declared.entry.Response.{Response}
 use Rattle.tcmu_model.specs.Lists.{first_of, above_all}
 use Rattle.tcmu_model.specs.Device.{Delayed}
 use Rattle.tcmu_model.specs.Events.{later}
-use Rattle.tcmu_model.specs.BlockLists.{least_free}
 use Rattle.tcmu_model.specs.Layout.{zeros}
-use Rattle.tcmu_model.specs.Regions.{RegionState, home, size_of, grown_to, opening_region}
+use Rattle.tcmu_model.specs.Regions.{RegionState, home, size_of, opening_region}
 use Rattle.tcmu_model.specs.Areas.{over, written_along}
 use Rattle.tcmu_model.specs.Sound.{Every}
 use Rattle.tcmu_model.specs.Sides.{PendingRow, Recorded, TargetState}
@@ -26,12 +25,12 @@ use Rattle.tcmu_model.specs.Represents.{has_id}
 use Rattle.tcmu_model.specs.TargetSteps.{opening_target, blocks_held, blocks_wanted, blocks_given, block_data, row_of, region_laid, target_laid, target_submit_answer, target_submitted, region_submitted, target_enter_answer, first_entered, region_with_first, target_entered, region_entered, target_tmr_answer, target_noted, region_noted, target_ticked, target_blocked}
 use Rattle.tcmu_model.specs.TargetCleans.{answered_by, response_in, one_cleaned, target_cleaned, region_cleaned, target_reset, region_reset}
 use Rattle.tcmu_model.proofs.Everies.{every-append, every-weaker, every-both}
-use Rattle.ring_laws.specs.Calls.{TargetCall, Submits, Enters, Notes, Ticks, Blocks, Cleans, Resets, CallMade, Called, CanCall, TargetSound, target_called}
+use Rattle.ring_laws.specs.Calls.{TargetCall, Submits, Enters, Notes, Ticks, Blocks, Cleans, Resets, CallMade, Called, target_called}
 use Rattle.ring_laws.specs.CalledOn.{SameArea, region_called, CalledOn}
 use Rattle.ring_laws.proofs.Free.{IsFree, least-are}
 use Rattle.ring_laws.proofs.LaidBlocks.{covered}
 use Rattle.ring_laws.proofs.PendingRows.{held_push, held_every, held_expired}
-use Rattle.ring_laws.proofs.AnyCalls.{sound_opened, sound_called, clean_keeps}
+use Rattle.ring_laws.proofs.AnyCalls.{clean_keeps}
 use Rattle.ring_laws.proofs.AnySettings.{called_same}
 
 -- the area has these blocks, and no more than the limit
@@ -173,10 +172,10 @@ in_called r t Cleans h = in_cleaned r t h
 in_called r t (Resets level) h = in_reset r t level
 
 in_all : (s : SettingsData) (r : RegionState) (t : TargetState) (ms : List CallMade) (left : RegionState) (after : TargetState) → t.settings ≡ s → InArea r t.rows s.blocks → CalledOn r t ms left after → InArea left after.rows s.blocks
-in_all s r t [] left after e h c = in_same r left after.rows s.blocks c.0 (subst (λ (k : TargetState). InArea r k.rows s.blocks) (sym c.1) h)
+in_all s r t [] left after e h c = in_same r left after.rows s.blocks c.0.area (subst (λ (k : TargetState). InArea r k.rows s.blocks) (sym c.1) h)
 in_all s r t (m ∷ ms) left after e h c =
     let q : t.settings.blocks ≡ s.blocks = ap (λ (z : SettingsData). z.blocks) e in
-    let here : InArea m.region t.rows t.settings.blocks = subst (λ (n : ℕ). InArea m.region t.rows n) (sym q) (in_same r m.region t.rows s.blocks c.0 h) in
+    let here : InArea m.region t.rows t.settings.blocks = subst (λ (n : ℕ). InArea m.region t.rows n) (sym q) (in_same r m.region t.rows s.blocks c.0.area h) in
     let next : TargetState = target_called m.region t m.call in
     in_all s (region_called m.region t m.call) next ms left after (called_same m.region t m.call ∙ e)
     (subst (λ (n : ℕ). InArea (region_called m.region t m.call) next.rows n) q (in_called m.region t m.call here)) c.2
@@ -243,5 +242,5 @@ pages_called r t Cleans = pages_cleaned r t
 pages_called r t (Resets level) = pages_reset r
 
 pub same_pages : (r : RegionState) (t : TargetState) (ms : List CallMade) (left : RegionState) (after : TargetState) → CalledOn r t ms left after → left.pages ≡ r.pages
-same_pages r t [] left after c = c.0.pages
-same_pages r t (m ∷ ms) left after c = same_pages (region_called m.region t m.call) (target_called m.region t m.call) ms left after c.2 ∙ pages_called m.region t m.call ∙ c.0.pages
+same_pages r t [] left after c = c.0.area.pages
+same_pages r t (m ∷ ms) left after c = same_pages (region_called m.region t m.call) (target_called m.region t m.call) ms left after c.2 ∙ pages_called m.region t m.call ∙ c.0.area.pages

@@ -1,5 +1,5 @@
 -- The user side as it is attached, over any bytes.
-use Rattle.std.proofs.Common.{◌≡◌, ℕ, Result, Ok, Err, refl, sym, ap, ◌∙◌, subst}
+use Rattle.std.proofs.Common.{◌≡◌, Result, Ok, Err, refl, subst}
 use Rattle.tcmu_model.specs.declared.mailbox.Mailbox.{Mailbox}
 use Rattle.tcmu_model.specs.declared.mailbox.MailboxFault.{MailboxFault}
 use Rattle.tcmu_model.specs.Regions.{RegionState}
@@ -20,11 +20,13 @@ attached_sound r u h = go (user_mailbox r) refl h
     go (Ok m) e q =
         let f : ReadFrom r m = read_from r m e in
         let b = f.bounded in
-        subst (λ (v : UserState). UserSound v × HasRing r v) (same (user_of r.pages m) u q)
-        (record {
-          ring = b.ring;
-          place = record { below = b.tail_below; aligned = b.tail_aligned };
-          tail = record { below = b.tail_below; aligned = b.tail_aligned };
-          items = tt;
-          offsets = tt;
-        }, f.front)
+        subst (λ (v : UserState). UserSound v × HasRing r v) (same (user_of r.pages m) u q) (
+          record {
+            ring = b.ring;
+            place = record { below = b.tail_below; aligned = b.tail_aligned };
+            tail = record { below = b.tail_below; aligned = b.tail_aligned };
+            items = tt;
+            offsets = tt;
+          },
+          f.front,
+        )

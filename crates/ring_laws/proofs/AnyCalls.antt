@@ -1,7 +1,7 @@
 -- Each call of the target keeps it sound, over any bytes.
-use Rattle.std.proofs.Common.{◌≡◌, ◌≢◌, ℕ, ◌+◌, ◌-◌, ◌*◌, ◌/◌, ◌%◌, ◌≤◌, Bool, true, false, not, cond, ◌&&◌, ◌||◌, eqb, ltb, leb, ◌==◌, List, [], ◌∷◌, ◌++◌, length, map, suc, zero, Option, Some, None, refl, sym, ap, ◌∙◌, arith, subst, ⊎_elim}
+use Rattle.std.proofs.Common.{◌≡◌, ◌≢◌, ℕ, ◌+◌, ◌*◌, ◌≤◌, Bool, true, false, not, cond, ◌&&◌, eqb, ltb, leb, ◌==◌, List, [], ◌∷◌, ◌++◌, length, suc, Option, Some, None, refl, sym, ap, ◌∙◌, arith, subst, ⊎_elim}
 use Rattle.std.specs.List.{filter}
-use Rattle.std.proofs.lemmas.Bool.{cases_Bool, false≢true, true≢false, eqb-true, eqb-false, and_parts, leb-true, ltb-false}
+use Rattle.std.proofs.lemmas.Bool.{cases_Bool, eqb-true, eqb-false, and_parts, leb-true}
 use Rattle.tcmu_types.specs.Data.{CommandData, SettingsData}
 use Rattle.tcmu_types.specs.declared.answer.Submit.{Submit}
 use Rattle.tcmu_types.specs.declared.answer.Submit.TheVariants as submit
@@ -12,15 +12,14 @@ use Rattle.tcmu_types.specs.declared.answer.Tmr.TheVariants as tmr
 use Rattle.tcmu_types.specs.declared.dump.ItemKind.{ItemKind}
 use Rattle.tcmu_types.specs.declared.dump.ItemKind.TheVariants as kind
 use Rattle.tcmu_model.specs.declared.entry.Response.{Response}
-use Rattle.tcmu_model.specs.Lists.{first_of, without_first}
+use Rattle.tcmu_model.specs.Lists.{first_of}
 use Rattle.tcmu_model.specs.Device.{Delayed}
 use Rattle.tcmu_model.specs.Events.{later, has_left}
-use Rattle.tcmu_model.specs.BlockLists.{least_free}
 use Rattle.tcmu_model.specs.Regions.{RegionState, size_of}
 use Rattle.tcmu_model.specs.Sides.{PendingRow, Recorded, TargetState}
-use Rattle.tcmu_model.specs.Represents.{has_id, IsId}
-use Rattle.tcmu_model.specs.TargetSteps.{opening_target, blocks_held, blocks_free, blocks_wanted, fits_in, length_in, has_room, row_of, with_recorded, target_laid, submit_or_full, submit_or_delay, target_submit_answer, target_submitted, enter_or_full, target_enter_answer, first_entered, target_entered, target_tmr_answer, target_noted, target_ticked, target_blocked}
-use Rattle.tcmu_model.specs.TargetCleans.{tail_read, tail_fits, completions_read, past, answered_by, response_in, one_cleaned, unless_broken, all_cleaned, target_cleaned, emptied_of, target_reset}
+use Rattle.tcmu_model.specs.Represents.{has_id}
+use Rattle.tcmu_model.specs.TargetSteps.{opening_target, blocks_free, blocks_wanted, fits_in, length_in, has_room, row_of, target_laid, submit_or_full, submit_or_delay, target_submit_answer, target_submitted, enter_or_full, target_enter_answer, first_entered, target_entered, target_tmr_answer, target_noted, target_ticked, target_blocked}
+use Rattle.tcmu_model.specs.TargetCleans.{tail_read, tail_fits, answered_by, response_in, one_cleaned, unless_broken, all_cleaned, target_cleaned, emptied_of, target_reset}
 use Rattle.ring_laws.specs.Calls.{TargetCall, Submits, Enters, Notes, Ticks, Blocks, Cleans, Resets, CallMade, Called, CanCall, IsFreeId, target_called, SerialsSound, TargetSound}
 use Rattle.ring_laws.proofs.PendingRows.{no_rows, rows_push, rows_without, rows_expired}
 use Rattle.ring_laws.proofs.CountedSerials.{no_serials, serials_queued, serials_delayed, serials_entered, serials_answered, serials_ticked, serials_reset}
@@ -33,7 +32,7 @@ sound_opened s = record { rows = no_rows s.blocks; serials = no_serials; none = 
 
 -- what the answers tell that change something
 abbrev pub Told : TargetState → CommandData → Submit → Type 0
-Told t c (submit.Queued s) = (s ≡ t.accepted + 1) × (t.delayed ≡ []) × (blocks_wanted t c ≤ blocks_free t)
+Told t c (submit.Queued s) = (s ≡ t.accepted + 1) × (t.delayed ≡ []) × (blocks_wanted t c ≤ blocks_free t) × (fits_in t (length_in t c) ≡ true)
 Told t c (submit.Delayed s) = (s ≡ t.accepted + 1) × (t.settings.qfull ≢ 0)
 Told t c submit.Busy = Unit {0}
 Told t c (submit.TooBig have limit) = Unit {0}
@@ -52,7 +51,7 @@ told_full t c none =
     ⊎_elim
     (λ (e : fits_in t (length_in t c) ≡ true).
     ⊎_elim
-    (λ (z : leb (blocks_wanted t c) (blocks_free t) ≡ true). rw (e, z) (refl, none, leb-true _ _ z))
+    (λ (z : leb (blocks_wanted t c) (blocks_free t) ≡ true). let room : blocks_wanted t c ≤ blocks_free t = leb-true _ _ z in rw (e, z) (refl, none, room, e))
     (λ (z : leb (blocks_wanted t c) (blocks_free t) ≡ false). rw (e, z) tt)
     (cases_Bool (leb (blocks_wanted t c) (blocks_free t))))
     (λ (e : fits_in t (length_in t c) ≡ false). rw e tt)
@@ -66,7 +65,7 @@ told_delay t c q =
     let g : (fits_in t (length_in t c) ≡ true) × (leb (blocks_wanted t c) (blocks_free t) ≡ true) = and_parts _ _ f.0 in
     let none : t.delayed ≡ [] = none_waits t.delayed f.1 in
     let room : blocks_wanted t c ≤ blocks_free t = leb-true _ _ g.1 in
-    rw e (refl, none, room))
+    rw e (refl, none, room, g.0))
     (λ (e : (has_room t c && (length t.delayed == 0)) ≡ false). rw e (refl, q))
     (cases_Bool (has_room t c && (length t.delayed == 0)))
 
@@ -124,7 +123,7 @@ filled w ws q = cc
 
 -- what the answer to an enter tells
 abbrev pub ToldFirst : TargetState → List Delayed → Enter → Type 0
-ToldFirst t ws (enter.Entered s) = (w : Delayed) × (vs : List Delayed) × (ws ≡ w ∷ vs) × (blocks_wanted t w.command ≤ blocks_free t)
+ToldFirst t ws (enter.Entered s) = (w : Delayed) × (vs : List Delayed) × (ws ≡ w ∷ vs) × (blocks_wanted t w.command ≤ blocks_free t) × (fits_in t (length_in t w.command) ≡ true)
 ToldFirst t ws enter.Empty = Unit {0}
 ToldFirst t ws (enter.FullRing need free) = Unit {0}
 ToldFirst t ws (enter.FullBlocks need free) = Unit {0}
@@ -135,7 +134,7 @@ told_first t (w ∷ ws) =
     ⊎_elim
     (λ (e : fits_in t (length_in t w.command) ≡ true).
     ⊎_elim
-    (λ (z : leb (blocks_wanted t w.command) (blocks_free t) ≡ true). let room : blocks_wanted t w.command ≤ blocks_free t = leb-true _ _ z in rw (e, z) (w, ws, refl, room))
+    (λ (z : leb (blocks_wanted t w.command) (blocks_free t) ≡ true). let room : blocks_wanted t w.command ≤ blocks_free t = leb-true _ _ z in rw (e, z) (w, ws, refl, room, e))
     (λ (z : leb (blocks_wanted t w.command) (blocks_free t) ≡ false). rw (e, z) tt)
     (cases_Bool (leb (blocks_wanted t w.command) (blocks_free t))))
     (λ (e : fits_in t (length_in t w.command) ≡ false). rw e tt)

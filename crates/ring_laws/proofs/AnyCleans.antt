@@ -1,8 +1,8 @@
 -- What a clean logs over any bytes: completions of commands that it takes out, with bytes of their own blocks.
-use Rattle.std.proofs.Common.{◌≡◌, ◌⊎◌, ℕ, ◌+◌, ◌/◌, ◌%◌, ◌<◌, ◌≤◌, min, Bool, true, false, not, cond, eqb, List, [], ◌∷◌, ◌++◌, length, take, map, suc, zero, Option, Some, None, refl, sym, ap, ◌∙◌, arith, subst, ⊎_elim, append_assoc, append-nil}
-use Rattle.std.proofs.lemmas.Bool.{cases_Bool, false≢true, eqb-true, ne_eqb, eq-eqb}
+use Rattle.std.proofs.Common.{◌≡◌, ℕ, ◌/◌, ◌%◌, ◌<◌, ◌≤◌, Bool, true, false, cond, eqb, List, [], ◌∷◌, ◌++◌, take, map, Option, Some, None, refl, sym, ap, ◌∙◌, arith, subst, ⊎_elim, append_assoc, append-nil}
+use Rattle.std.proofs.lemmas.Bool.{cases_Bool, eqb-true, ne_eqb, eq-eqb}
 use Rattle.std.proofs.Math.Nat.{min-le_left}
-use Rattle.tcmu_types.specs.Data.{DoneData, SenseData}
+use Rattle.tcmu_types.specs.Data.{DoneData}
 use Rattle.tcmu_types.specs.declared.dump.ItemKind.{ItemKind}
 use Rattle.tcmu_types.specs.declared.dump.ItemKind.TheVariants as kind
 use Rattle.tcmu_model.specs.declared.entry.Response.{Response}
@@ -16,7 +16,6 @@ use Rattle.tcmu_model.specs.Represents.{has_id, row_has}
 use Rattle.tcmu_model.specs.TargetSteps.{closed, checked}
 use Rattle.tcmu_model.specs.TargetCleans.{length_told, payload_read, sense_read, completion_read, completions_read, answered_by, response_in, one_cleaned, target_cleaned}
 use Rattle.tcmu_model.proofs.Everies.{every-append, every-weaker}
-use Rattle.tcmu_model.proofs.Rises.{rise_from}
 use Rattle.ring_laws.specs.Calls.{TargetSound, CompletesOwn, CompletedBy, CleanLogs}
 use Rattle.ring_laws.proofs.Found.{first-passes}
 use Rattle.ring_laws.proofs.CountedSerials.{read_serial}

@@ -1,13 +1,12 @@
 -- A next over any bytes: what the user side keeps, and what it changes of the region.
-use Rattle.std.proofs.Common.{◌≡◌, ◌≢◌, ◌⊎◌, inl, inr, ℕ, ◌+◌, ◌-◌, ◌*◌, ◌%◌, ◌<◌, ◌≤◌, Bool, true, false, cond, ◌&&◌, eqb, ltb, ◌==◌, List, [], ◌∷◌, ◌++◌, length, take, drop, slice_get, slice_index, suc, zero, Option, Some, None, Result, Ok, Err, refl, sym, ap, ◌∙◌, arith, subst, ⊎_elim}
+use Rattle.std.proofs.Common.{◌≡◌, ◌≢◌, ◌⊎◌, inl, inr, ℕ, ◌+◌, ◌-◌, ◌*◌, ◌%◌, ◌<◌, ◌≤◌, Bool, true, false, cond, ◌&&◌, eqb, ltb, ◌==◌, List, [], ◌∷◌, length, slice_get, slice_index, suc, zero, Option, Some, None, Result, Ok, Err, refl, sym, ap, ◌∙◌, arith, subst, ⊎_elim}
 use Rattle.std.proofs.Math.ListN.{set}
 use Rattle.std.proofs.Math.Nat.{mod-lt, mod-mod_of_dvd}
 use Rattle.std.proofs.lemmas.Nat.Gcd.{dvd_of_mod-eq-zero}
-use Rattle.std.proofs.lemmas.Bool.{cases_Bool, cases_lt, eqb-true, eqb-false, ltb-true, ltb-false}
+use Rattle.std.proofs.lemmas.Bool.{cases_Bool, cases_lt, eqb-true, eqb-false, ltb-true}
 use Rattle.std.proofs.lemmas.List.{length-set}
 use Rattle.std.proofs.lemmas.Option.{slice_get-get_or}
 use Rattle.byteorder.specs.Endian.{little_number}
-use Rattle.tcmu_types.specs.Data.{SettingsData}
 use Rattle.tcmu_types.specs.declared.dump.ItemKind.{ItemKind}
 use Rattle.tcmu_types.specs.declared.dump.ItemKind.TheVariants as kind
 use Rattle.tcmu_types.specs.declared.iovec.Iov.{Iov}
@@ -20,17 +19,17 @@ use Rattle.tcmu_model.specs.declared.entry.EntryFault.{EntryFault}
 use Rattle.tcmu_model.specs.Layout.{field, put, ring_start, data_start}
 use Rattle.tcmu_model.specs.EntryReading.{op_at, limit_of, entry_read}
 use Rattle.tcmu_model.specs.Regions.{RegionState, size_of, numbers_of, are_whole, can_take, without, named_by, can_lend, lent}
-use Rattle.tcmu_model.specs.Sound.{Every}
-use Rattle.tcmu_model.specs.Sides.{Recorded, JobState, UserState}
+use Rattle.tcmu_model.specs.Sides.{Recorded, UserState}
 use Rattle.tcmu_model.specs.UserSteps.{user_mailbox}
 use Rattle.tcmu_model.specs.UserNext.{NextAnswer, Job, Note, Nothing, BadMailbox, BadEntry, Nexted, iovs_in, tmr_ids_in, region_lent, with_passed, with_unknown, with_job, command_next, note_next, next_within, most_entries, next_of, nexted}
 use Rattle.tcmu_model.proofs.Everies.{every-append}
 use Rattle.tcmu_model.proofs.Written.{field-before}
-use Rattle.ring_laws.specs.CalledOn.{SameArea}
-use Rattle.ring_laws.specs.UserKept.{IsPlace, UserSound, HasRing, SameSizes, SetsBit, OnlySetsBits, blocks_behind}
+use Rattle.ring_laws.specs.CalledOn.{SameSizes}
+use Rattle.ring_laws.specs.RingKept.{IsPlace}
+use Rattle.ring_laws.specs.UserKept.{UserSound, HasRing, SetsBit, OnlySetsBits, blocks_behind}
 use Rattle.tcmu_model.proofs.Written.{length-put}
 use Rattle.ring_laws.proofs.Bytes.{drop-written}
-use Rattle.ring_laws.proofs.PassedEntries.{Bounded, ReadFrom, read_from, Within, within_read, told_len}
+use Rattle.ring_laws.proofs.PassedEntries.{Bounded, ReadFrom, read_from, Within, within_read}
 
 -- ==== bytes that are put
 

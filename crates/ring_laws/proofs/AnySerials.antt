@@ -1,6 +1,5 @@
 -- What it says of the log that each accepted serial stands in one place.
-use Rattle.std.proofs.Common.{◌≡◌, ℕ, ◌+◌, ◌<◌, ◌≤◌, Bool, true, false, not, cond, ◌&&◌, eqb, ltb, leb, List, [], ◌∷◌, ◌++◌, map, refl, sym, ap, ◌∙◌, arith, subst, ⊎_elim}
-use Rattle.std.specs.List.{count_by}
+use Rattle.std.proofs.Common.{◌≡◌, ℕ, ◌+◌, ◌<◌, ◌≤◌, Bool, true, false, cond, ◌&&◌, eqb, ltb, leb, List, [], ◌∷◌, ◌++◌, map, refl, arith, ⊎_elim}
 use Rattle.std.proofs.lemmas.Bool.{cases_Bool, and_parts, ltb-true, leb-true, le-leb, eq-eqb, ne_eqb}
 use Rattle.std.proofs.lemmas.List.Sums.{sum_by-cons}
 use Rattle.tcmu_types.specs.Data.{DoneData}
@@ -10,7 +9,7 @@ use Rattle.tcmu_model.specs.Sound.{Every, Rise, Differ, times_logged, delayed_se
 use Rattle.tcmu_model.specs.Sides.{PendingRow, TargetState}
 use Rattle.tcmu_model.proofs.Everies.{every-weaker, every-both, every-mapped, every-front}
 use Rattle.tcmu_model.proofs.Rises.{rise_within}
-use Rattle.ring_laws.specs.Calls.{is_pending_at, times_pending, times_delayed, is_given, SerialsSound, TargetSound}
+use Rattle.ring_laws.specs.Calls.{is_pending_at, times_pending, times_delayed, is_given, TargetSound}
 
 cons_logged : (e : DoneData) (es : List DoneData) (k : ℕ) → times_logged (e ∷ es) k ≡ cond (eqb e.serial k) 1 0 + times_logged es k
 cons_logged e es k = sum_by-cons (λ (x : DoneData). cond {A = ℕ} (eqb x.serial k) 1 0) e es

@@ -1,5 +1,5 @@
 -- The settings of a target stay as they are, whatever it is called to do.
-use Rattle.std.proofs.Common.{◌≡◌, ℕ, ◌<◌, Bool, List, [], ◌∷◌, Option, Some, None, refl, sym, ap, ◌∙◌, subst}
+use Rattle.std.proofs.Common.{◌≡◌, ℕ, ◌<◌, Bool, List, [], ◌∷◌, Option, Some, None, refl, ap, ◌∙◌, subst}
 use Rattle.tcmu_types.specs.Data.{CommandData, SettingsData}
 use Rattle.tcmu_types.specs.declared.answer.Submit.{Submit}
 use Rattle.tcmu_types.specs.declared.answer.Submit.TheVariants as submit
@@ -62,7 +62,7 @@ by_same : (r : RegionState) (a : Response) (t : TargetState) (x : Recorded) (xs 
 by_same r a t x xs None = refl
 by_same r a t x xs (Some e) = refl
 
-one_same : (r : RegionState) (t : TargetState) (x : Recorded) (xs : List Recorded) (k : ItemKind) → (one_cleaned r t x xs k).settings ≡ t.settings
+pub one_same : (r : RegionState) (t : TargetState) (x : Recorded) (xs : List Recorded) (k : ItemKind) → (one_cleaned r t x xs k).settings ≡ t.settings
 one_same r t x xs kind.Pad = refl
 one_same r t x xs kind.Tmr = refl
 one_same r t x xs kind.Cmd = let a : Response = response_in r t in by_same r a t x xs (first_of (has_id a.id) t.rows)

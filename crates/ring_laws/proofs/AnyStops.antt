@@ -1,14 +1,14 @@
 -- Where a clean stops over any bytes: at a kept id, at a tail that is no item's end, and at an id that no command has.
-use Rattle.std.proofs.Common.{◌≡◌, ℕ, Bool, true, false, cond, List, [], ◌∷◌, ◌++◌, ◌-◌, length, Option, Some, None, refl, sym, ap, ◌∙◌, subst, eqb}
+use Rattle.std.proofs.Common.{◌≡◌, ℕ, Bool, true, false, cond, List, ◌-◌, length, Option, Some, None, refl, sym, ap, ◌∙◌, eqb}
 use Rattle.std.proofs.lemmas.Bool.{eq-eqb}
 use Rattle.tcmu_types.specs.declared.dump.ItemKind.{ItemKind}
 use Rattle.tcmu_types.specs.declared.dump.ItemKind.TheVariants as kind
 use Rattle.tcmu_model.specs.declared.entry.Response.{Response}
-use Rattle.tcmu_model.specs.Lists.{first_of, without_first}
+use Rattle.tcmu_model.specs.Lists.{first_of}
 use Rattle.tcmu_model.specs.Regions.{RegionState}
 use Rattle.tcmu_model.specs.Sides.{PendingRow, Recorded, TargetState}
 use Rattle.tcmu_model.specs.Represents.{has_id}
-use Rattle.tcmu_model.specs.TargetCleans.{CleanAnswer, Logged, BadTail, Broken, tail_read, tail_fits, answered_by, response_in, one_cleaned, all_cleaned, logged_or_broken, target_cleaned, target_clean_answer, region_cleaned, emptied_of, target_reset}
+use Rattle.tcmu_model.specs.TargetCleans.{CleanAnswer, Logged, BadTail, Broken, tail_read, tail_fits, answered_by, response_in, one_cleaned, all_cleaned, logged_or_broken, target_cleaned, target_clean_answer, region_cleaned, target_reset}
 use Rattle.ring_laws.specs.Calls.{Unchanged, StopsAt, Emptied}
 use Rattle.ring_laws.proofs.AnyCalls.{clean_keeps}
 use Rattle.ring_laws.proofs.AnyCleans.{none_without}

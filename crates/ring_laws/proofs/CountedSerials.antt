@@ -1,10 +1,10 @@
 -- The serials of the target, whatever bytes it reads: how each call leaves each of them in one place.
-use Rattle.std.proofs.Common.{◌≡◌, ℕ, ◌+◌, ◌%◌, ◌<◌, ◌≤◌, Bool, true, false, not, cond, ◌&&◌, eqb, ltb, leb, List, [], ◌∷◌, ◌++◌, length, map, suc, zero, Option, Some, None, refl, sym, ap, ◌∙◌, arith, subst, ⊎_elim, append_assoc, append-nil}
+use Rattle.std.proofs.Common.{◌≡◌, ℕ, ◌+◌, ◌%◌, Bool, true, false, not, cond, ◌&&◌, eqb, ltb, leb, List, [], ◌∷◌, ◌++◌, map, Option, Some, None, refl, sym, ap, ◌∙◌, arith, subst, ⊎_elim, append_assoc, append-nil}
 use Rattle.std.specs.List.{count_by, filter}
 use Rattle.std.proofs.lemmas.Bool.{cases_Bool, false≢true, leb-true, le-ltb}
 use Rattle.std.proofs.lemmas.List.{map-append}
 use Rattle.std.proofs.lemmas.List.Sums.{sum_by-cons, sum_by_push, sum_by-append}
-use Rattle.tcmu_types.specs.Data.{CommandData, DoneData}
+use Rattle.tcmu_types.specs.Data.{DoneData}
 use Rattle.tcmu_model.specs.declared.entry.Response.{Response}
 use Rattle.tcmu_model.specs.Lists.{first_of, without_first}
 use Rattle.tcmu_model.specs.Device.{Delayed}
@@ -19,7 +19,7 @@ use Rattle.tcmu_model.proofs.Everies.{map_kept}
 use Rattle.tcmu_model.proofs.Rises.{rise_from, rise_push, rise_order}
 use Rattle.tcmu_model.proofs.SoundSubmit.{accepted_more}
 use Rattle.tcmu_model.proofs.SoundEvents.{reset_serial}
-use Rattle.ring_laws.specs.Calls.{is_pending_at, times_pending, times_delayed, is_given, SerialsSound}
+use Rattle.ring_laws.specs.Calls.{is_pending_at, times_pending, times_delayed, SerialsSound}
 use Rattle.ring_laws.proofs.PendingRows.{only_expires}
 
 never : (b : Bool) → cond {A = ℕ} (b && false) 1 0 ≡ 0

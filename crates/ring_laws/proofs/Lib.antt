@@ -89,3 +89,4 @@ pub mod AnyAttached
 pub mod AnyNext
 pub mod AnyAnswers
 pub mod AnyLogs
+pub mod AnyRing

@@ -1,6 +1,5 @@
 -- The target's calls on one region: between two of them the user side writes any bytes and lends any blocks, and the target alone moves the area's end.
-use Rattle.std.specs.Prelude.{◌≡◌, ℕ, Bool, List, [], ◌∷◌, length}
-use Rattle.tcmu_types.specs.Data.{CommandData}
+use Rattle.std.specs.Prelude.{◌≡◌, List, [], ◌∷◌, length}
 use Rattle.tcmu_model.specs.Regions.{RegionState}
 use Rattle.tcmu_model.specs.Sides.{TargetState}
 use Rattle.tcmu_model.specs.TargetSteps.{target_submit_answer, region_submitted, target_enter_answer, region_entered, target_tmr_answer, region_noted}
@@ -11,6 +10,11 @@ use Rattle.ring_laws.specs.Calls.{TargetCall, Submits, Enters, Notes, Ticks, Blo
 pub record SameArea (before after : RegionState) : Type 0 where
   pub pages : after.pages ≡ before.pages
   pub count : length after.blocks ≡ length before.blocks
+
+-- the sizes of all its parts stay
+pub record SameSizes (before after : RegionState) : Type 0 where
+  pub front : length after.front ≡ length before.front
+  pub area : SameArea before after
 
 -- what a call makes of the region
 abbrev pub region_called : RegionState → TargetState → TargetCall → RegionState
@@ -24,5 +28,5 @@ region_called r t (Resets level) = region_reset r
 
 -- the calls in order lead from a region and a target to others
 abbrev pub CalledOn : RegionState → TargetState → List CallMade → RegionState → TargetState → Type 0
-CalledOn r t [] left after = SameArea r left × (after ≡ t)
-CalledOn r t (m ∷ ms) left after = SameArea r m.region × CanCall t m.call × CalledOn (region_called m.region t m.call) (target_called m.region t m.call) ms left after
+CalledOn r t [] left after = SameSizes r left × (after ≡ t)
+CalledOn r t (m ∷ ms) left after = SameSizes r m.region × CanCall t m.call × CalledOn (region_called m.region t m.call) (target_called m.region t m.call) ms left after

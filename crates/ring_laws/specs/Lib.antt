@@ -10,4 +10,5 @@ pub mod Attached
 pub mod Emptied
 pub mod Calls
 pub mod CalledOn
+pub mod RingKept
 pub mod UserKept

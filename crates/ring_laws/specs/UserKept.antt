@@ -6,15 +6,10 @@ use Rattle.tcmu_model.specs.EntryReading.{op_at}
 use Rattle.tcmu_model.specs.Regions.{RegionState}
 use Rattle.tcmu_model.specs.Sound.{Every}
 use Rattle.tcmu_model.specs.Sides.{UserState}
+use Rattle.ring_laws.specs.RingKept.{IsPlace}
 use Rattle.tcmu_model.specs.UserNext.{NextAnswer, Job, Note, Nothing, BadMailbox, BadEntry, region_lent}
-use Rattle.ring_laws.specs.CalledOn.{SameArea}
 
 -- ==== the user side's own records
-
--- a place in a ring, where an entry may begin
-pub record IsPlace (ring at : ℕ) : Type 0 where
-  pub below : at < ring
-  pub aligned : at % 8 ≡ 0
 
 pub record UserSound (u : UserState) : Type 0 where
   pub ring : IsRingSize u.ring
@@ -29,11 +24,6 @@ abbrev pub HasRing : RegionState → UserState → Type 0
 HasRing r u = length r.front ≡ data_start u.ring
 
 -- ==== what changes of a region
-
--- the sizes of all its parts stay
-pub record SameSizes (before after : RegionState) : Type 0 where
-  pub front : length after.front ≡ length before.front
-  pub area : SameArea before after
 
 -- a byte gets its lowest bit, which it lacked: it is byte 7 of an entry whose operation code is none of the three
 pub record SetsBit (front after : List ℕ) (i : ℕ) : Type 0 where

@@ -1,13 +1,16 @@
 //! What the target keeps over any bytes that the user side leaves in the region between its calls.
 ghost use Rattle.std.specs.Prelude.{◌≡◌, ◌≤◌, ◌<◌, ◌+◌, ℕ, Bool, true, List, Some, None, length, map, if◌then◌else◌};
 ghost use Rattle.tcmu_types.specs.Data.{SettingsData};
+ghost use Rattle.tcmu_types.specs.Rules.{IsSettings};
+ghost use Rattle.tcmu_model.specs.Layout.{data_start};
 ghost use Rattle.tcmu_model.specs.Regions.{RegionState, opening_region};
 ghost use Rattle.tcmu_model.specs.Sides.{TargetState};
 ghost use Rattle.tcmu_model.specs.Sound.{Differ, Every, times_logged};
 ghost use Rattle.tcmu_model.specs.Represents.{IsId};
-ghost use Rattle.tcmu_model.specs.TargetSteps.{blocks_held, opening_target};
+ghost use Rattle.tcmu_model.specs.TargetSteps.{blocks_held, fits_in, head_in, opening_target, pad_in, place_in};
 ghost use Rattle.tcmu_model.specs.TargetCleans.{BadTail, Broken, target_clean_answer, target_cleaned, target_reset};
-ghost use Rattle.ring_laws.specs.CalledOn.{CalledOn};
+ghost use Rattle.ring_laws.specs.CalledOn.{CalledOn, region_called};
+ghost use Rattle.ring_laws.specs.RingKept.{RingKept};
 ghost use Rattle.ring_laws.specs.Calls.{CallLogs, CallMade, Called, CanCall, CleanLogs, Emptied, HasSerial, IsDoneOf, IsRowOf, StopsAt, TargetCall, TargetSound, Unchanged, accepted_along, is_given, target_called, times_delayed, times_pending};
 
 /// The target is sound as it opens, and each of its calls keeps it so, on a region of any bytes and any area; so it is behind any list of calls. No call takes
@@ -51,13 +54,26 @@ pub fn commands_law()
 {}
 
 /// On the one region that was made with the target's settings, whose area the target alone grows and shrinks, the area has all blocks that are held and at
-/// most as many as the settings allow, whatever the user side writes and lends between two calls. All other laws here hold of these calls too.
+/// most as many as the settings allow, and the bytes before it stay as many, whatever the user side writes and lends between two calls. All other laws here hold of these calls too.
 pub fn area_law()
     ensures called { (r : RegionState) (t : TargetState) (calls : List CallMade) (left : RegionState) (after : TargetState) → CalledOn r t calls left after → Called t calls after }
     ensures held { (s : SettingsData) (calls : List CallMade) (r : RegionState) (t : TargetState) → CalledOn (opening_region s) (opening_target s) calls r t →
         Every (λ n. n < length r.blocks) (blocks_held t.rows) }
     ensures most { (s : SettingsData) (calls : List CallMade) (r : RegionState) (t : TargetState) → CalledOn (opening_region s) (opening_target s) calls r t → length r.blocks ≤ s.blocks }
     ensures pages { (s : SettingsData) (calls : List CallMade) (r : RegionState) (t : TargetState) → CalledOn (opening_region s) (opening_target s) calls r t → r.pages ≡ s.pages }
+    ensures front { (s : SettingsData) (calls : List CallMade) (r : RegionState) (t : TargetState) →
+        IsSettings s → CalledOn (opening_region s) (opening_target s) calls r t → length r.front ≡ data_start s.ring }
+{}
+
+/// The target's record of its items leaves a byte of the ring and begins at a place of it, over any list of calls. So an item that is laid, with the padding
+/// before it, stands whole in the ring, and the bytes before the data area stay as many.
+pub fn any_ring_law()
+    ensures all { (s : SettingsData) (calls : List CallMade) (t : TargetState) → IsSettings s → Called (opening_target s) calls t → RingKept t }
+    ensures each { (r : RegionState) (t : TargetState) (call : TargetCall) → IsSettings t.settings → TargetSound t → RingKept t → RingKept (target_called r t call) }
+    ensures pad_room { (t : TargetState) (n : ℕ) → IsSettings t.settings → RingKept t → fits_in t n ≡ true → head_in t + pad_in t n ≤ t.settings.ring }
+    ensures whole { (t : TargetState) (n : ℕ) → IsSettings t.settings → RingKept t → fits_in t n ≡ true → place_in t n + n ≤ t.settings.ring }
+    ensures front { (r : RegionState) (t : TargetState) (call : TargetCall) → IsSettings t.settings → TargetSound t → RingKept t → length r.front ≡ data_start t.settings.ring →
+        length (region_called r t call).front ≡ length r.front }
 {}
 
 /// Whatever the region holds, a clean logs completions of commands that it takes out, each with the first bytes along its own blocks, and no others.

@@ -4,7 +4,8 @@ ghost use Rattle.tcmu_model.specs.UserNext.{nexted};
 ghost use Rattle.tcmu_model.specs.Regions.{RegionState};
 ghost use Rattle.tcmu_model.specs.Sides.{Parked, UserState};
 ghost use Rattle.tcmu_model.specs.UserSteps.{region_published, region_reattached, user_abandoned, user_attached, user_published, user_responded};
-ghost use Rattle.ring_laws.specs.UserKept.{HasRing, OnlyAnswers, OnlySetsBits, OnlyTail, SameSizes, UserSound, blocks_behind};
+ghost use Rattle.ring_laws.specs.CalledOn.{SameSizes};
+ghost use Rattle.ring_laws.specs.UserKept.{HasRing, OnlyAnswers, OnlySetsBits, OnlyTail, UserSound, blocks_behind};
 
 /// A user side that is attached, over any bytes, is sound, and the region has the ring size that it read.
 pub fn attach_law()

@@ -5,9 +5,9 @@
 #![tactic(auto)]
 
 mod answering;
-mod attaching;
 mod any_bytes;
 mod any_region;
+mod attaching;
 mod cleaning;
 mod delaying;
 mod dispatching;
@@ -30,11 +30,11 @@ mod submitting;
 mod ticking;
 
 pub use answering::answering_law;
-pub use attaching::attaching_law;
 pub use any_bytes::{
     any_clean_law, any_reset_law, area_law, calls_law, commands_law, held_law, serials_law,
 };
 pub use any_region::{any_publish_law, any_respond_law, attach_law, next_law, reattach_law};
+pub use attaching::attaching_law;
 pub use cleaning::{clean_law, completion_law};
 pub use delaying::delayed_law;
 pub use dispatching::dispatch_law;

@@ -1,6 +1,7 @@
 use Rattle.tcmu_model.specs.Regions.{opening_region}
 use Rattle.tcmu_model.specs.TargetSteps.{opening_target}
 use Rattle.ring_laws.proofs.AnyAreas.{in_opening, called_on, same_pages}
+use Rattle.ring_laws.proofs.AnyRing.{front_of_opening}
 use Rattle.ring_laws.proofs.any_bytes.area_law.Goals as goal
 
 pub returns : goal.returns
@@ -10,4 +11,5 @@ returns c =
       held = λ s calls r t k. (in_opening s calls r t k).there;
       most = λ s calls r t k. (in_opening s calls r t k).most;
       pages = λ s calls r t k. same_pages (opening_region s) (opening_target s) calls r t k;
+      front = front_of_opening;
     }
