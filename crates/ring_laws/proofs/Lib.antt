@@ -90,3 +90,4 @@ pub mod AnyNext
 pub mod AnyAnswers
 pub mod AnyLogs
 pub mod AnyRing
+pub mod AnyKeptId

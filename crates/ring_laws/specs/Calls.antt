@@ -1,5 +1,5 @@
 -- The target over any bytes: its calls in any order, each on a region whose bytes may have become anything since the one before.
-use Rattle.std.specs.Prelude.{◌≡◌, ◌⊎◌, ℕ, ◌+◌, ◌-◌, ◌<◌, ◌≤◌, ◌==◌, ◌&&◌, not, nat_lt, nat_le, Bool, false, List, [], ◌∷◌, ◌++◌, length, take, map, slice_get, Some, None, if◌then◌else◌}
+use Rattle.std.specs.Prelude.{◌≡◌, ◌⊎◌, ℕ, ◌+◌, ◌-◌, ◌<◌, ◌≤◌, ◌==◌, ◌&&◌, not, nat_lt, nat_le, Bool, true, false, List, [], ◌∷◌, ◌++◌, length, take, map, slice_get, Some, None, if◌then◌else◌}
 use Rattle.std.specs.List.{count_by}
 use Rattle.tcmu_types.specs.Data.{CommandData, DoneData}
 use Rattle.tcmu_types.specs.declared.answer.Submit.{Submit}
@@ -141,6 +141,15 @@ pub record CallLogs (r : RegionState) (t after : TargetState) : Type 0 where
 pub record Unchanged (r : RegionState) (t : TargetState) : Type 0 where
   pub target : target_cleaned r t ≡ t
   pub region : region_cleaned r t ≡ r
+
+abbrev pub is_reset : TargetCall → Bool
+is_reset (Submits c id) = false
+is_reset (Enters id) = false
+is_reset (Notes type_ ss) = false
+is_reset (Ticks n) = false
+is_reset (Blocks b) = false
+is_reset Cleans = false
+is_reset (Resets level) = true
 
 -- a clean has stopped at an id that no command has, and keeps it
 pub record StopsAt (id : ℕ) (t : TargetState) : Type 0 where
