@@ -53,6 +53,8 @@ fn read_bytes<M: Medium>(
     Ok(after_call(alloc, outcome, payload, UNRECOVERED_READ_ERROR))
 }
 
+/// READ: the bytes of the blocks, cut to what may be answered. A range outside is refused; where no byte is to be answered, the medium
+/// is not asked.
 pub fn read<M: Medium>(
     alloc: Global,
     medium: &mut M,
@@ -89,6 +91,8 @@ fn write_bytes<M: Medium>(
     Ok(after_call(alloc, outcome, Bytes::new(alloc), WRITE_ERROR))
 }
 
+/// WRITE: what is sent has to be the bytes of so many blocks. A wrong length is refused first, then a protected medium, then a range
+/// outside; no blocks are a good write that makes no call of the medium.
 pub fn write<M: Medium>(
     alloc: Global,
     medium: &mut M,
@@ -104,6 +108,7 @@ pub fn write<M: Medium>(
     }
 }
 
+/// SYNCHRONIZE CACHE: one sync of the whole medium, where the range lies in it, also for no blocks.
 pub fn sync<M: Medium>(
     alloc: Global,
     medium: &mut M,
@@ -146,6 +151,7 @@ fn fill_blocks<M: Medium>(
     Ok(after_call(alloc, outcome, Bytes::new(alloc), WRITE_ERROR))
 }
 
+/// WRITE SAME: one block is sent, and one fill writes it to each block of the range. It is refused as WRITE is.
 pub fn write_same<M: Medium>(
     alloc: Global,
     medium: &mut M,

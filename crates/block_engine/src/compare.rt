@@ -78,6 +78,8 @@ fn compare_blocks<M: Medium>(
     compare_bytes(alloc, medium, at, 512 * u64::from(count), sent)
 }
 
+/// COMPARE AND WRITE: the first half of what is sent is compared with the blocks of the range, and the second half is written over
+/// them where both are equal. It is refused as WRITE is.
 pub fn compare_write<M: Medium>(
     alloc: Global,
     medium: &mut M,

@@ -24,6 +24,7 @@ pub struct Engine<M: Medium + Drop> {
 }
 
 impl<M: Medium + Drop> Engine<M> {
+    /// An engine for the device of this name, over a medium as it stands.
     pub fn new(name: Name, medium: M) -> Engine<M>
         ensures name { result.name ≡ name }
         ensures medium { result.medium ≡ medium }

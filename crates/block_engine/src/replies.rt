@@ -10,6 +10,7 @@ const GOOD: ScsiStatus = ScsiStatus(0x00);
 
 const CHECK_CONDITION: ScsiStatus = ScsiStatus(0x02);
 
+/// GOOD with these bytes.
 pub fn good(payload: Bytes) -> Reply
     ensures { result ≡ good payload.items }
 {
@@ -20,6 +21,7 @@ pub fn good(payload: Bytes) -> Reply
     }
 }
 
+/// CHECK CONDITION with these sense data, and no bytes.
 pub fn refused(alloc: Global, sense: Sense) -> Reply
     ensures { result ≡ refused sense }
 {

@@ -65,6 +65,7 @@ pub const MISCOMPARE: Sense = Sense {
     ascq: 0,
 };
 
+/// The sense data that tell why a command descriptor block asks nothing.
 pub fn fault_sense(fault: CdbFault) -> Sense
     ensures value { result ≡ fault_sense fault }
     ensures key { result.key ≢ 3 }

@@ -130,6 +130,8 @@ fn unmap_list<M: Medium>(alloc: Global, medium: &mut M, sent: &[u8]) -> Result<R
     }
 }
 
+/// UNMAP: what is sent has to have the length that the command names, and none unmaps nothing. All ranges are checked before the
+/// first is filled with zeros; the fills stop at the first that fails.
 pub fn unmap<M: Medium>(
     alloc: Global,
     medium: &mut M,

@@ -29,6 +29,7 @@ pub fn cut(bytes: &[u8], at: u8) -> Option<(&[u8], &[u8])>
     }
 }
 
+/// Whether a text is this one, byte by byte.
 pub fn is_text(text: &[u8], wanted: &[u8]) -> bool
     ensures { result ≡ bytes_eq text.now wanted.now }
 {
@@ -46,6 +47,7 @@ pub fn after_word<'a>(word: &[u8], text: &'a [u8]) -> Option<&'a [u8]>
     if front == word { Some(back) } else { None }
 }
 
+/// The name that a text is; None where it breaks the rule of names.
 pub fn name_of(text: &[u8]) -> Option<Name>
     ensures { result ≡ name_of text.now }
 {
@@ -190,6 +192,8 @@ fn bytes_of_hex(alloc: Global, text: &[u8]) -> Result<Option<Vec<u8>>, NoMemory>
     Ok(Some(bytes))
 }
 
+/// The command descriptor block that pairs of lower-case hexadecimal digits spell; None where they spell no bytes, or not as many as
+/// the group of its operation code has.
 #[tactic(auto, unfolding(tcmu_model::specs::Fields::cdb_of))]
 pub fn cdb_of(alloc: Global, text: &[u8]) -> Result<Option<Cdb>, NoMemory>
     ensures { IfOk result (λ o. o ≡ cdb_of text.now) }

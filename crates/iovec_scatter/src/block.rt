@@ -45,12 +45,14 @@ impl Block {
         })
     }
 
+    /// The bytes of the block.
     pub fn as_slice(&self) -> &[u8]
         ensures { result.now ≡ self.now }
     {
         self.bytes.as_slice()
     }
 
+    /// The bytes of the block, to write over. Their number stays.
     pub fn as_mut_slice(&mut self) -> &mut [u8]
         ensures* writes_back { sem 𝓛 (LendsBytes self.entry result) }
         ensures value { result.now ≡ self.old }
@@ -92,6 +94,7 @@ impl Model for Parts {
 }
 
 impl Parts {
+    /// No block yet.
     pub fn new(alloc: Global) -> Self
         ensures { result.items ≡ [] }
     {
@@ -100,12 +103,14 @@ impl Parts {
         }
     }
 
+    /// The blocks, in the order in which they were appended.
     pub fn as_slice(&self) -> &[Block]
         ensures { result.now ≡ self.now.items }
     {
         self.blocks.as_slice()
     }
 
+    /// How many blocks there are.
     pub fn len(&self) -> usize
         ensures { result ≡ length self.now.items }
     {

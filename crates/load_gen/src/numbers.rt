@@ -21,7 +21,7 @@ pub fn load_count(x: u64) -> u16
     1 + ((x >> 60) % 8) as u16
 }
 
-/// The logical block from which on it asks.
+/// The first logical block that a number asks for; the others follow it.
 #[tactic(auto, unfolding(tcmu_model::specs::Load::load_place))]
 pub fn load_place(x: u64) -> u32
     ensures { result ≡ load_place x }
@@ -29,7 +29,7 @@ pub fn load_place(x: u64) -> u32
     ((x >> 33) % 4089) as u32
 }
 
-/// The byte that its blocks are made of.
+/// The byte that fills the blocks where a number asks for a write.
 #[tactic(auto, unfolding(tcmu_model::specs::Load::load_fill))]
 pub fn load_fill(x: u64) -> u8
     ensures { result ≡ load_fill x }
@@ -37,7 +37,7 @@ pub fn load_fill(x: u64) -> u8
     ((x >> 40) % 256) as u8
 }
 
-/// Whether it writes them; else it reads.
+/// Whether a number asks for a write; else it asks for a read.
 #[tactic(auto, unfolding(tcmu_model::specs::Load::load_writes))]
 pub fn load_writes(x: u64) -> bool
     ensures { result ≡ load_writes x }

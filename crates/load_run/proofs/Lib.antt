@@ -1,3 +1,4 @@
+pub mod Picked
 pub mod Tallying
 pub mod Summing
 pub mod Loads

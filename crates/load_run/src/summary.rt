@@ -69,7 +69,8 @@ fn sum_bytes(sizes: &[Option<u32>], log: &[Done]) -> u128
     bytes
 }
 
-/// What a replay comes to that left this device, by the sizes of the commands that it accepted, in the order of their serials from 0 on.
+/// What a replay comes to that left this device. `sizes` has a place for each serial of an accepted command, from 1 on, with how many bytes
+/// it sent where its operation code takes some; place 0 belongs to no command.
 pub fn numbers_of<P: Path>(path: &P, sizes: &[Option<u32>]) -> Numbers
     requires sound { IsSound (P.device path.now).state }
     requires few { (P.device path.now).state.accepted < 2 ^ 63 }

@@ -4,6 +4,7 @@ ghost use Rattle.tcmu_model.specs.Layout.{le, field, zeros, put};
 
 use byteorder::{ByteOrder, LittleEndian};
 
+/// Writes a number over the two bytes from `at` on.
 pub fn put_u16(into: &mut [u8], at: usize, value: u16)
     requires { at + 2 ≤ length into.old }
     ensures { into.new ≡ put into.old at (le 2 value) }
@@ -11,6 +12,7 @@ pub fn put_u16(into: &mut [u8], at: usize, value: u16)
     LittleEndian::write_u16(&mut into[at..], value);
 }
 
+/// Writes a number over the four bytes from `at` on.
 pub fn put_u32(into: &mut [u8], at: usize, value: u32)
     requires { at + 4 ≤ length into.old }
     ensures { into.new ≡ put into.old at (le 4 value) }
@@ -18,6 +20,7 @@ pub fn put_u32(into: &mut [u8], at: usize, value: u32)
     LittleEndian::write_u32(&mut into[at..], value);
 }
 
+/// Writes a number over the eight bytes from `at` on.
 pub fn put_u64(into: &mut [u8], at: usize, value: u64)
     requires { at + 8 ≤ length into.old }
     ensures { into.new ≡ put into.old at (le 8 value) }
@@ -25,6 +28,7 @@ pub fn put_u64(into: &mut [u8], at: usize, value: u64)
     LittleEndian::write_u64(&mut into[at..], value);
 }
 
+/// Writes a number over the byte at `at`.
 pub fn put_u8(into: &mut [u8], at: usize, value: u8)
     requires { at + 1 ≤ length into.old }
     ensures { into.new ≡ put into.old at (le 1 value) }
@@ -32,6 +36,7 @@ pub fn put_u8(into: &mut [u8], at: usize, value: u8)
     put_bytes(into, at, &[value]);
 }
 
+/// Makes `count` bytes from `at` on zero.
 pub fn put_zeros(into: &mut [u8], at: usize, count: usize)
     requires { at + count ≤ length into.old }
     ensures { into.new ≡ put into.old at (zeros count) }
@@ -39,6 +44,7 @@ pub fn put_zeros(into: &mut [u8], at: usize, count: usize)
     into[at..at + count].fill(0);
 }
 
+/// Writes bytes over those from `at` on.
 pub fn put_bytes(into: &mut [u8], at: usize, bytes: &[u8])
     requires { at + length bytes.now ≤ length into.old }
     ensures { into.new ≡ put into.old at bytes.now }
@@ -46,6 +52,7 @@ pub fn put_bytes(into: &mut [u8], at: usize, bytes: &[u8])
     into[at..at + bytes.len()].copy_from_slice(bytes);
 }
 
+/// The number in the two bytes from `at` on.
 #[tactic(auto, unfolding(tcmu_model::specs::Layout::field))]
 pub fn u16_at(bytes: &[u8], at: usize) -> u16
     requires { at + 2 ≤ length bytes.now }
@@ -54,6 +61,7 @@ pub fn u16_at(bytes: &[u8], at: usize) -> u16
     LittleEndian::read_u16(&bytes[at..])
 }
 
+/// The number in the four bytes from `at` on.
 #[tactic(auto, unfolding(tcmu_model::specs::Layout::field))]
 pub fn u32_at(bytes: &[u8], at: usize) -> u32
     requires { at + 4 ≤ length bytes.now }
@@ -62,6 +70,7 @@ pub fn u32_at(bytes: &[u8], at: usize) -> u32
     LittleEndian::read_u32(&bytes[at..])
 }
 
+/// The number in the eight bytes from `at` on.
 #[tactic(auto, unfolding(tcmu_model::specs::Layout::field))]
 pub fn u64_at(bytes: &[u8], at: usize) -> u64
     requires { at + 8 ≤ length bytes.now }
@@ -70,6 +79,7 @@ pub fn u64_at(bytes: &[u8], at: usize) -> u64
     LittleEndian::read_u64(&bytes[at..])
 }
 
+/// The number in the byte at `at`.
 #[tactic(auto, unfolding(tcmu_model::specs::Layout::field))]
 pub fn u8_at(bytes: &[u8], at: usize) -> u8
     requires { at + 1 ≤ length bytes.now }

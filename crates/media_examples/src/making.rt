@@ -6,6 +6,7 @@ use std::alloc::Global;
 use std::test::Fail;
 use tcmu_types::{Bytes, Serials};
 
+/// So many bytes of zeros.
 pub fn zeros(alloc: Global, count: usize) -> Result<Bytes, Fail> {
     let mut bytes = Vec::new(alloc);
     bytes.resize(count, 0)?;
@@ -29,6 +30,7 @@ fn make(
     Ok(make_medium(alloc, &config, files))
 }
 
+/// The medium of a config text over these files.
 pub fn made(alloc: Global, config: &str, files: &mut MemFiles) -> Result<Media<MemStore>, Fail> {
     match make(alloc, config, files)? {
         Ok(medium) => Ok(medium),
@@ -36,6 +38,7 @@ pub fn made(alloc: Global, config: &str, files: &mut MemFiles) -> Result<Media<M
     }
 }
 
+/// Why no medium is made of a config text over these files; None where one is.
 pub fn fault_of(
     alloc: Global,
     config: &str,

@@ -9,7 +9,8 @@ use tcmu_types::{
     Submit, Tmr,
 };
 
-/// A device that may be sent 4,294,967,295 commands.
+/// A device that may be sent 4,294,967,295 commands. Its calls are those of `Path` by the same names; a command more is answered with
+/// `NoMemory`.
 #[derive(Drop)]
 pub struct Rig<P: Path + Drop> {
     path: P,

@@ -28,6 +28,7 @@ pub fn names_at(initiators: &[Names], at: u32) -> &[Name]
     initiators[at as usize].as_slice()
 }
 
+/// Whether a line asks for a picture of a region.
 pub fn is_dump(line: &Line) -> bool
     ensures { result ≡ is_dump line.now }
 {
@@ -38,6 +39,7 @@ pub fn is_dump(line: &Line) -> bool
     }
 }
 
+/// How many bytes the command of a line asks for; none where it is no submit line.
 pub fn bytes_in(line: &Line) -> u64
     ensures value { result ≡ bytes_in line.now }
     ensures most { result < 4294967296 }
@@ -48,6 +50,7 @@ pub fn bytes_in(line: &Line) -> u64
     }
 }
 
+/// How many bytes are sent with the command of a line; none where it is no submit line.
 pub fn bytes_out(line: &Line) -> u64
     ensures value { result ≡ bytes_out line.now }
     ensures most { result < 9223372036854775808 }

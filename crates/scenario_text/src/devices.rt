@@ -27,6 +27,7 @@ fn in_same_file(device: &DeviceLine, kind: &MediumKind) -> bool
     same_file(&device.config.kind, kind)
 }
 
+/// Whether a device is kept in the same file. Memory is no file.
 pub fn any_in_file(devices: &[DeviceLine], kind: &MediumKind) -> bool
     ensures { result ≡ list_any (λ d. same_file d.config.kind (medium_data kind.now)) devices.now }
 {

@@ -22,6 +22,7 @@ fn is_allowed(b: u8) -> bool
     is_blank(b) || 33 <= b && b <= 126
 }
 
+/// Whether each byte may stand in a line: a tab, a carriage return, a space, or 21h to 7Eh.
 pub fn all_allowed(text: &[u8]) -> bool
     ensures { result ≡ list_all is_allowed text.now }
 {
@@ -71,6 +72,7 @@ pub fn next_field(text: &[u8]) -> Option<(&[u8], &[u8])>
     }
 }
 
+/// The verb that a word is, in lower case alone.
 #[tactic(auto, unfolding(tcmu_model::specs::Words::verb_of))]
 pub fn verb_of(word: &[u8]) -> Option<Verb>
     ensures { result ≡ verb_of word.now }
@@ -135,6 +137,7 @@ fn is_over(text: &[u8]) -> bool
     next_field(text).is_none()
 }
 
+/// The only field; None where there is none or a second.
 pub fn one_field(text: &[u8]) -> Option<&[u8]>
     ensures { option_map (λ x. x.now) result ≡ one_field (fields_of text.now) }
 {
@@ -145,6 +148,7 @@ pub fn one_field(text: &[u8]) -> Option<&[u8]>
     Some(a)
 }
 
+/// Both fields; None where there are fewer or more.
 pub fn two_fields(text: &[u8]) -> Option<(&[u8], &[u8])>
     ensures { option_map (λ p. (p.0.now, p.1.now)) result ≡ two_fields (fields_of text.now) }
 {
@@ -156,6 +160,7 @@ pub fn two_fields(text: &[u8]) -> Option<(&[u8], &[u8])>
     Some((a, b))
 }
 
+/// All three fields; None where there are fewer or more.
 pub fn three_fields(text: &[u8]) -> Option<(&[u8], &[u8], &[u8])>
     ensures { option_map (λ p. (p.0.now, p.1.now, p.2.now)) result ≡ three_fields (fields_of text.now) }
 {
@@ -210,6 +215,7 @@ fn payload_fields(text: &[u8]) -> Option<Payload<'_>>
     payload_field(a)
 }
 
+/// The fields of a submit line behind its verb; None where there are fewer or more, or the last is neither `in=` nor `out=`.
 #[tactic(auto, unfolding(tcmu_model::specs::Lines::submit_fields))]
 pub fn submit_fields(text: &[u8]) -> Option<SubmitWords<'_>>
     ensures { option_map submit_data result ≡ submit_fields (fields_of text.now) }
@@ -294,6 +300,7 @@ pub struct DeviceWords<'a> {
     pub last: LastWords<'a>,
 }
 
+/// The fields of a device line behind its verb; None where there are fewer or more, or one lacks its key or stands out of order.
 #[tactic(auto, unfolding(tcmu_model::specs::Lines::device_fields))]
 pub fn device_fields(text: &[u8]) -> Option<DeviceWords<'_>>
     ensures { option_map device_data result ≡ device_fields (fields_of text.now) }

@@ -23,6 +23,7 @@ impl Model for Names {
 }
 
 impl Names {
+    /// No name yet.
     pub fn new(alloc: Global) -> Names
         ensures { result ≡ [] }
     {
@@ -31,6 +32,7 @@ impl Names {
         }
     }
 
+    /// The names, in the order in which they first came.
     pub fn as_slice(&self) -> &[Name]
         ensures { result.now ≡ self.now }
     {

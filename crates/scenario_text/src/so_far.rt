@@ -63,6 +63,7 @@ fn one_if(b: bool) -> u32
 }
 
 impl SoFar {
+    /// Before the first line.
     pub fn new(alloc: Global) -> SoFar
         ensures { result ≡ nothing_yet }
     {
@@ -87,6 +88,7 @@ impl SoFar {
         }
     }
 
+    /// Whether a device line of this name came.
     pub fn has_device(&self, name: &[u8]) -> bool
         ensures { result ≡ list_any (has_name name.now) self.now.devices }
     {
@@ -100,6 +102,7 @@ impl SoFar {
         any_in_file(self.devices.as_slice(), kind)
     }
 
+    /// What the lines said, behind the last of them.
     pub fn into_scenario(self) -> Scenario
         ensures { result ≡ self }
     {

@@ -128,6 +128,7 @@ impl Region {
         })
     }
 
+    /// The bytes before the data area: the mailbox, the command ring, and what lies behind it up to a whole page.
     pub fn front(&self) -> &[u8]
         ensures front { result.now ≡ self.now.front }
         ensures mailbox { 4096 ≤ length self.now.front }
@@ -135,6 +136,7 @@ impl Region {
         self.front.as_slice()
     }
 
+    /// The same bytes, to write over. Their number stays, and so do all blocks.
     pub fn front_mut(&mut self) -> &mut [u8]
         ensures* writes_back { sem 𝓛 (LendsFront self.entry result) }
         ensures value { result.now ≡ self.old.front }
@@ -175,24 +177,28 @@ impl Region {
         self.blocks.len() as u64
     }
 
+    /// The head that stands in the mailbox, whoever wrote it: a byte offset in the ring, if it is sound.
     pub fn head(&self) -> u32
         ensures { result ≡ field 4 head_place self.now.front }
     {
         u32_at(&self.front, 12)
     }
 
+    /// The tail that stands in the mailbox, whoever wrote it.
     pub fn tail(&self) -> u32
         ensures { result ≡ field 4 tail_place self.now.front }
     {
         u32_at(&self.front, 64)
     }
 
+    /// Writes the head of the mailbox, and no other byte.
     pub fn set_head(&mut self, at: u32)
         ensures { self.new ≡ record self.old { front = put self.old.front head_place (le 4 at) } }
     {
         put_u32(&mut self.front, 12, at);
     }
 
+    /// Writes the tail of the mailbox, and no other byte.
     pub fn set_tail(&mut self, at: u32)
         ensures { self.new ≡ record self.old { front = put self.old.front tail_place (le 4 at) } }
     {

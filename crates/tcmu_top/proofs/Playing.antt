@@ -277,41 +277,6 @@ stopped_front R at l d d' event old now outcomes sound fit (inr told) =
 
 -- ==== from what the code finds
 
-pub picked_by : (d : DeviceState) (t : Todo) (o : Option Event) → t ≡ todo_of d → option_map event_data o ≡ chosen t → drain_event d ≡ option_map event_data o
-unfolding drain_event
-picked_by d t o is value = sym (value ∙ ap chosen is)
-
-rises : (n : ℕ) (ns : List ℕ) → is_rising (n ∷ ns) ≡ true → RisesAbove n ns
-rises n [] h = tt
-rises n (m ∷ ns) h = let both = both_true (nat_lt n m) (is_rising (m ∷ ns)) h in (ltb-true n m both.0, rises m ns both.1)
-  where
-    both_true : (a b : Bool) → (a && b) ≡ true → (a ≡ true) × (b ≡ true)
-    both_true true b e = (refl, e)
-    both_true false b e = absurd (cc)
-
-rising_is : (ns : List ℕ) → is_rising ns ≡ true → IsRising ns
-rising_is [] h = tt
-rising_is (n ∷ ns) h = rises n ns h
-
-can_be_made : (e : EventData) → IsEvent e → CanBeMade e
-can_be_made (ev.Reset level) h = (h.least, h.most)
-can_be_made (ev.Tmr kind ss) h = (h.known.least, h.known.most, rising_is ss h.rising.rising)
-can_be_made (ev.Submit c) h = tt
-can_be_made ev.Dispatch h = tt
-can_be_made (ev.Handle s) h = tt
-can_be_made (ev.Respond s) h = tt
-can_be_made ev.Publish h = tt
-can_be_made ev.Clean h = tt
-can_be_made (ev.Tick n) h = tt
-can_be_made ev.Block h = tt
-can_be_made ev.Unblock h = tt
-can_be_made ev.Restart h = tt
-can_be_made ev.Stat h = tt
-can_be_made ev.Enter h = tt
-
-pub can_of_fit : (event : EventData) (task : LineWhat) → task ≡ line.Makes event → IsFit task → CanBeMade event
-can_of_fit event task is fit = can_be_made event (subst IsFit is fit)
-
 pub told_task : (R : HandlerRelation) (at : ℕ) (l : DeviceLineData) (d d' : Device) (event : EventData) (task : LineWhat) (old now : Option (List ℕ)) → task ≡ line.Makes event → Told R at l event d d' old now
     → Wrote R l (λ es. Plays R at d task es d') d d' old now
 told_task R at l d d' event task old now is told =
