@@ -6,7 +6,7 @@ use Rattle.tcmu_top.proofs.lines.play.Goals as goal
 
 pub behind-logged-requires : goal.behind-logged-requires
 behind-logged-requires g c =
-    log_longer g.P.Path.relation (g.P.Path.device c.args.path.now) (g.P.Path.device c.make.new.path) (event_data c.args.event.now) (answer_data c.in_ok-answer.answer) _ _ c.in_ok-answer.ensures.makes c.log-before.ensures c.log.ensures
+    log_longer g.P.Path.relation (g.P.Path.device c.args.path.now) (g.P.Path.device c.make_event.new.path) (event_data c.args.event.now) (answer_data c.in_ok-answer.answer) _ _ c.in_ok-answer.ensures.makes c.log-before.ensures c.log.ensures
 
 pub returns-in_err-answer-clause-err : goal.returns-in_err-answer-clause-err
 returns-in_err-answer-clause-err g c =
