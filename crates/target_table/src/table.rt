@@ -1,5 +1,5 @@
 //! The table of commands.
-ghost use Rattle.std.specs.Prelude.{◌≡◌, ◌+◌, ◌-◌, ◌≤◌, ◌<◌, [], ◌∷◌, ◌++◌, length, Some, None, OnOk, OnErr, option_copied, slice_get, slice_set, nat_le, true, false, suc, take, drop, vec_capacity, if◌then◌else◌, IfSome, IfNone};
+ghost use Rattle.std.specs.Prelude.{◌≡◌, ◌+◌, ◌-◌, ◌≤◌, ◌<◌, [], ◌∷◌, ◌++◌, length, Some, None, OnOk, OnErr, option_copied, slice_get, slice_set, nat_le, max, true, false, suc, take, drop, vec_capacity, if◌then◌else◌, IfSome, IfNone};
 ghost use Rattle.std.specs.List.{list_any};
 ghost use Rattle.std.specs.List.Sorted.{IsNonDecreasingBy, IsPartitionPoint};
 ghost use Rattle.std.specs.Option.{option_map};
@@ -68,6 +68,7 @@ impl Table {
         ensures rows { self.new.rows ≡ self.old.rows }
         ensures expired { self.new.expired ≡ self.old.expired }
         ensures kept { self.old.spare ≤ self.new.spare }
+        ensures sparing { self.new.spare ≤ max 1 self.old.spare }
         ensures room { OnOk result (length self.old.rows < 65535 → 1 ≤ self.new.spare) }
         ensures unchanged { OnErr result (self.new ≡ self.old) }
     {
