@@ -2,6 +2,7 @@
 ghost use Rattle.std.specs.Prelude.{◌≡◌, ◌-◌, ◌*◌, ◌<◌, ◌≤◌, ◌==◌, ◌||◌, ◌&&◌, not, true, false, ℕ, length};
 ghost use Rattle.data_blocks.specs.Bitmap.{is_set};
 
+/// Whether the bit of a number is set: the number `n` is bit `n % 64` of word `n / 64`.
 pub fn is_set(words: &[u64], number: u32) -> bool
     requires { number < 64 * length words.now }
     ensures { result ≡ is_set words.now number }
@@ -9,6 +10,7 @@ pub fn is_set(words: &[u64], number: u32) -> bool
     (words[(number / 64) as usize] >> (number % 64)) & 1 == 1
 }
 
+/// Sets the bit of a number, and leaves all others.
 pub fn set(words: &mut Vec<u64>, number: u32)
     requires { number < 64 * length words.old.items }
     ensures bits { (n : ℕ) → is_set words.new.items n ≡ ((n == number) || is_set words.old.items n) }
@@ -17,6 +19,7 @@ pub fn set(words: &mut Vec<u64>, number: u32)
     words[(number / 64) as usize] |= 1 << (number % 64);
 }
 
+/// Clears the bit of a number, and leaves all others.
 pub fn clear(words: &mut Vec<u64>, number: u32)
     requires { number < 64 * length words.old.items }
     ensures bits { (n : ℕ) → is_set words.new.items n ≡ (is_set words.old.items n && not (n == number)) }
