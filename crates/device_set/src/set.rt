@@ -28,6 +28,7 @@ impl<P> DeviceSet<P> {
     ghost use Rattle.device_set.specs.Sets.{HasOwnNames};
     ghost use Rattle.device_set.specs.Lends.{LendsDevice};
 
+    /// No device yet.
     pub fn new(alloc: Global) -> Self
         ensures { result ≡ [] }
     {
@@ -78,6 +79,7 @@ impl<P> DeviceSet<P> {
         &mut self.devices[at as usize]
     }
 
+    /// How many devices there are. No two have one name.
     pub fn len(&self) -> u32
         ensures value { result ≡ length self.now }
         ensures own_names { HasOwnNames self.now }
