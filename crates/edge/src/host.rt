@@ -107,6 +107,7 @@ fn open<R: fs::Files<File = File>>(runtime: &R, name: &[u8]) -> Option<(File, u6
 }
 
 impl<R: fs::Files<File = File> + Drop> HostFiles<R> {
+    /// The files below the current folder, of which no fetch has failed.
     pub fn new(runtime: R) -> HostFiles<R>
         ensures { result ≡ 0 }
     {

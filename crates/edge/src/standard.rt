@@ -1,11 +1,15 @@
-//! A source and a sink over std's readers and writers. They tell no content: what a file or a terminal gives is not known.
-ghost use Rattle.std.specs.Prelude.{◌≡◌, ◌+◌, ◌≤◌, ◌<◌, None, length};
+//! A source and a sink over std's readers and writers. What a file or a terminal gives is not known, so as a source and a sink they tell
+//! no content; what they take from a reader and hand to a writer is told of those that tell it.
+ghost use Rattle.std.specs.Prelude.{◌≡◌, ◌≤◌, ◌<◌, None, length, IfOk, OnOk, OnErr};
+ghost use Rattle.std.specs.Io.KnownBytes.{Appends, ReadConsumes};
+ghost use Rattle.tcmu_types.specs.Numbered.{HasCause};
+ghost use Rattle.edge.specs.Standard.{AppendsFront};
 
 use crate::{Failed, Sink, Source};
 use std::io::{Read, Write};
 use std::marker::Model;
 
-/// A reader as a source, which contracts see as its count of faults.
+/// A reader as a source, which contracts see as the reader beside its count of faults.
 #[derive(Drop)]
 pub struct StdSource<R: Read> {
     reader: R,
@@ -13,16 +17,17 @@ pub struct StdSource<R: Read> {
 }
 
 impl<R: Read> Model for StdSource<R> {
-    ghost use Rattle.std.specs.Prelude.{ℕ};
+    ghost use Rattle.edge.specs.Standard.{Counted};
 
-    ghost Value = { ℕ };
+    ghost Value = { Counted R };
 
-    ghost view = { λ s. s.faults };
+    ghost view = { λ s. record { inner = s.reader; faults = s.faults } };
 }
 
 impl<R: Read> StdSource<R> {
+    /// The reader as a source of which no call has failed.
     pub fn new(reader: R) -> StdSource<R>
-        ensures { result ≡ 0 }
+        ensures { result ≡ record { inner = reader; faults = 0 } }
     {
         StdSource { reader, faults: 0 }
     }
@@ -31,9 +36,15 @@ impl<R: Read> StdSource<R> {
 impl<R: Read> Source for StdSource<R> {
     ghost left = { λ _. None };
 
-    ghost faults = { λ s. s };
+    ghost faults = { λ s. s.faults };
 
-    fn read(&mut self, into: &mut [u8]) -> Result<usize, Failed> {
+    /// One read of the reader. Where the reader tells what it has left, a call that did not fail took just what it gave from the front
+    /// of it, and none for a piece that is not empty only at its end; a failed call took none.
+    fn read(&mut self, into: &mut [u8]) -> Result<usize, Failed>
+        ensures within { IfOk result (λ n. n ≤ length into.new) }
+        ensures cause { HasCause self.old.faults self.new.faults result }
+        ensures bytes { ReadConsumes (R.remaining self.old.inner) (R.remaining self.new.inner) result into.new }
+    {
         match self.reader.read(into) {
             Ok(count) => Ok(count),
             Err(_) => {
@@ -44,8 +55,8 @@ impl<R: Read> Source for StdSource<R> {
     }
 }
 
-/// A writer as a sink, which contracts see as its count of faults. A writer that takes nothing of a piece that is not empty has
-/// failed.
+/// A writer as a sink, which contracts see as the writer beside its count of faults. A writer that takes nothing of a piece that is not
+/// empty has failed.
 #[derive(Drop)]
 pub struct StdSink<W: Write> {
     writer: W,
@@ -53,16 +64,17 @@ pub struct StdSink<W: Write> {
 }
 
 impl<W: Write> Model for StdSink<W> {
-    ghost use Rattle.std.specs.Prelude.{ℕ};
+    ghost use Rattle.edge.specs.Standard.{Counted};
 
-    ghost Value = { ℕ };
+    ghost Value = { Counted W };
 
-    ghost view = { λ s. s.faults };
+    ghost view = { λ s. record { inner = s.writer; faults = s.faults } };
 }
 
 impl<W: Write> StdSink<W> {
+    /// The writer as a sink of which no call has failed.
     pub fn new(writer: W) -> StdSink<W>
-        ensures { result ≡ 0 }
+        ensures { result ≡ record { inner = writer; faults = 0 } }
     {
         StdSink { writer, faults: 0 }
     }
@@ -71,9 +83,15 @@ impl<W: Write> StdSink<W> {
 impl<W: Write> Sink for StdSink<W> {
     ghost written = { λ _. None };
 
-    ghost faults = { λ s. s };
+    ghost faults = { λ s. s.faults };
 
-    fn write(&mut self, piece: &[u8]) -> Result<(), Failed> {
+    /// Writes until the writer has the whole piece or fails. Where the writer tells its bytes, they grew by the piece, and in a failed
+    /// call by a front of it.
+    fn write(&mut self, piece: &[u8]) -> Result<(), Failed>
+        ensures cause { HasCause self.old.faults self.new.faults result }
+        ensures whole { OnOk result (Appends (W.contents self.old.inner) (W.contents self.new.inner) piece.now) }
+        ensures front { OnErr result (AppendsFront (W.contents self.old.inner) (W.contents self.new.inner) piece.now) }
+    {
         let mut rest = piece;
         while !rest.is_empty() {
             match self.writer.write(rest) {

@@ -1,4 +1,3 @@
-pub mod Picked
 pub mod Tallying
 pub mod Summing
 pub mod Loads

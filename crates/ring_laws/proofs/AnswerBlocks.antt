@@ -34,6 +34,7 @@ use Rattle.ring_laws.proofs.Found.{first-passes}
 use Rattle.ring_laws.proofs.AnswerData.{returned-other, returned-data, scattered-payload, length-scattered, sizes-scattered, length-gathered, iovs-numbers}
 use Rattle.ring_laws.proofs.PlacedAnswers.{Into, goes_into}
 use Rattle.tcmu_model.proofs.Rises.{among-append, among_every, every-among}
+use Rattle.tcmu_model.proofs.DrainEnds.{laid_command}
 
 -- ==== what is apart
 
@@ -286,13 +287,6 @@ held_turned lists s (u ∷ us) =
     (λ (k : is_at s Parked u ≡ true). rw k refl)
     (λ (k : is_at s Parked u ≡ false). rw k (ap (λ bs. list_of lists u.serial ++ bs) (held_turned lists s us)))
     (cases_Bool (is_at s Parked u))
-
-item_command : (z : SettingsData) (start n : ℕ) (l : Laid) (q : ℕ) (c : CommandData) → HasLength z start n l → l ≡ Cmd q c → IsCommand c
-item_command z start n l q c h e = (subst (HasLength z start n) e h).1
-
-laid_command : (z : SettingsData) (start : ℕ) (is : List Item) (q : ℕ) (c : CommandData) → Along (IsItem z) start is → IsLaid is q c → IsCommand c
-laid_command z start [] q c h l = absurd l
-laid_command z start (i ∷ is) q c h l = ⊎_elim (λ (e : i.laid ≡ Cmd q c). item_command z start i.len i.laid q c h.0.kind e) (λ (m : IsLaid is q c). laid_command z (start + i.len) is q c h.1 m) l
 
 pub can_fill : (d : DeviceState) (lists : List Taken) → IsSound d → ListsSound d lists → CanFill d lists
 can_fill d lists sound owned =

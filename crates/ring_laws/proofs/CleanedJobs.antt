@@ -14,7 +14,7 @@ use Rattle.tcmu_model.proofs.Counts.{state_at}
 use Rattle.tcmu_model.proofs.Firsts.{without_first_missing}
 use Rattle.tcmu_model.proofs.Everies.{every-weaker, every-both, every-filter, every-passes, every-without_first, every-front, every-back, every-append}
 use Rattle.tcmu_model.proofs.Rises.{among-append, among_every, every-among}
-use Rattle.tcmu_model.proofs.SoundClean.{answered_placed}
+use Rattle.tcmu_model.proofs.SoundClean.{answered_placed, finish_taken}
 use Rattle.tcmu_model.specs.Areas.{IsLent}
 use Rattle.tcmu_model.specs.Sides.{InHand, PendingRow, TargetState, UserState}
 use Rattle.tcmu_model.specs.Represents.{AreGiven, AreOut, BlocksOf, BlocksStand, JobsStand, is_out}
@@ -35,13 +35,9 @@ abbrev taken_all : List Unfinished → List ℕ → List Unfinished
 taken_all us [] = us
 taken_all us (s ∷ ss) = taken_all (without_first (is_at s Placed) us) ss
 
-finish-taken : (rl : Bool) (b : Books) (s : ℕ) (o : Option Unfinished) → first_of (is_at s Placed) b.unfinished ≡ o → (finish rl b s).unfinished ≡ without_first (is_at s Placed) b.unfinished
-finish-taken rl b s None h = rw (finish, h) (sym (without_first_missing (is_at s Placed) b.unfinished h))
-finish-taken rl b s (Some u) h = rw (finish, h) refl
-
 all-taken : (rl : Bool) (b : Books) (ss : List ℕ) → (finish_all rl b ss).unfinished ≡ taken_all b.unfinished ss
 all-taken rl b [] = refl
-all-taken rl b (s ∷ ss) = all-taken rl (finish rl b s) ss ∙ ap (λ us. taken_all us ss) (finish-taken rl b s (first_of (is_at s Placed) b.unfinished) refl)
+all-taken rl b (s ∷ ss) = all-taken rl (finish rl b s) ss ∙ ap (λ us. taken_all us ss) (finish_taken rl b s (first_of (is_at s Placed) b.unfinished) refl)
 
 left_are : (d : DeviceState) → (cleaned_books d).unfinished ≡ taken_all d.unfinished (answered d)
 left_are d = all-taken d.settings.flags.read_len (books d) (answered d)

@@ -22,9 +22,9 @@ use Rattle.ring_laws.proofs.LaidRing.{serial_at}
 use Rattle.ring_laws.proofs.CleanedOne.{CleanAt}
 use Rattle.ring_laws.proofs.CleanedAll.{cleaned-at, not-before}
 use Rattle.ring_laws.proofs.NoteIds.{RowsDiffer, note_id_fewer, note_stands_by, serials_of_rows}
-use Rattle.ring_laws.proofs.Numbered.{rise_differ}
 use Rattle.ring_laws.proofs.AnswerBlocks.{differ-split}
 use Rattle.ring_laws.proofs.Places.{get-dropped}
+use Rattle.tcmu_model.proofs.Standing.{rise_differ}
 
 -- the area may end earlier, and nothing else of the region changes
 pub front_cleaned : (r : RegionState) (t : TargetState) → (region_cleaned r t).front ≡ r.front

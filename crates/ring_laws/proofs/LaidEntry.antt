@@ -11,6 +11,7 @@ use Rattle.ring_laws.proofs.Bytes.{part, take-written, part-written, part-writte
 use Rattle.ring_laws.proofs.Layouts.{take-written_inside, length-pad}
 use Rattle.tcmu_model.proofs.Written.{length-le, length-put}
 use Rattle.ring_laws.specs.Placed.{HoldsItems}
+use Rattle.tcmu_model.proofs.Laying.{times_eight}
 
 -- the device with an item laid
 abbrev pub laid_in : DeviceState → Item → List Unfinished → DeviceState
@@ -31,9 +32,6 @@ pad_cases r n h =
     (λ (e : ltb (r.size - head r) n ≡ true). let k : r.size - head r < n = ltb-true _ _ e in inr (rw e refl, k))
     (λ (e : ltb (r.size - head r) n ≡ false). let k : n ≤ r.size - head r = ltb-false _ _ e in inl (rw e refl, omega arith))
     (cases_Bool (ltb (r.size - head r) n))
-
-pub times_eight : (s m q : ℕ) → s ≡ 8 * m → s * q ≡ 8 * (m * q)
-times_eight s m q e = let k : 8 * m * q ≡ 8 * (m * q) = omega arith in ap (λ t. t * q) e ∙ k
 
 -- what is left of a ring of whole eights behind whole eights
 eights_left : (s l p : ℕ) → s % 8 ≡ 0 → l % 8 ≡ 0 → 0 < s → p ≡ s - l % s → p ≢ 0 → 8 ≤ p

@@ -10,7 +10,7 @@ use Rattle.tcmu_model.specs.BlockLists.{Taken}
 use Rattle.tcmu_model.specs.Picture.{place_of}
 use Rattle.tcmu_model.proofs.Basics.{among_more}
 use Rattle.tcmu_model.proofs.Everies.{every-filter}
-use Rattle.tcmu_model.proofs.Laying.{drop_laid, serials-append}
+use Rattle.tcmu_model.proofs.Laying.{drop_laid, serials-append, serials-pads}
 use Rattle.tcmu_model.specs.Sides.{InHand, PendingRow, UserState}
 use Rattle.tcmu_model.specs.Represents.{AreGiven, AreOut, IsNoteId, JobsStand, NoteStands, NotesStand, UserKeeps, command_places, entry_at, ids_in, is_out, recorded}
 use Rattle.ring_laws.proofs.Places.{laid_with, LaidCase, laid_case, Old, Padding, New, take-laid}
@@ -23,13 +23,6 @@ use Rattle.ring_laws.proofs.SameJobs.{HasSame, given_same, outs_same}
 -- the entries that are not cleared stay as they are
 abbrev pub SameEntries : List ℕ → List ℕ → DeviceState → Type 0
 SameEntries front front' d = (i : ℕ) (x : Item) → d.ring.cleared ≤ i → slice_get d.ring.laid i ≡ Some x → entry_at front' (place_of d.ring i) x.len ≡ entry_at front (place_of d.ring i) x.len
-
-pub serials-pads : (n : ℕ) → serials_in (pads n) ≡ []
-serials-pads n =
-    ⊎_elim
-    (λ (z : eqb n 0 ≡ true). rw z refl)
-    (λ (z : eqb n 0 ≡ false). rw z refl)
-    (cases_Bool (eqb n 0))
 
 -- the serials behind an item that was there
 serials_behind : (r : RingState) (it : Item) (i : ℕ) → i ≤ length r.laid → serials_in (drop i (laid_with r it)) ≡ serials_in (drop i r.laid) ++ serial_in it

@@ -20,8 +20,8 @@ use Rattle.tcmu_model.specs.Represents.{RingStands}
 use Rattle.tcmu_model.specs.UserSteps.{user_mailbox, of_size, ring_size}
 use Rattle.tcmu_model.proofs.Written.{lengths as writes, field-in, field-front}
 use Rattle.ring_laws.proofs.SoundRing.{holds}
-use Rattle.ring_laws.proofs.LaidEntry.{times_eight}
 use Rattle.ring_laws.specs.Placed.{HoldsItems}
+use Rattle.tcmu_model.proofs.Laying.{times_eight}
 
 length-text : (m : Mailbox) → length (mailbox_bytes m) ≡ 128
 unfolding mailbox_bytes

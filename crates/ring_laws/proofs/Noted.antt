@@ -24,7 +24,7 @@ use Rattle.tcmu_model.specs.Picture.{place_of}
 use Rattle.tcmu_model.specs.Regions.{AreSized, RegionState}
 use Rattle.tcmu_model.proofs.Basics.{rows_among}
 use Rattle.tcmu_model.proofs.Everies.{every-all, every-first, every-map}
-use Rattle.tcmu_model.proofs.Laying.{serials-append, serials_laid}
+use Rattle.tcmu_model.proofs.Laying.{serials-append, serials_laid, serials-pads}
 use Rattle.tcmu_model.proofs.Rises.{among_every}
 use Rattle.tcmu_model.proofs.SoundLaying.{tmr_sizes}
 use Rattle.tcmu_model.proofs.Standing.{any_among}
@@ -37,7 +37,7 @@ use Rattle.ring_laws.proofs.Agree.{Agrees, agrees}
 use Rattle.ring_laws.proofs.SoundRing.{holds}
 use Rattle.ring_laws.proofs.Places.{laid_with, LaidCase, laid_case, Old, Padding, New, take-laid}
 use Rattle.ring_laws.proofs.LaidEntry.{entered, laid_in}
-use Rattle.ring_laws.proofs.LaidPoints.{SameEntries, jobs_laid, notes_laid, serials-pads, side_laid}
+use Rattle.ring_laws.proofs.LaidPoints.{SameEntries, jobs_laid, notes_laid, side_laid}
 use Rattle.ring_laws.proofs.SameJobs.{HasSame}
 use Rattle.ring_laws.proofs.RingLaid.{SameItems, new-entry, old-entry, ring-laid}
 use Rattle.ring_laws.proofs.LaidRing.{commands-append, front_same}

@@ -27,9 +27,9 @@ use Rattle.ring_laws.specs.Dispatched.{CanDispatch}
 use Rattle.ring_laws.proofs.AnswerBlocks.{differ-split}
 use Rattle.ring_laws.proofs.Nexts.{ids_at}
 use Rattle.ring_laws.proofs.NoteIds.{serial_under}
-use Rattle.ring_laws.proofs.Numbered.{rise_differ}
 use Rattle.ring_laws.proofs.RespondedJobs.{some_same}
 use Rattle.ring_laws.proofs.Matched.{unmatched}
+use Rattle.tcmu_model.proofs.Standing.{rise_differ}
 
 -- ==== an open job is of a command that is running
 

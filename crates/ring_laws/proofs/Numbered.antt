@@ -17,12 +17,9 @@ use Rattle.ring_laws.proofs.SoundRing.{holds}
 use Rattle.ring_laws.proofs.LaidIds.{command_long}
 use Rattle.ring_laws.proofs.Places.{apart_in_ring, ends_within, used_is, lengths_more}
 use Rattle.tcmu_types.proofs.Places.{get_append_left}
+use Rattle.tcmu_model.proofs.Standing.{rise_differ}
 
 -- ==== what placing an answer rests on
-
-pub rise_differ : (low : ℕ) (xs : List ℕ) (high : ℕ) → Rise low xs high → Differ xs
-rise_differ low [] high h = tt
-rise_differ low (x ∷ xs) high h = (not_above x xs high x h.1 (omega arith), rise_differ x xs high h.1)
 
 pub can_answer : (d : DeviceState) → IsSound d → CanAnswer d
 can_answer d h =

@@ -7,6 +7,7 @@ use Rattle.std.proofs.lemmas.List.Sums.{sum_by-append, sum_by-take-le, sum_by-co
 use Rattle.tcmu_model.specs.RingState.{RingState, Item, Laid, lengths, head, used, free, need, pads, with_item, commands_in, is_command}
 use Rattle.tcmu_model.specs.RingState as ring
 use Rattle.tcmu_types.proofs.Places.{get_append_left}
+use Rattle.tcmu_model.proofs.Laying.{lengths-pads}
 
 -- two stretches of a ring of n bytes, whole and no further than n from the first one's start to the second one's end, do not meet
 pub apart_in_ring : (n p a q b : ℕ) → 0 < n → p + a ≤ q → q + b ≤ p + n → p % n + a ≤ n → q % n + b ≤ n → (p % n + a ≤ q % n) ⊎ (q % n + b ≤ p % n)
@@ -83,13 +84,6 @@ take-laid r it i h =
     let n : ℕ = ring.pad r it.len in
     let e : length (r.laid ++ pads n) ≡ length r.laid + length (pads n) = length-append r.laid (pads n) in
     take-append-le i (r.laid ++ pads n) (it ∷ []) (omega arith) ∙ take-append-le i r.laid (pads n) h
-
-pub lengths-pads : (n : ℕ) → lengths (pads n) ≡ n
-lengths-pads n =
-    ⊎_elim
-    (λ (z : eqb n 0 ≡ true). let k : n ≡ 0 = eqb-true n 0 z in let e : lengths (pads n) ≡ lengths [] = ap lengths (pads_none n k) in let e0 : ◌≡◌ {A = ℕ} (lengths []) 0 = refl in omega arith)
-    (λ (z : eqb n 0 ≡ false). let e : lengths (pads n) ≡ lengths (pad_item n ∷ []) = ap lengths (pads_some n (eqb-false n 0 z)) in let e0 : lengths (pad_item n ∷ []) ≡ 0 + n = refl in omega arith)
-    (cases_Bool (eqb n 0))
 
 pub lengths-append : (xs ys : List Item) → lengths (xs ++ ys) ≡ lengths xs + lengths ys
 lengths-append xs ys = sum_by-append (λ i. i.len) xs ys

@@ -163,7 +163,7 @@ first_found p (v ∷ us) h =
 item_command : (s : SettingsData) (start n k : ℕ) (l : Laid) (c : CommandData) → IsItem s start (record { len = n; laid = l }) → l ≡ Cmd k c → IsCommand c
 item_command s start n k l c h e = (subst (λ (x : Laid). IsItem s start (record { len = n; laid = x })) e h).kind.1
 
-laid_command : (s : SettingsData) (start : ℕ) (is : List Item) (k : ℕ) (c : CommandData) → Along (IsItem s) start is → IsLaid is k c → IsCommand c
+pub laid_command : (s : SettingsData) (start : ℕ) (is : List Item) (k : ℕ) (c : CommandData) → Along (IsItem s) start is → IsLaid is k c → IsCommand c
 laid_command s start [] k c a h = absurd h
 laid_command s start (i ∷ is) k c a (inl e) = item_command s start i.len k i.laid c a.0 e
 laid_command s start (i ∷ is) k c a (inr h) = laid_command s (start + i.len) is k c a.1 h

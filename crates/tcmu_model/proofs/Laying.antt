@@ -25,7 +25,7 @@ drop_laid r i n h =
 pub length_laid : (r : RingState) (i : Item) → length (with_item r i).laid ≡ length r.laid + length (pads (pad r i.len)) + 1
 length_laid r i = length-append (r.laid ++ pads (pad r i.len)) (i ∷ []) ∙ ap (λ k. k + 1) (length-append r.laid (pads (pad r i.len)))
 
-lengths-pads : (n : ℕ) → lengths (pads n) ≡ n
+pub lengths-pads : (n : ℕ) → lengths (pads n) ≡ n
 lengths-pads n =
     ⊎_elim
     (λ (e : eqb n 0 ≡ true). let z : n ≡ 0 = eqb-true n 0 e in rw e (omega (arith, z)))
@@ -35,7 +35,7 @@ lengths-pads n =
 pub serials-append : (xs ys : List Item) → serials_in (xs ++ ys) ≡ serials_in xs ++ serials_in ys
 serials-append xs ys = flat_map-append serial_in xs ys
 
-serials-pads : (n : ℕ) → serials_in (pads n) ≡ []
+pub serials-pads : (n : ℕ) → serials_in (pads n) ≡ []
 serials-pads n =
     ⊎_elim
     (λ (e : eqb n 0 ≡ true). rw e refl)
@@ -76,7 +76,7 @@ aligned s start (i ∷ is) h =
     let l : lengths (i ∷ is) ≡ i.len + lengths is = sum_by-cons (λ (x : Item). x.len) i is in
     omega (arith, l, h.0.even, aligned s (start + i.len) is h.1)
 
-times_eight : (s m q : ℕ) → s ≡ 8 * m → s * q ≡ 8 * (m * q)
+pub times_eight : (s m q : ℕ) → s ≡ 8 * m → s * q ≡ 8 * (m * q)
 times_eight s m q e = let k : 8 * m * q ≡ 8 * (m * q) = omega arith in ap (λ t. t * q) e ∙ k
 
 -- what is left of a ring of whole eights behind whole eights

@@ -31,7 +31,7 @@ stays ss u = not (is_among ss u.serial)
 abbrev ArePlaced : List ℕ → List Unfinished → Type 0
 ArePlaced ss us = Every (λ u. is_among ss u.serial ≡ true → (u.state ≡ Placed) × (is_some u.reply ≡ true)) us
 
-finish_taken : (read_len : Bool) (b : Books) (s : ℕ) (o : Option Unfinished) → first_of (is_at s Placed) b.unfinished ≡ o → (finish read_len b s).unfinished ≡ without_first (is_at s Placed) b.unfinished
+pub finish_taken : (read_len : Bool) (b : Books) (s : ℕ) (o : Option Unfinished) → first_of (is_at s Placed) b.unfinished ≡ o → (finish read_len b s).unfinished ≡ without_first (is_at s Placed) b.unfinished
 finish_taken read_len b s None h = rw (finish, h) (sym (without_first_missing (is_at s Placed) b.unfinished h))
 finish_taken read_len b s (Some u) h = rw (finish, h) refl
 

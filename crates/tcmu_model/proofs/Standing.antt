@@ -128,7 +128,7 @@ count_left F A L high r df da lf la fa =
         omega (arith, a, f, b, cf, split xs))
         (cases_Bool (is_among F x))
 
-rise_differ : (low : ℕ) (xs : List ℕ) (high : ℕ) → Rise low xs high → Differ xs
+pub rise_differ : (low : ℕ) (xs : List ℕ) (high : ℕ) → Rise low xs high → Differ xs
 rise_differ low [] high r = tt
 rise_differ low (x ∷ xs) high r = (not_above x xs high x r.1 (omega arith), rise_differ x xs high r.1)
 

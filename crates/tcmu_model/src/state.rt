@@ -20,6 +20,7 @@ pub enum CommandState {
 }
 
 impl CommandState {
+    /// Whether the two states are one.
     pub fn is(self, other: CommandState) -> bool
         ensures { result ≡ same_state self other }
     {

@@ -11,3 +11,4 @@ pub mod RowsAfter
 pub mod Taking
 pub mod Tallying
 pub mod Turns
+pub mod Picked

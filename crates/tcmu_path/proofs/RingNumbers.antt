@@ -8,6 +8,7 @@ use Rattle.std.proofs.Math.Seq.{take-add}
 use Rattle.std.specs.List.{sum_by}
 use Rattle.tcmu_model.specs.RingState.{RingState, Item, lengths, pads, pad, need, free, commands_in, is_command, front_with}
 use Rattle.tcmu_path.specs.Numbers.{HasNumbers}
+use Rattle.tcmu_model.proofs.Laying.{lengths-pads}
 
 pub lengths-drop_le : (items : List Item) (i j : ℕ) → i ≤ j → lengths (drop j items) ≤ lengths (drop i items)
 lengths-drop_le items i j h =
@@ -16,13 +17,6 @@ lengths-drop_le items i j h =
     let t : sum_by f (take (j - i) (drop i items)) + sum_by f (drop (j - i) (drop i items)) ≡ sum_by f (drop i items) = sum_by-take-drop f (drop i items) (j - i) in
     let u : sum_by f (drop (j - i) (drop i items)) ≡ sum_by f (drop j items) = ap (sum_by f) e in
     omega (arith, t, u)
-
-pub lengths-pads : (n : ℕ) → lengths (pads n) ≡ n
-lengths-pads n =
-    ⊎_elim
-    (λ (e : eqb n 0 ≡ true). rw e (sym (eqb-true n 0 e)))
-    (λ (e : eqb n 0 ≡ false). rw e (omega arith))
-    (cases_Bool (eqb n 0))
 
 -- an item behind its padding lengthens any back part of what was laid
 lengths_laid : (laid : List Item) (pad : ℕ) (item : Item) (c : ℕ) → c ≤ length laid → lengths (drop c (laid ++ pads pad ++ item ∷ [])) ≡ lengths (drop c laid) + (pad + item.len)

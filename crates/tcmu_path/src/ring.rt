@@ -43,6 +43,7 @@ impl Model for RingItem {
 }
 
 impl RingItem {
+    /// Whether it is padding.
     pub fn is_pad(&self) -> bool
         ensures { result ≡ is_pad self.now }
     {
@@ -53,6 +54,7 @@ impl RingItem {
         }
     }
 
+    /// Whether it is a command.
     pub fn is_command(&self) -> bool
         ensures { result ≡ is_command self.now }
     {
@@ -148,6 +150,7 @@ impl Model for Ring {
 }
 
 impl Ring {
+    /// An empty ring of `size` bytes.
     pub fn new(alloc: Global, size: u32) -> Ring
         requires low { 4096 ≤ size }
         requires high { size ≤ 4194304 }
@@ -166,24 +169,28 @@ impl Ring {
         }
     }
 
+    /// Its size, in bytes.
     pub fn size(&self) -> u32
         ensures { result ≡ self.now.size }
     {
         self.size
     }
 
+    /// Where the next item begins, in bytes from its start.
     pub fn head(&self) -> u32
         ensures { result ≡ head self.now }
     {
         self.head
     }
 
+    /// How many bytes are laid and not cleared.
     pub fn used(&self) -> u32
         ensures { result ≡ used self.now }
     {
         self.used
     }
 
+    /// How many bytes may still be laid: one byte stays free, so that a full ring is not taken for an empty one.
     pub fn free(&self) -> u32
         ensures { result ≡ free self.now }
     {
@@ -208,6 +215,7 @@ impl Ring {
         self.pad(len) + len
     }
 
+    /// Whether an item of `len` bytes has room, with its padding.
     pub fn fits(&self, len: u32) -> bool
         requires { len ≤ 4194304 }
         ensures { result ≡ fits self.now len }
@@ -238,6 +246,7 @@ impl Ring {
         self.dispatched + pads_ahead(&self.laid[self.dispatched..])
     }
 
+    /// The item at a place, counted from the first that was ever laid.
     pub fn item(&self, at: usize) -> Option<&RingItem>
         ensures { MatchOption result (slice_get self.now.laid at ≡ None) (λ i. slice_get self.now.laid at ≡ Some i.now) }
     {
@@ -271,12 +280,14 @@ impl Ring {
         self.dispatched < self.laid.len()
     }
 
+    /// How many commands are published.
     pub fn published_commands(&self) -> usize
         ensures { result ≡ published_commands self.now }
     {
         self.published_commands
     }
 
+    /// How many commands are cleared.
     pub fn cleared_commands(&self) -> usize
         ensures value { result ≡ cleared_commands self.now }
         ensures bound { result ≤ published_commands self.now }

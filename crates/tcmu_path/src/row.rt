@@ -73,12 +73,14 @@ impl Row {
         }
     }
 
+    /// The serial with which it was accepted.
     pub fn serial(&self) -> u64
         ensures { result ≡ self.now.serial }
     {
         self.serial
     }
 
+    /// The command itself.
     pub fn command(&self) -> &Command
         ensures { result.now ≡ self.now.command }
     {
@@ -97,24 +99,28 @@ impl Row {
         })
     }
 
+    /// Where it stands on its way.
     pub fn state(&self) -> CommandState
         ensures { result ≡ self.now.state }
     {
         self.state
     }
 
+    /// Whether it has this serial and stands there.
     pub fn is_at(&self, serial: u64, state: CommandState) -> bool
         ensures { result ≡ is_at serial state self.now }
     {
         self.serial == serial && self.state.is(state)
     }
 
+    /// Whether it expired.
     pub fn is_expired(&self) -> bool
         ensures { result ≡ self.now.expired }
     {
         self.expired
     }
 
+    /// Moves it on.
     pub fn set_state(&mut self, state: CommandState)
         ensures { self.new ≡ in_state state self.old }
     {
@@ -135,6 +141,7 @@ impl Row {
         self.buffer.extend(reply.payload.as_slice());
     }
 
+    /// Whether its deadline has come, in ticks, and it is not expired yet.
     pub fn is_due(&self, now: u64) -> bool
         ensures { result ≡ is_due now self.now }
     {

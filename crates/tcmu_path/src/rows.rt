@@ -60,6 +60,7 @@ impl Model for Rows {
 }
 
 impl Rows {
+    /// No rows.
     pub fn new(alloc: Global) -> Rows
         ensures { result.items ≡ [] }
     {
@@ -70,6 +71,7 @@ impl Rows {
         }
     }
 
+    /// How many rows there are.
     pub fn len(&self) -> usize
         ensures value { result ≡ length self.now.items }
         ensures few { result < 2 ^ 63 }

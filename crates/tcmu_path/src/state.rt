@@ -91,6 +91,7 @@ fn end_all(rows: &mut Rows, delayed: &mut Queue, log: &mut Listed<Done>, alloc: 
 }
 
 impl State {
+    /// The device at its opening.
     pub fn new(alloc: Global, settings: Settings) -> State
         ensures { result ≡ opening_state settings }
     {
@@ -111,6 +112,7 @@ impl State {
         }
     }
 
+    /// Blocks the device; the answer says whether it was not blocked before.
     #[tactic(auto, unfolding(tcmu_model::specs::Events::block_answer, tcmu_model::specs::Events::after_block))]
     pub fn block(&mut self) -> bool
         ensures answer { result ≡ block_answer self.old true }
@@ -122,6 +124,7 @@ impl State {
         changed
     }
 
+    /// Lets a blocked device go on; the answer says whether it was blocked before.
     #[tactic(auto, unfolding(tcmu_model::specs::Events::block_answer, tcmu_model::specs::Events::after_block))]
     pub fn unblock(&mut self) -> bool
         ensures answer { result ≡ block_answer self.old false }
@@ -133,12 +136,14 @@ impl State {
         changed
     }
 
+    /// The completions so far, in the order in which they were logged.
     pub fn log(&self) -> &[Done]
         ensures { result.now ≡ self.entry.now.log }
     {
         self.log.as_slice()
     }
 
+    /// Lets `n` ticks pass; the answer counts the commands that it completed.
     #[tactic(auto, unfolding(tcmu_model::specs::Events::tick_answer, tcmu_model::specs::Events::after_tick))]
     pub fn tick(&mut self, n: u32) -> u64
         requires { self.old.now ≤ 2 ^ 63 }
@@ -158,6 +163,7 @@ impl State {
         (self.log.len() - before) as u64
     }
 
+    /// Moves the tail past the answered items.
     #[tactic(auto, unfolding(tcmu_model::specs::Events::publish_answer, tcmu_model::specs::Events::after_publish))]
     pub fn publish(&mut self) -> Publish
         requires { published_commands self.old.ring ≤ length self.old.placed }
@@ -175,6 +181,7 @@ impl State {
         }
     }
 
+    /// Takes published items out of the ring; the answer counts the commands that it completed.
     #[tactic(auto, unfolding(tcmu_model::specs::Events::clean_answer, tcmu_model::specs::Events::after_clean))]
     pub fn clean(&mut self) -> u64
         requires { IsSound self.old }
@@ -196,6 +203,7 @@ impl State {
         (self.log.len() - before) as u64
     }
 
+    /// Gives the daemon up and starts another; the answer counts the commands that are lost with it.
     #[tactic(auto, unfolding(tcmu_model::specs::Events::restart_answer, tcmu_model::specs::Events::after_restart))]
     pub fn restart(&mut self) -> u64
         requires { IsSound self.old }
@@ -228,6 +236,7 @@ impl State {
         }
     }
 
+    /// Answers a handled command, in the ring's order or out of it.
     #[tactic(auto, unfolding(tcmu_model::specs::Events::respond_answer, tcmu_model::specs::Events::after_respond))]
     pub fn respond(&mut self, serial: u64) -> Respond
         requires { IsSound self.old }
@@ -246,6 +255,7 @@ impl State {
         }
     }
 
+    /// Hands the next item of the ring to the daemon.
     #[tactic(auto, unfolding(tcmu_model::specs::Events::dispatch_answer, tcmu_model::specs::Events::after_dispatch))]
     pub fn dispatch(&mut self) -> Result<Dispatch, NoMemory>
         ensures answer { IfOk result (λ a. dispatch_data a ≡ dispatch_answer self.old) }
@@ -323,6 +333,7 @@ impl State {
         (self.log.len() - before) as u64
     }
 
+    /// Empties the ring of a blocked device, and completes what is open.
     #[tactic(auto, unfolding(tcmu_model::specs::Events::reset_answer, tcmu_model::specs::Events::after_reset))]
     pub fn reset(&mut self, level: u8) -> Reset
         requires { IsSound self.old }

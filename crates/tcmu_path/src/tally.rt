@@ -28,6 +28,7 @@ pub struct Tally {
 }
 
 impl Tally {
+    /// Of no commands.
     pub fn new() -> Tally
         ensures least { result.least ≡ None }
         ensures count { result.count ≡ 0 }

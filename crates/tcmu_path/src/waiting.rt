@@ -60,6 +60,7 @@ impl Model for Queue {
 }
 
 impl Queue {
+    /// A queue with no command.
     pub fn new(alloc: Global) -> Queue
         ensures { result.items ≡ [] }
     {
@@ -68,6 +69,7 @@ impl Queue {
         }
     }
 
+    /// How many commands wait.
     pub fn len(&self) -> usize
         ensures value { result ≡ length self.now.items }
         ensures few { result < 2 ^ 63 }
@@ -75,6 +77,7 @@ impl Queue {
         self.commands.len()
     }
 
+    /// Whether none waits.
     pub fn is_empty(&self) -> bool
         ensures { result ≡ (length self.now.items == 0) }
     {

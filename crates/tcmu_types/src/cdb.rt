@@ -73,6 +73,7 @@ impl Cdb {
         }
     }
 
+    /// Its bytes, the operation code first; as many as its group code says (SPC-4, 4.2.5.1).
     pub fn as_bytes(&self) -> &[u8]
         ensures value { result.now ≡ self.now }
         ensures whole { IsCdb self.now }

@@ -56,18 +56,21 @@ impl Command {
         })
     }
 
+    /// The initiator that sent it.
     pub fn init(&self) -> &Name
         ensures { result.now ≡ self.now.init }
     {
         &self.init
     }
 
+    /// Its task tag (SAM-5).
     pub fn tag(&self) -> u32
         ensures { result ≡ self.now.tag }
     {
         self.tag
     }
 
+    /// Its command descriptor block.
     pub fn cdb(&self) -> &Cdb
         ensures value { result.now ≡ self.now.cdb }
         ensures sound { IsCommand self.now }
@@ -75,6 +78,7 @@ impl Command {
         &self.cdb
     }
 
+    /// The bytes that its initiator sent with it.
     pub fn sent(&self) -> &Bytes
         ensures { result.now.items ≡ self.now.sent }
     {

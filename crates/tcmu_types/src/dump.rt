@@ -42,8 +42,10 @@ impl Model for Held {
     ghost view = { λ a. record { serial = a.serial; blocks = a.blocks.items; payload = a.payload.items } };
 }
 
+/// Ring items, in ring order.
 pub type Items = Listed<Item>;
 
+/// What commands hold, in rising serial.
 pub type HeldList = Listed<Held>;
 
 /// The mailbox's 128 bytes, the uncleared ring items in ring order, and the unfinished commands that are not Delayed, in rising

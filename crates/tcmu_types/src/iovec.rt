@@ -8,4 +8,5 @@ pub struct Iov {
     pub len: u64,
 }
 
+/// Iovecs, in the order in which they are filled.
 pub type Iovs = Listed<Iov>;

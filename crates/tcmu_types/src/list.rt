@@ -1,5 +1,6 @@
 //! Lists over vectors, which contracts see as their items and the room that is reserved for more.
-ghost use Rattle.std.specs.Prelude.{◌≡◌, ◌+◌, ◌≤◌, ◌==◌, [], ◌∷◌, ◌++◌, length, replicate, IfOk, OnOk};
+ghost use Rattle.std.specs.Prelude.{◌≡◌, ◌+◌, ◌-◌, ◌≤◌, ◌==◌, [], ◌∷◌, ◌++◌, length, replicate, IfOk, OnOk};
+ghost use Rattle.std.specs.Vec.{vec_len, vec_capacity};
 ghost use Rattle.tcmu_types.specs.Data.{texts_of};
 
 use std::alloc::{AllocError, AllocFailed, Global};
@@ -67,6 +68,7 @@ impl<T> Listed<T> {
     /// Takes a vector over, with its room.
     pub fn from_vec(items: Vec<T>) -> Self
         ensures { result.items ≡ items.items }
+        ensures room { result.spare ≡ vec_capacity items - vec_len items }
     {
         Listed { items }
     }
@@ -74,23 +76,27 @@ impl<T> Listed<T> {
     /// Gives the vector back, with its room.
     pub fn into_vec(self) -> Vec<T>
         ensures { result.items ≡ self.items }
+        ensures room { vec_capacity result - vec_len result ≡ self.spare }
     {
         let Listed { items } = self;
         items
     }
 
+    /// The items, in order.
     pub fn as_slice(&self) -> &[T]
         ensures { result.now ≡ self.now.items }
     {
         &self.items
     }
 
+    /// How many items there are.
     pub fn len(&self) -> usize
         ensures { result ≡ length self.now.items }
     {
         self.items.len()
     }
 
+    /// Whether there is no item.
     pub fn is_empty(&self) -> bool
         ensures { result ≡ (length self.now.items == 0) }
     {

@@ -110,6 +110,7 @@ impl Name {
         }
     }
 
+    /// The characters of the name, a byte each.
     pub fn as_bytes(&self) -> &[u8]
         ensures value { result.now ≡ self.now }
         ensures is_name { IsTrue (is_name self.now) }

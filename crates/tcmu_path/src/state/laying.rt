@@ -236,6 +236,7 @@ impl State {
         Ok(Submit::Delayed(serial))
     }
 
+    /// Takes a command: into the ring, or to those that wait for room.
     #[tactic(auto, unfolding(tcmu_model::specs::Events::submit_answer, tcmu_model::specs::Events::after_submit))]
     pub fn submit(&mut self, command: &Command) -> Result<Submit, NoMemory>
         requires sound { IsSound self.old }
@@ -312,6 +313,7 @@ impl State {
         Ok(())
     }
 
+    /// Lets the first of those that wait into the ring.
     #[tactic(auto, unfolding(tcmu_model::specs::Events::enter_answer, tcmu_model::specs::Events::after_enter))]
     pub fn enter(&mut self) -> Result<Enter, NoMemory>
         requires sound { IsSound self.old }
@@ -378,6 +380,7 @@ impl State {
         Ok(())
     }
 
+    /// Lays a note of task management on these commands.
     #[tactic(auto, unfolding(tcmu_model::specs::Events::tmr_answer, tcmu_model::specs::Events::after_tmr))]
     pub fn tmr(&mut self, kind: u8, serials: &Serials) -> Result<Tmr, NoMemory>
         requires sound { IsSound self.old }

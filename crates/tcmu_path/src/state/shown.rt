@@ -24,6 +24,7 @@ impl State {
         }
     }
 
+    /// What a drain finds to do.
     #[tactic(auto, unfolding(tcmu_model::specs::Drain::todo_of))]
     pub fn todo(&self) -> Todo
         requires { published_commands self.now.ring ≤ length self.now.placed }
@@ -58,6 +59,7 @@ impl State {
         &self.rows
     }
 
+    /// The numbers that a `stat` line shows.
     #[tactic(auto, unfolding(tcmu_model::specs::Events::stat_answer))]
     pub fn stat(&self) -> Stat
         requires { length self.now.unfinished ≤ 65536 }

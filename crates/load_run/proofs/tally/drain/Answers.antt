@@ -1,6 +1,6 @@
 use Rattle.std.proofs.Common.{Some, None, arith}
 use Rattle.tcmu_types.specs.Views.{event_data}
-use Rattle.load_run.proofs.Picked.{picked_by}
+use Rattle.tcmu_path.proofs.Picked.{picked_by}
 use Rattle.load_run.proofs.Tallying.{draining_first, draining_more, draining_done, falls_played}
 use Rattle.load_run.proofs.tally.drain.Goals as goal
 

@@ -2,7 +2,7 @@ use Rattle.std.proofs.Common.{Some, None, arith}
 use Rattle.tcmu_types.specs.Views.{event_data}
 use Rattle.tcmu_model.proofs.Runs.{sound_step}
 use Rattle.tcmu_top.proofs.Telling.{on_err}
-use Rattle.load_run.proofs.Picked.{picked_by}
+use Rattle.tcmu_path.proofs.Picked.{picked_by}
 use Rattle.tcmu_top.proofs.Playing.{draining_first, draining_more, draining_done, draining_stopped, falls_told}
 use Rattle.tcmu_top.proofs.lines.drain.Goals as goal
 
