@@ -67,7 +67,7 @@ impl<T> Listed<T> {
 
     /// Takes a vector over, with its room.
     pub fn from_vec(items: Vec<T>) -> Self
-        ensures { result.items ≡ items.items }
+        ensures items { result.items ≡ items.items }
         ensures room { result.spare ≡ vec_capacity items - vec_len items }
     {
         Listed { items }
@@ -75,7 +75,7 @@ impl<T> Listed<T> {
 
     /// Gives the vector back, with its room.
     pub fn into_vec(self) -> Vec<T>
-        ensures { result.items ≡ self.items }
+        ensures items { result.items ≡ self.items }
         ensures room { vec_capacity result - vec_len result ≡ self.spare }
     {
         let Listed { items } = self;
