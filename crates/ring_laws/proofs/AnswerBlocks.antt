@@ -3,7 +3,7 @@ use Rattle.std.proofs.Common.{◌≡◌, ℕ, ◌+◌, ◌-◌, ◌*◌, ◌/◌
 use Rattle.std.proofs.lemmas.Bool.{cases_Bool, eqb-true, false≢true, or_parts, or_left, or_right, and_parts}
 use Rattle.std.specs.Prelude.{IfSome, IsTrue}
 use Rattle.std.proofs.lemmas.List.{drop-take, drop-replicate, nil_from_length}
-use Rattle.tcmu_types.specs.Data.{CommandData, ReplyData, SettingsData}
+use Rattle.tcmu_types.specs.Data.{CommandData, ReplyData}
 use Rattle.tcmu_types.specs.Rules.{takes_payload, payload_length, IsCommand}
 use Rattle.tcmu_types.specs.declared.iovec.Iov.{Iov}
 use Rattle.tcmu_model.specs.declared.state.CommandState.TheVariants.{Out, Handled, Parked, Placed}
@@ -11,8 +11,7 @@ use Rattle.tcmu_model.specs.Lists.{first_of}
 use Rattle.tcmu_model.specs.Lengths.{blocks_of, block_size}
 use Rattle.tcmu_model.specs.Device.{Unfinished, DeviceState, is_at, has_state}
 use Rattle.tcmu_model.specs.Events.{turned, in_state, is_among, is_in_hand}
-use Rattle.tcmu_model.specs.RingState.{Item, Laid, Cmd}
-use Rattle.tcmu_model.specs.Sound.{IsSound, Every, Differ, Along, IsItem, IsLaid, HasLength, ReplyFits}
+use Rattle.tcmu_model.specs.Sound.{IsSound, Every, Differ, IsLaid, ReplyFits}
 use Rattle.tcmu_model.specs.BlockLists.{Taken, list_of, held_by}
 use Rattle.tcmu_model.specs.Iovecs.{iovs_along, scattered, gathered}
 use Rattle.tcmu_model.specs.Layout.{zeros, data_start}

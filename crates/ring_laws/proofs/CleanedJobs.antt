@@ -11,7 +11,6 @@ use Rattle.tcmu_model.specs.Sound.{IsSound, Every, Differ}
 use Rattle.tcmu_model.specs.BlockLists.{Taken, list_of, held_by}
 use Rattle.tcmu_model.specs.Regions.{RegionState}
 use Rattle.tcmu_model.proofs.Counts.{state_at}
-use Rattle.tcmu_model.proofs.Firsts.{without_first_missing}
 use Rattle.tcmu_model.proofs.Everies.{every-weaker, every-both, every-filter, every-passes, every-without_first, every-front, every-back, every-append}
 use Rattle.tcmu_model.proofs.Rises.{among-append, among_every, every-among}
 use Rattle.tcmu_model.proofs.SoundClean.{answered_placed, finish_taken}

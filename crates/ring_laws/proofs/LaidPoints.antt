@@ -1,6 +1,6 @@
 -- An item is laid: what is kept of the notes, of the jobs and of the user side, whatever the item is.
-use Rattle.std.proofs.Common.{◌≡◌, ℕ, ◌%◌, ◌≤◌, false, List, [], ◌∷◌, ◌++◌, length, take, drop, map, filter, refl, sym, ap, ◌∙◌, arith, true, Some, slice_get, append-nil, subst, ⊎_elim, eqb}
-use Rattle.std.proofs.lemmas.Bool.{cases_Bool, false≢true}
+use Rattle.std.proofs.Common.{◌≡◌, ℕ, ◌%◌, ◌≤◌, List, [], ◌∷◌, ◌++◌, length, take, drop, map, filter, sym, ap, ◌∙◌, arith, true, Some, slice_get, append-nil, subst}
+use Rattle.std.proofs.lemmas.Bool.{false≢true}
 use Rattle.tcmu_model.specs.RingState.{RingState, Item, Laid, lengths, pads, with_item, is_pad, commands_in, serials_in, serial_in}
 use Rattle.tcmu_model.specs.RingState as ring
 use Rattle.tcmu_model.specs.Device.{Unfinished, DeviceState}

@@ -6,10 +6,9 @@ use Rattle.std.proofs.lemmas.List.Sums.{sum_by-cons}
 use Rattle.std.proofs.lemmas.Option.{slice_get_within}
 use Rattle.tcmu_model.specs.RingState.{Item, lengths, used, commands_in, is_command}
 use Rattle.tcmu_model.specs.Device.{DeviceState}
-use Rattle.tcmu_model.specs.Sound.{IsSound, Differ, Rise}
+use Rattle.tcmu_model.specs.Sound.{IsSound}
 use Rattle.tcmu_model.proofs.Basics.{rows_rise}
 use Rattle.tcmu_model.proofs.Fronts.{commands_more}
-use Rattle.tcmu_model.proofs.Rises.{not_above}
 use Rattle.tcmu_model.specs.Picture.{place_of}
 use Rattle.tcmu_model.specs.Represents.{command_places}
 use Rattle.ring_laws.specs.Placed.{HoldsItems, CanAnswer}

@@ -1,8 +1,7 @@
 -- Worked examples of the two sides' own steps: what waits, what expires, what a clean leaves in the region, and what an answer leaves of
 -- the user side.
-use Rattle.std.specs.Prelude.{◌≡◌, ℕ, List, [], ◌∷◌, length, map, Ok, Err, Result}
+use Rattle.std.specs.Prelude.{◌≡◌, List, [], ◌∷◌, length, map, Ok, Err, Result}
 use Rattle.tcmu_types.specs.declared.answer.Submit.TheVariants as submit
-use Rattle.tcmu_types.specs.declared.answer.Publish.{Publish}
 use Rattle.tcmu_types.specs.declared.answer.Publish.TheVariants.{Moved}
 use Rattle.tcmu_model.specs.declared.mailbox.MailboxFault.{MailboxFault}
 use Rattle.tcmu_model.specs.Regions.{RegionState, opening_region}
