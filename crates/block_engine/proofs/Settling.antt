@@ -5,7 +5,7 @@ use Rattle.std.specs.Bool.{MatchBool}
 use Rattle.std.specs.List.{list_all}
 use Rattle.std.proofs.lemmas.List.{length-take}
 use Rattle.std.specs.Cmp.Lexicographic.{pointwise}
-use Rattle.std.proofs.lemmas.Bool.{cases_lt}
+use Rattle.std.proofs.lemmas.Bool.{cases_lt, and_parts}
 use Rattle.std.proofs.lemmas.Option.{slice_get_past}
 use Rattle.tcmu_types.specs.Data.{SenseData, ReplyData}
 use Rattle.tcmu_types.specs.Rules.{IsReply}
@@ -119,17 +119,9 @@ either_settles P n m false E F e f = record { some = f.some; one = f.one; same =
 abbrev has_keys : List Check → Bool
 has_keys checks = list_all (λ c. nat_lt c.sense.key 16) checks
 
-first_part : (a b : Bool) → (a && b) ≡ true → a ≡ true
-first_part true b h = refl
-first_part false b h = true_false (sym h)
-
-second_part : (a b : Bool) → (a && b) ≡ true → b ≡ true
-second_part true b h = h
-second_part false b h = true_false (sym h)
-
 failed_key : (checks : List Check) → has_keys checks ≡ true → IfSome (first_failed checks) (λ s. s.key < 16)
 failed_key [] h = tt
-failed_key (c ∷ rest) h = by c.fails (first_part _ _ h) (failed_key rest (second_part _ _ h))
+failed_key (c ∷ rest) h = by c.fails (and_parts _ _ h).0 (failed_key rest (and_parts _ _ h).1)
   where
     by : (b : Bool) → nat_lt c.sense.key 16 ≡ true → IfSome (first_failed rest) (λ s. s.key < 16) → IfSome (if b then Some c.sense else first_failed rest) (λ s. s.key < 16)
     by true k more = grind (arith, k)

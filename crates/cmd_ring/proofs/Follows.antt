@@ -5,7 +5,8 @@ use Rattle.tcmu_model.specs.RingState as ring
 use Rattle.cmd_ring.specs.Places.{RingPlaces, IsRingSize, opened, places_of}
 use Rattle.cmd_ring.specs.Calls.{RingCall, Lay, Clear, Reset, ring_after, places_after, IsAllowed, AllAllowed, IsMet, Follows}
 use Rattle.cmd_ring.proofs.Rest.{size-words, rest-words}
-use Rattle.cmd_ring.proofs.Laid.{lengths-append, laying, clearing, lengths-cleared}
+use Rattle.cmd_ring.proofs.Laid.{laying, clearing, lengths-cleared}
+use Rattle.tcmu_model.proofs.Laying.{lengths-append}
 
 -- each item is made of words of 8 bytes
 abbrev EachWords : List Item → Type 0

@@ -8,10 +8,7 @@ use Rattle.tcmu_model.specs.RingState.{RingState, Item, lengths, pads, with_item
 use Rattle.tcmu_model.specs.RingState as ring
 use Rattle.cmd_ring.specs.Places.{RingPlaces, placed, advanced, places_of}
 use Rattle.cmd_ring.specs.Calls.{oldest}
-use Rattle.tcmu_model.proofs.Laying.{lengths-pads}
-
-pub lengths-append : (xs ys : List Item) → lengths (xs ++ ys) ≡ lengths xs + lengths ys
-lengths-append xs ys = sum_by-append (λ i. i.len) xs ys
+use Rattle.tcmu_model.proofs.Laying.{lengths-pads, lengths-append}
 
 -- what is laid with an item
 pub lengths-laid : (xs : List Item) (n : ℕ) (i : Item) → lengths (xs ++ pads n ++ i ∷ []) ≡ lengths xs + (n + i.len)

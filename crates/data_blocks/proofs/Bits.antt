@@ -6,7 +6,7 @@ use Rattle.std.specs.List.{list_all}
 use Rattle.std.proofs.lemmas.Nat.{and_le_l, and_le_r}
 use Rattle.std.proofs.lemmas.Nat.Bits.{shr_and_one, bit_at_set_same, bit_at_set_other, bit_at_clear_same, bit_at_clear_other, bit_at_ones, bit_at-trailing_ones, bit_at-zero}
 use Rattle.std.proofs.lemmas.List.{get_or-set_same, get_or-set_other, get_or-take, get_or-drop, length-take}
-use Rattle.std.proofs.lemmas.Bool.{cases_eq, cases_lt, eqb-true}
+use Rattle.std.proofs.lemmas.Bool.{cases_eq, cases_lt, eqb-true, and_parts}
 use Rattle.data_blocks.specs.Bitmap.{is_set}
 
 -- the test that the code makes
@@ -82,14 +82,6 @@ clear-tells words m old was h n =
     ∙ sym (ap (λ b. is_set words n && not b) (eqb-other m n d) ∙ and-true (is_set words n)))
     (cases_eq n m)
 
-and-left : (a b : Bool) → (a && b) ≡ true → a ≡ true
-and-left true b h = refl
-and-left false b h = h
-
-and-right : (a b : Bool) → (a && b) ≡ true → b ≡ true
-and-right true b h = h
-and-right false b h = cc
-
 -- ==== words that are all ones
 
 both-true : (b c : Bool) → b ≡ true → c ≡ true → (b && c) ≡ true
@@ -139,8 +131,8 @@ front_within (suc n) (x ∷ xs) h (suc k) = front_within n xs (λ j. h (suc j)) 
 -- where all pass, each does
 pub all_at : (p : ℕ → Bool) (xs : List ℕ) → list_all p xs ≡ true → (k : ℕ) → k < length xs → p (slice_index xs k) ≡ true
 all_at p [] h k l = absurd (omega arith)
-all_at p (x ∷ xs) h zero l = and-left (p x) (list_all p xs) h
-all_at p (x ∷ xs) h (suc k) l = all_at p xs (and-right (p x) (list_all p xs) h) k (omega arith)
+all_at p (x ∷ xs) h zero l = (and_parts (p x) (list_all p xs) h).0
+all_at p (x ∷ xs) h (suc k) l = all_at p xs ((and_parts (p x) (list_all p xs) h).1) k (omega arith)
 
 back : (at k : ℕ) → at ≤ k → at + (k - at) ≡ k
 back at k h = omega arith

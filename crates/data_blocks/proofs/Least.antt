@@ -6,6 +6,8 @@ use Rattle.tcmu_model.specs.Events.{is_among}
 use Rattle.tcmu_model.specs.BlockLists.{least_free}
 use Rattle.data_blocks.specs.Bitmap.{chosen}
 use Rattle.data_blocks.proofs.Chosen.{false-true, among-here, among-there, chosen-below, chosen-among, chosen-rising, free-chosen}
+use Rattle.tcmu_model.proofs.Readings.{not_true}
+use Rattle.tcmu_model.proofs.Rises.{rising_rest}
 
 -- a number that is not held
 abbrev pub is_free : List ℕ → ℕ → Bool
@@ -43,10 +45,6 @@ above b (x ∷ xs) m h a =
     (λ (d : x ≢ m). let l = h.0 in let i = above x xs m h.1 (sym (among-there x xs m d) ∙ a) in omega arith)
     (cases_eq x m)
 
-tail : (x : ℕ) (xs : List ℕ) → IsRising (x ∷ xs) → IsRising xs
-tail x [] h = tt
-tail x (y ∷ ys) h = h.1
-
 -- what stands before a number of the front is in the front
 before : (n : ℕ) (xs : List ℕ) (m k : ℕ) → IsRising xs → is_among (take n xs) m ≡ true → k < m → is_among xs k ≡ true → is_among (take n xs) k ≡ true
 before zero xs m k r h l a = absurd (false-true h)
@@ -58,7 +56,7 @@ before (suc n) (x ∷ xs) m k r h l a =
     let b : is_among xs k ≡ true = sym (among-there x xs k d) ∙ a in
     let u = above x xs k r b in
     let c : x ≢ m = λ (e : x ≡ m). absurd (omega arith) in
-    among-there x (take n xs) k d ∙ before n xs m k (tail x xs r) (sym (among-there x (take n xs) m c) ∙ h) l b)
+    among-there x (take n xs) k d ∙ before n xs m k (rising_rest x xs r) (sym (among-there x (take n xs) m c) ∙ h) l b)
     (cases_eq x k)
 
 -- ==== the law
@@ -66,15 +64,11 @@ before (suc n) (x ∷ xs) m k r h l a =
 pub least-rising : (limit : ℕ) (held : List ℕ) (n : ℕ) → IsRising (least_free limit held n)
 least-rising limit held n = subst IsRising (sym (least-chosen limit held n)) (rising-take n (chosen (is_free held) 0 limit) (chosen-rising (is_free held) 0 limit))
 
-was-not : (b : Bool) → not b ≡ true → b ≡ false
-was-not true h = absurd (false-true h)
-was-not false h = refl
-
 pub least-is-free : (limit : ℕ) (held : List ℕ) (n m : ℕ) → is_among (least_free limit held n) m ≡ true → (m < limit) × (is_among held m ≡ false)
 least-is-free limit held n m h =
     let a = among-take n (chosen (is_free held) 0 limit) m (sym (ap (λ xs. is_among xs m) (least-chosen limit held n)) ∙ h) in
     let b = chosen-below (is_free held) 0 limit m a in
-    (omega arith, was-not (is_among held m) (sym (chosen-among (is_free held) 0 limit m (omega arith) (omega arith)) ∙ a))
+    (omega arith, not_true (is_among held m) (sym (chosen-among (is_free held) 0 limit m (omega arith) (omega arith)) ∙ a))
 
 pub least-first : (limit : ℕ) (held : List ℕ) (n m k : ℕ) → is_among (least_free limit held n) m ≡ true → k < m → is_among held k ≡ false → is_among (least_free limit held n) k ≡ true
 least-first limit held n m k h l f =

@@ -1,6 +1,6 @@
 -- What taking and giving one number does to the fields and to what contracts see of them.
 use Rattle.std.proofs.Common.{◌≡◌, ◌≢◌, ℕ, ◌+◌, ◌-◌, ◌*◌, ◌≤◌, ◌<◌, ⊎_elim, Bool, true, false, not, ◌||◌, ◌&&◌, ◌==◌, max, List, [], ◌∷◌, length, replicate, Some, None, refl, sym, ap, ◌∙◌, arith, suc, zero}
-use Rattle.std.proofs.lemmas.Bool.{cases_eq, cases_lt, cases_Bool}
+use Rattle.std.proofs.lemmas.Bool.{cases_eq, cases_lt, cases_Bool, and_parts}
 use Rattle.std.proofs.lemmas.List.{length-replicate}
 use Rattle.tcmu_model.specs.Lists.{above_all}
 use Rattle.tcmu_model.specs.Events.{is_among}
@@ -75,10 +75,6 @@ off a b e = rw e (elim a as (λ v. (v && false) ≡ false) [ true ↦ refl | fal
 
 and-on : (a : Bool) → (a && true) ≡ a
 and-on a = elim a as (λ v. (v && true) ≡ v) [ true ↦ refl | false ↦ refl ]
-
-and-first : (a b : Bool) → (a && b) ≡ true → a ≡ true
-and-first true b h = refl
-and-first false b h = h
 
 -- ==== one block is taken
 
@@ -202,7 +198,7 @@ given-kept words words' limit held spare grown m g =
     let e = g.as_long in
     kept words' limit (held - 1) spare grown (omega arith) (omega arith) k.sound.limit_low k.sound.limit_high (omega arith)
     (λ j b.
-    let u = among-below (set_below words limit) j (and-first (is_among (set_below words limit) j) (not (is_among (m ∷ []) j)) (sym (among-removed words words' limit m l g.bits j) ∙ b)) in
+    let u = among-below (set_below words limit) j ((and_parts (is_among (set_below words limit) j) (not (is_among (m ∷ []) j)) (sym (among-removed words words' limit m l g.bits j) ∙ b)).0) in
     omega arith)
     k.sound.within
 

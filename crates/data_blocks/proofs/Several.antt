@@ -6,9 +6,7 @@ use Rattle.tcmu_model.specs.Events.{is_among}
 use Rattle.tcmu_model.specs.BlockLists.{free_from}
 use Rattle.data_blocks.specs.Held.{HeldBlocks, AreHeld, Took, Gave}
 use Rattle.data_blocks.proofs.Chosen.{among-here, among-there, false-true}
-
-among-append : (xs ys : List ℕ) (m : ℕ) → is_among (xs ++ ys) m ≡ (is_among xs m || is_among ys m)
-among-append xs ys m = list_any-append (λ k. k == m) xs ys
+use Rattle.tcmu_model.proofs.Rises.{among-append}
 
 above_all-append : (xs ys : List ℕ) → above_all (xs ++ ys) ≡ max (above_all xs) (above_all ys)
 above_all-append [] ys = omega arith

@@ -6,18 +6,7 @@ use Rattle.tcmu_types.specs.declared.iovec.Iov.{Iov}
 use Rattle.tcmu_model.specs.Layout.{le, put}
 use Rattle.tcmu_model.proofs.Written.{lengths, then_put, put-put, put-nothing}
 use Rattle.tcmu_model.specs.Layout.{iovs_bytes, ids_bytes}
-
-pub length-iovs_bytes : (iovs : List Iov) → length (iovs_bytes iovs) ≡ 16 * length iovs
-length-iovs_bytes [] = refl
-length-iovs_bytes (iov ∷ iovs) =
-    let rest = length-iovs_bytes iovs in
-    length-append (le 8 iov.base ++ le 8 iov.len) (iovs_bytes iovs) ∙ omega lengths
-
-pub length-ids_bytes : (ids : List ℕ) → length (ids_bytes ids) ≡ 2 * length ids
-length-ids_bytes [] = refl
-length-ids_bytes (id ∷ ids) =
-    let rest = length-ids_bytes ids in
-    length-append (le 2 id) (ids_bytes ids) ∙ omega lengths
+use Rattle.tcmu_model.proofs.PartLengths.{length-iovs_bytes, length-ids_bytes}
 
 -- one iovec more
 pub iovs_step : (items : List Iov) (i : ℕ) (d : Iov) (f f1 f2 : List ℕ) (at at8 at16 : ℕ) → i < length items

@@ -3,8 +3,8 @@ use Rattle.std.proofs.Common.{◌≡◌, ℕ, ◌+◌, ◌-◌, ◌*◌, ◌≤�
 use Rattle.tcmu_types.specs.declared.iovec.Iov.{Iov}
 use Rattle.tcmu_model.specs.Lengths.{round_up, tmr_length}
 use Rattle.tcmu_model.specs.Layout.{le, put, zeros, padded, entry_header, command_head, command_bytes, command_length, cdb_place, tmr_bytes, iovs_bytes, ids_bytes}
-use Rattle.entry_codec.proofs.Lists.{length-iovs_bytes, length-ids_bytes}
 use Rattle.tcmu_model.proofs.Written.{lengths, then_put, length-entry_header, length-command_head, padded-is, length-padded}
+use Rattle.tcmu_model.proofs.PartLengths.{length-iovs_bytes, length-ids_bytes}
 
 ruleset sizes = (lengths, length-entry_header, length-command_head)
 

@@ -1,18 +1,13 @@
 -- What was written is read again.
 use Rattle.std.specs.Prelude.{◌≡◌, ℕ, ◌+◌, ◌^◌, ◌%◌, ◌≤◌, ◌<◌, [], ◌∷◌, true, List, length, Option, Ok, unwrap_or}
-use Rattle.tcmu_types.specs.Rules.{IsCdb}
 use Rattle.tcmu_types.specs.Data.{ReplyData}
 use Rattle.tcmu_types.specs.declared.iovec.Iov.{Iov}
 use Rattle.tcmu_model.specs.Lengths.{tmr_length}
-use Rattle.tcmu_model.specs.Layout.{put, padded, ring_start, data_start, pad_bytes, command_length, command_bytes, tmr_bytes, length_flag, sense_buffer, with_response}
-use Rattle.tcmu_model.specs.EntryReading.{entry_read, limit_of, lies_inside, iov_at, tmr_id_at, response_at}
+use Rattle.tcmu_model.specs.Layout.{put, padded, ring_start, pad_bytes, command_length, command_bytes, tmr_bytes, length_flag, sense_buffer, with_response}
+use Rattle.tcmu_model.specs.EntryReading.{entry_read, limit_of, iov_at, tmr_id_at, response_at}
 use Rattle.tcmu_model.specs.declared.mailbox.Mailbox.{Mailbox}
 use Rattle.tcmu_model.specs.declared.entry.EntryRef.TheVariants.{Pad, Cmd, Tmr}
-
--- iovecs whose numbers have their places, each inside the bytes from low up to high
-abbrev pub AreInside : ℕ → ℕ → List Iov → Type 0
-AreInside low high [] = Unit {0}
-AreInside low high (iov ∷ iovs) = (iov.base < 2 ^ 64) × (iov.len < 2 ^ 64) × (lies_inside low high iov ≡ true) × AreInside low high iovs
+use Rattle.tcmu_model.specs.EntryWriting.{IsRequest}
 
 -- the slots from an index on hold these iovecs
 abbrev pub HoldsIovs : List ℕ → ℕ → ℕ → List Iov → Type 0
@@ -28,15 +23,6 @@ AreIds (id ∷ ids) = (id < 2 ^ 16) × AreIds ids
 abbrev pub HoldsIds : List ℕ → ℕ → ℕ → List ℕ → Type 0
 HoldsIds front b index [] = Unit {0}
 HoldsIds front b index (id ∷ ids) = (tmr_id_at front b index ≡ id) × HoldsIds front b (index + 1) ids
-
--- a request of which no fault holds
-pub record IsRequest (m : Mailbox) (area at id slots : ℕ) (iovs : List Iov) (cdb : List ℕ) : Type 0 where
-  pub id_fits : id < 2 ^ 16
-  pub few : length iovs ≤ slots
-  pub cdb_is : IsCdb cdb
-  pub inside : AreInside (data_start m.cmdr_size) (data_start m.cmdr_size + area) iovs
-  pub limit : command_length slots (length cdb) ≤ limit_of m at
-  pub fits : ring_start + at + command_length slots (length cdb) + 8 < 2 ^ 32
 
 abbrev pub RequestsAgain : Type 0
 RequestsAgain = (m : Mailbox) (area at id slots : ℕ) (iovs : List Iov) (cdb front : List ℕ) → IsRequest m area at id slots iovs cdb

@@ -15,6 +15,7 @@ use Rattle.load_run.specs.Tallies.{sizes_of, Played, numbers_in}
 use Rattle.load_run.specs.Loading.{opened_over, opened_load, IsLoadText}
 use Rattle.load_run.proofs.Tallying.{run_of}
 use Rattle.load_run.proofs.Summing.{numbers_are}
+use Rattle.tcmu_model.proofs.Everies.{every-append}
 
 -- ==== the device
 
@@ -28,10 +29,6 @@ opened_none = refl
 
 -- ==== the lines
 
-every_append : {X : Type 0} (P : X → Type 0) (xs ys : List X) → Every P xs → Every P ys → Every P (xs ++ ys)
-every_append P [] ys h k = k
-every_append P (x ∷ xs) ys h k = (h.0, every_append P xs ys h.1 k)
-
 drain_fit : (b : Bool) → Every (IsFitFor 1) (drain_if b)
 drain_fit true = (record { device = omega arith; what = tt }, tt)
 drain_fit false = tt
@@ -43,7 +40,7 @@ lines_fit seed (suc i) =
     let b = nat_eq (suc i % 16) 0 in
     let line : IsFitFor 1 (submit_line (suc i) x) = record { device = omega arith; what = (command_is (suc i) x).command } in
     subst (λ (ls : List LineData). Every (IsFitFor 1) ls) (sym (lines_more seed i))
-    (every_append (IsFitFor 1) (load_lines seed i) (submit_line (suc i) x ∷ drain_if b) (lines_fit seed i) (line, drain_fit b))
+    (every-append (IsFitFor 1) (load_lines seed i) (submit_line (suc i) x ∷ drain_if b) (lines_fit seed i) (line, drain_fit b))
 
 -- ==== its text
 

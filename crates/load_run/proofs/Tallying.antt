@@ -12,7 +12,7 @@ use Rattle.tcmu_types.specs.declared.answer.Submit.TheVariants as submit
 use Rattle.tcmu_model.specs.Device.{Device, DeviceState}
 use Rattle.tcmu_model.specs.Events.{submit_answer, after_submit, queued_or_full, queued_or_delayed, with_command, with_delayed, entry_length_in, blocks_in, fits_ring, fits_blocks, free_blocks}
 use Rattle.tcmu_model.specs.RingState.{need, free}
-use Rattle.tcmu_model.specs.Steps.{HandlerRelation, Step, Run, Makes}
+use Rattle.tcmu_model.specs.Steps.{HandlerRelation, Step, Run, Makes, accepted_by}
 use Rattle.tcmu_model.specs.Drain.{Drains, drain_event}
 use Rattle.tcmu_model.specs.Sound.{IsSound}
 use Rattle.tcmu_model.specs.Work.{GoesOn, work}
@@ -26,7 +26,7 @@ use Rattle.tcmu_model.proofs.GoesOn.{goes_on_first, goes_on_more}
 use Rattle.tcmu_model.proofs.Logs.{makes_grows}
 use Rattle.tcmu_model.proofs.Runs.{sound_step, sound_run}
 use Rattle.tcmu_path.specs.Calls.{Accepts}
-use Rattle.tcmu_path.specs.Tasks.{accepted_by, IsFit, CanBeMade}
+use Rattle.tcmu_path.specs.Tasks.{IsFit, CanBeMade}
 use Rattle.std.proofs.Common.{◌&&◌, not, nat_lt, ◌*◌, ◌/◌}
 use Rattle.std.specs.Option.{option_map}
 use Rattle.std.proofs.lemmas.Bool.{ltb-true}

@@ -6,7 +6,8 @@ ghost use Rattle.tcmu_model.specs.Sound.{IsSound, Every};
 ghost use Rattle.tcmu_model.specs.Replay.{Plays};
 ghost use Rattle.tcmu_model.specs.Several.{ReplaysEach};
 ghost use Rattle.tcmu_path.specs.Calls.{Accepts};
-ghost use Rattle.tcmu_path.specs.Tasks.{CanBeMade, accepted_by, IsFit, IsFitFor};
+ghost use Rattle.tcmu_model.specs.Steps.{accepted_by};
+ghost use Rattle.tcmu_path.specs.Tasks.{CanBeMade, IsFit, IsFitFor};
 ghost use Rattle.load_run.specs.Tallies.{IsOf, Played, size_of, size_in};
 
 use scenario_text::{Line, LineKind};

@@ -3,7 +3,7 @@ use Rattle.std.proofs.Common.{◌≡◌, inl, inr, ⊎_elim, ℕ, ◌%◌, ◌�
 use Rattle.std.specs.Prelude.{IfOk}
 use Rattle.std.proofs.lemmas.Bool.{cases_lt}
 use Rattle.std.proofs.lemmas.Bool.Decides.{nat_tests}
-use Rattle.tcmu_model.proofs.Guards.{guard_ok, differs, is_same, is_below, not_below, is_most, not_most}
+use Rattle.tcmu_model.proofs.Guards.{guard_ok, differs, is_same, is_below, not_below, is_most, not_most, is_ring_sized}
 use Rattle.tcmu_model.specs.declared.mailbox.Mailbox.{Mailbox}
 use Rattle.tcmu_model.specs.declared.mailbox.MailboxFault.{MailboxFault}
 use Rattle.tcmu_model.specs.declared.mailbox.MailboxFault.TheVariants.{Short, Version, Offset, Size, Unaligned, OutOfRing}
@@ -110,9 +110,6 @@ kept_6 xs long version offset size aligned inside = record {
   inside = λ _. inside;
 }
 
-ring_size : (n : ℕ) → not (is_ring_size n) ≡ false → IsRingSize n
-ring_size n test = record { least = grind (arith, nat_tests); most = grind (arith, nat_tests); pages = grind (arith, nat_tests) }
-
 no_ring_size : (n : ℕ) → not (is_ring_size n) ≡ true → ¬ IsRingSize n
 no_ring_size n test = λ (ring : IsRingSize n). contrary (tests n ring.least ring.most ring.pages) test
   where
@@ -159,7 +156,7 @@ reads_exactly xs r h =
     step xs _ _ _ r h1 (λ t. found xs (Offset m.cmdr_off) 2 refl (refl, differs _ _ t) (kept_2 xs long version)) (λ t2 h2.
     let offset = is_same _ _ t2 in
     step xs _ _ _ r h2 (λ t. found xs (Size m.cmdr_size) 3 refl (refl, no_ring_size _ t) (kept_3 xs long version offset)) (λ t3 h3.
-    let size = ring_size _ t3 in
+    let size = is_ring_sized _ t3 in
     step xs _ _ _ r h3 (λ t. found xs (Unaligned m.head) 4 refl (inl (refl, differs _ _ t)) (kept_4 xs long version offset size)) (λ t4 h4.
     let head = is_same _ _ t4 in
     step xs _ _ _ r h4 (λ t. found xs (Unaligned m.tail) 4 refl (inr (head, refl, differs _ _ t)) (kept_4 xs long version offset size)) (λ t5 h5.
@@ -186,7 +183,7 @@ sound xs m h =
     let whole : IsMailbox (mailbox_in xs) = record {
       version = is_same _ _ g1.0;
       cmdr_off = is_same _ _ g2.0;
-      ring = ring_size _ g3.0;
+      ring = is_ring_sized _ g3.0;
       head_aligned = is_same _ _ g4.0;
       tail_aligned = is_same _ _ g5.0;
       head_inside = not_most _ _ g6.0;

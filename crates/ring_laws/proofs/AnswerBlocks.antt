@@ -1,6 +1,6 @@
 -- An answer is placed: the blocks and their data.
 use Rattle.std.proofs.Common.{◌≡◌, ℕ, ◌+◌, ◌-◌, ◌*◌, ◌/◌, ◌≤◌, ◌||◌, Bool, true, false, cond, List, [], ◌∷◌, ◌++◌, length, take, drop, filter, refl, sym, ap, ◌∙◌, arith, Option, Some, None, slice_get, length-append, subst, ⊎_elim, eqb}
-use Rattle.std.proofs.lemmas.Bool.{cases_Bool, eqb-true, false≢true, or_parts, or_left, or_right, and_parts}
+use Rattle.std.proofs.lemmas.Bool.{cases_Bool, eqb-true, false≢true, or_left, or_right, and_parts}
 use Rattle.std.specs.Prelude.{IfSome, IsTrue}
 use Rattle.std.proofs.lemmas.List.{drop-take, drop-replicate, nil_from_length}
 use Rattle.tcmu_types.specs.Data.{CommandData, ReplyData}
@@ -32,7 +32,7 @@ use Rattle.ring_laws.proofs.LaidBlocks.{stand-other}
 use Rattle.ring_laws.proofs.Found.{first-passes}
 use Rattle.ring_laws.proofs.AnswerData.{returned-other, returned-data, scattered-payload, length-scattered, sizes-scattered, length-gathered, iovs-numbers}
 use Rattle.ring_laws.proofs.PlacedAnswers.{Into, goes_into}
-use Rattle.tcmu_model.proofs.Rises.{among-append, among_every, every-among}
+use Rattle.tcmu_model.proofs.Rises.{among-append, among_every, every-among, differ_front}
 use Rattle.tcmu_model.proofs.DrainEnds.{laid_command}
 
 -- ==== what is apart
@@ -52,10 +52,6 @@ differ-split (x ∷ xs) ys b d h =
 pub differ-right : (xs ys : List ℕ) → Differ (xs ++ ys) → Differ ys
 differ-right [] ys d = d
 differ-right (x ∷ xs) ys d = differ-right xs ys d.1
-
-pub differ-left : (xs ys : List ℕ) → Differ (xs ++ ys) → Differ xs
-differ-left [] ys d = tt
-differ-left (x ∷ xs) ys d = ((or_parts (is_among xs x) (is_among ys x) (sym (among-append xs ys x) ∙ d.0)).0, differ-left xs ys d.1)
 
 -- a command's blocks are held
 pub found-held : (lists : List Taken) (p : Unfinished → Bool) (us : List Unfinished) (u : Unfinished) (b : ℕ) → first_of p us ≡ Some u → is_among (list_of lists u.serial) b ≡ true → is_among (held_by lists us) b ≡ true
@@ -182,7 +178,7 @@ pub found-differ : (lists : List Taken) (p : Unfinished → Bool) (us : List Unf
 found-differ lists p [] u d f = absurd (cc)
 found-differ lists p (v ∷ us) u d f =
     ⊎_elim
-    (λ (k : p v ≡ true). let g : Some v ≡ Some u = rw k at f in let q : v ≡ u = cc in subst (λ (z : Unfinished). Differ (list_of lists z.serial)) q (differ-left (list_of lists v.serial) (held_by lists us) d))
+    (λ (k : p v ≡ true). let g : Some v ≡ Some u = rw k at f in let q : v ≡ u = cc in subst (λ (z : Unfinished). Differ (list_of lists z.serial)) q (differ_front (list_of lists v.serial) (held_by lists us) d))
     (λ (k : p v ≡ false). let g : first_of p us ≡ Some u = rw k at f in found-differ lists p us u (differ-right (list_of lists v.serial) (held_by lists us) d) g)
     (cases_Bool (p v))
 

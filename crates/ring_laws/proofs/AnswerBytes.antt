@@ -21,11 +21,12 @@ use Rattle.tcmu_model.specs.Sides.{Recorded, PendingRow}
 use Rattle.tcmu_model.specs.Represents.{RingStands, StandsAt, IdsStand, entry_at, id_in, ids_in, id_at, id_of}
 use Rattle.ring_laws.proofs.Bytes.{take-written}
 use Rattle.ring_laws.proofs.Places.{slice_get-right}
-use Rattle.ring_laws.proofs.Answered.{response_apart, response_here, id_of_answered, answered_over, length-response}
+use Rattle.ring_laws.proofs.Answered.{response_apart, response_here, id_of_answered, answered_over}
 use Rattle.ring_laws.specs.Placed.{CanAnswer, placed_in}
 use Rattle.ring_laws.proofs.Numbered.{NextEntry, items_apart, counted-before}
 use Rattle.ring_laws.proofs.LaidIds.{id-same}
 use Rattle.tcmu_types.proofs.Places.{get_append_left}
+use Rattle.tcmu_model.proofs.PartLengths.{length-response}
 
 pub command-of : (n : ℕ) (l : Laid) → is_command (record { len = n; laid = l }) ≡ true → (q : ℕ) × (c : CommandData) × (l ≡ ring.Cmd q c)
 command-of n ring.Pad h = absurd (false≢true h)

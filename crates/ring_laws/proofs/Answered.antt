@@ -1,24 +1,14 @@
 -- A response in an entry: what it changes, and the id that is read of it.
-use Rattle.std.proofs.Common.{◌≡◌, ℕ, ◌+◌, ◌-◌, ◌^◌, ◌≤◌, ◌<◌, ◌⊎◌, List, [], ◌++◌, length, take, drop, refl, sym, ap, ◌∙◌, arith, Option, Some, None, length-append, length-drop, ⊎_elim}
+use Rattle.std.proofs.Common.{◌≡◌, ℕ, ◌+◌, ◌-◌, ◌^◌, ◌≤◌, ◌<◌, ◌⊎◌, List, [], ◌++◌, length, take, drop, refl, sym, ap, ◌∙◌, arith, Option, length-append, length-drop, ⊎_elim}
 use Rattle.std.proofs.lemmas.List.{drop-append-le, length-take-le, drop-take, drop-drop}
-use Rattle.tcmu_types.specs.Data.{CommandData, SenseData, ReplyData, SettingsData}
-use Rattle.tcmu_types.specs.SenseBytes.{fixed_sense}
-use Rattle.tcmu_model.specs.Layout.{le, put, zeros, padded, ring_start, entry_header, command_head, command_bytes, sense_buffer, answer_bytes, response_bytes, with_response}
-use Rattle.tcmu_model.proofs.Written.{lengths as writes, length-le, length-padded, field-put, field-before, field-le, length-put}
+use Rattle.tcmu_types.specs.Data.{CommandData, ReplyData, SettingsData}
+use Rattle.tcmu_model.specs.Layout.{le, put, zeros, padded, ring_start, entry_header, command_head, command_bytes, response_bytes, with_response}
+use Rattle.tcmu_model.proofs.Written.{length-le, field-put, field-before, field-le, length-put}
 use Rattle.tcmu_model.specs.Picture.{request_of, answered_entry}
 use Rattle.tcmu_model.specs.Represents.{entry_at, id_in}
 use Rattle.ring_laws.proofs.Bytes.{part, part-written_before, part-written_behind}
 use Rattle.ring_laws.proofs.Layouts.{take-written_inside}
-
-pub sense_short : (s : Option SenseData) → length (sense_buffer s) ≤ 96
-sense_short None = omega arith
-sense_short (Some s) = let k : ◌≡◌ {A = ℕ} (length (fixed_sense s)) 18 = refl in omega (arith, k)
-
-pub length-response : (reply : ReplyData) (n : Option ℕ) → length (response_bytes reply n) ≡ 105
-unfolding answer_bytes
-length-response reply n =
-    let s : length (padded 96 (sense_buffer reply.sense)) ≡ 96 = length-padded 96 (sense_buffer reply.sense) (sense_short reply.sense) in
-    omega (writes, s)
+use Rattle.tcmu_model.proofs.PartLengths.{length-response}
 
 -- ==== a response written into a ring
 

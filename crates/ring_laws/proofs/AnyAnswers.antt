@@ -3,7 +3,6 @@ use Rattle.std.proofs.Common.{◌≡◌, ◌⊎◌, inl, inr, ℕ, ◌+◌, ◌-
 use Rattle.std.specs.List.{sum_by, list_all}
 use Rattle.std.proofs.lemmas.Bool.{cases_Bool, cases_lt, eqb-true, eqb-false, and_parts, leb-true}
 use Rattle.std.proofs.lemmas.List.{length-set}
-use Rattle.std.proofs.lemmas.List.Sums.{sum_by-cons}
 use Rattle.tcmu_types.specs.Data.{ReplyData}
 use Rattle.tcmu_types.specs.declared.iovec.Iov.{Iov}
 use Rattle.tcmu_model.specs.declared.mailbox.MailboxFault.{MailboxFault}
@@ -21,8 +20,9 @@ use Rattle.tcmu_model.proofs.Written.{length-le, put-nothing}
 use Rattle.ring_laws.specs.CalledOn.{SameSizes}
 use Rattle.ring_laws.specs.UserKept.{UserSound, HasRing, IsAnswered, OnlyAnswers, OnlyTail}
 use Rattle.tcmu_model.proofs.Written.{length-put}
-use Rattle.ring_laws.proofs.Answered.{length-response}
 use Rattle.ring_laws.proofs.AnyNext.{get-other, next_place}
+use Rattle.tcmu_model.proofs.PartLengths.{length-response}
+use Rattle.ring_laws.proofs.AnyRing.{sum_even}
 
 -- ==== the data of an answer
 
@@ -199,10 +199,6 @@ pub respond_ring : (r : RegionState) (u : UserState) (p : Parked) → UserSound 
 respond_ring r u p h er = let k = respond_keeps r u p h er in omega (arith, k.front, k.ring_same, er)
 
 -- ==== a publish
-
-sum_even : (xs : List Recorded) → Every (λ (x : Recorded). x.len % 8 ≡ 0) xs → sum_by (λ (x : Recorded). x.len) xs % 8 ≡ 0
-sum_even [] h = refl
-sum_even (x ∷ xs) h = let a : x.len % 8 ≡ 0 = h.0 in omega (arith, sum_by-cons (λ (y : Recorded). y.len) x xs, a, sum_even xs h.1)
 
 pub publish_sound : (u : UserState) → UserSound u → UserSound (user_published u)
 unfolding user_published

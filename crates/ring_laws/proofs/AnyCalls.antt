@@ -1,5 +1,5 @@
 -- Each call of the target keeps it sound, over any bytes.
-use Rattle.std.proofs.Common.{◌≡◌, ◌≢◌, ℕ, ◌+◌, ◌*◌, ◌≤◌, Bool, true, false, not, cond, ◌&&◌, eqb, ltb, leb, ◌==◌, List, [], ◌∷◌, ◌++◌, length, suc, Option, Some, None, refl, sym, ap, ◌∙◌, arith, subst, ⊎_elim}
+use Rattle.std.proofs.Common.{◌≡◌, ◌≢◌, ℕ, ◌+◌, ◌*◌, ◌≤◌, Bool, true, false, not, cond, ◌&&◌, eqb, ltb, leb, ◌==◌, List, [], ◌∷◌, ◌++◌, length, Option, Some, None, refl, sym, ap, ◌∙◌, subst, ⊎_elim}
 use Rattle.std.specs.List.{filter}
 use Rattle.std.proofs.lemmas.Bool.{cases_Bool, eqb-true, eqb-false, and_parts, leb-true}
 use Rattle.tcmu_types.specs.Data.{CommandData, SettingsData}
@@ -23,6 +23,7 @@ use Rattle.tcmu_model.specs.TargetCleans.{tail_read, tail_fits, answered_by, res
 use Rattle.ring_laws.specs.Calls.{TargetCall, Submits, Enters, Notes, Ticks, Blocks, Cleans, Resets, CallMade, Called, CanCall, IsFreeId, target_called, SerialsSound, TargetSound}
 use Rattle.ring_laws.proofs.PendingRows.{no_rows, rows_push, rows_without, rows_expired}
 use Rattle.ring_laws.proofs.CountedSerials.{no_serials, serials_queued, serials_delayed, serials_entered, serials_answered, serials_ticked, serials_reset}
+use Rattle.tcmu_model.proofs.SoundSubmit.{none_waits}
 
 pub sound_opened : (s : SettingsData) → TargetSound (opening_target s)
 unfolding opening_target
@@ -38,13 +39,6 @@ Told t c submit.Busy = Unit {0}
 Told t c (submit.TooBig have limit) = Unit {0}
 Told t c (submit.FullRing need free) = Unit {0}
 Told t c (submit.FullBlocks need free) = Unit {0}
-
-none_waits : (ws : List Delayed) → (length ws == 0) ≡ true → ws ≡ []
-none_waits [] h = refl
-none_waits (w ∷ ws) h = absurd (positive (length ws) (eqb-true (length (w ∷ ws)) 0 h))
-  where
-    positive : (n : ℕ) → suc n ≡ 0 → ⊥
-    positive n q = omega arith
 
 told_full : (t : TargetState) (c : CommandData) → t.delayed ≡ [] → Told t c (submit_or_full t c)
 told_full t c none =

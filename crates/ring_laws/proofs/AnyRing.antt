@@ -1,5 +1,5 @@
 -- The target's record of the ring over any bytes: what is laid stands whole in the ring, and the bytes before the data area stay as many.
-use Rattle.std.proofs.Common.{◌≡◌, ◌≢◌, ℕ, ◌+◌, ◌-◌, ◌*◌, ◌%◌, ◌<◌, ◌≤◌, Bool, true, false, cond, eqb, ltb, List, [], ◌∷◌, ◌++◌, length, take, Option, Some, None, refl, sym, ap, ◌∙◌, arith, subst, ⊎_elim, length-append, length-take}
+use Rattle.std.proofs.Common.{◌≡◌, ◌≢◌, ℕ, ◌+◌, ◌-◌, ◌%◌, ◌<◌, ◌≤◌, Bool, true, false, cond, eqb, ltb, List, [], ◌∷◌, ◌++◌, length, Option, Some, None, refl, sym, ap, ◌∙◌, arith, subst, ⊎_elim, length-take}
 use Rattle.std.specs.List.{sum_by}
 use Rattle.std.proofs.Math.Nat.{mod-eq_of_lt, mod_self}
 use Rattle.std.proofs.lemmas.Bool.{cases_Bool, eqb-true, ltb-false, leb-true}
@@ -15,33 +15,33 @@ use Rattle.tcmu_types.specs.declared.answer.Tmr.TheVariants as tmr
 use Rattle.tcmu_types.specs.declared.dump.ItemKind.{ItemKind}
 use Rattle.tcmu_types.specs.declared.dump.ItemKind.TheVariants as kind
 use Rattle.tcmu_model.specs.declared.entry.Response.{Response}
-use Rattle.tcmu_model.specs.Lists.{first_of, above_all}
+use Rattle.tcmu_model.specs.Lists.{first_of}
 use Rattle.tcmu_model.specs.Lengths.{block_size, blocks_of, tmr_length}
 use Rattle.tcmu_model.specs.Device.{Delayed}
 use Rattle.tcmu_model.specs.BlockLists.{free_from}
 use Rattle.tcmu_types.specs.Rules.{payload_length}
-use Rattle.tcmu_model.specs.Layout.{le, put, zeros, entry_header, ids_bytes, tmr_bytes, mailbox_bytes, device_mailbox, data_start, head_place, tail_place}
+use Rattle.tcmu_model.specs.Layout.{le, put, tmr_bytes, data_start, head_place, tail_place}
 use Rattle.tcmu_model.specs.Regions.{RegionState, opening_region}
 use Rattle.tcmu_model.specs.Sound.{Every}
 use Rattle.tcmu_model.specs.Picture.{command_iovs, request_of}
 use Rattle.tcmu_model.specs.Sides.{PendingRow, Recorded, TargetState}
 use Rattle.tcmu_model.specs.Represents.{has_id, row_has}
 use Rattle.tcmu_model.specs.TargetSteps.{opening_target, used_in, head_in, free_in, pad_in, need_in, fits_in, length_in, blocks_held, blocks_given, blocks_wanted, place_in, front_with, pads_of, with_recorded, region_laid, target_laid, id_or_zero, ids_of, unknown_in, target_submit_answer, target_submitted, region_submitted, target_enter_answer, first_entered, region_with_first, target_entered, region_entered, target_tmr_answer, target_noted, region_noted, target_ticked, target_blocked}
-use Rattle.tcmu_model.specs.TargetCleans.{tail_read, tail_fits, past, answered_by, response_in, one_cleaned, unless_broken, all_cleaned, target_cleaned, region_cleaned, target_reset, region_reset}
+use Rattle.tcmu_model.specs.TargetCleans.{tail_read, tail_fits, past, answered_by, response_in, one_cleaned, unless_broken, all_cleaned, target_cleaned, target_reset, region_reset}
 use Rattle.tcmu_model.proofs.Everies.{every-append}
-use Rattle.tcmu_model.proofs.Written.{lengths as writes, length-le, length-padded, length-entry_header}
+use Rattle.tcmu_model.proofs.Written.{length-le}
 use Rattle.tcmu_model.proofs.SoundLaying.{entry_even, tmr_sizes}
 use Rattle.ring_laws.specs.Calls.{TargetCall, Submits, Enters, Notes, Ticks, Blocks, Cleans, Resets, CallMade, Called, TargetSound, target_called}
 use Rattle.ring_laws.specs.CalledOn.{region_called, CalledOn}
 use Rattle.ring_laws.specs.RingKept.{IsPlace, RingKept}
 use Rattle.tcmu_model.proofs.Written.{length-put}
-use Rattle.ring_laws.proofs.Layouts.{length-iovs, length-request}
 use Rattle.ring_laws.proofs.LaidEntry.{length-entered}
-use Rattle.ring_laws.proofs.Opened.{length-mailbox}
 use Rattle.std.proofs.lemmas.List.{length-map}
 use Rattle.ring_laws.proofs.AnyCalls.{Told, told, ToldFirst, told_first, sound_opened, sound_called}
 use Rattle.ring_laws.proofs.AnySettings.{one_same, called_same}
 use Rattle.ring_laws.proofs.AnyNext.{next_place}
+use Rattle.tcmu_model.proofs.PartLengths.{length-iovs, length-note, length-opening, length-request}
+use Rattle.ring_laws.proofs.CleanedRing.{front_cleaned}
 
 pub ring_opened : (s : SettingsData) → IsSettings s → RingKept (opening_target s)
 unfolding opening_target
@@ -73,7 +73,7 @@ laid_at ring hd n l e f m =
     rw z (omega (arith, l), omega (arith, w, k, l), λ some. absurd (some refl), refl))
     (cases_Bool (ltb (ring - hd) n))
 
-sum_even : (xs : List Recorded) → Every (λ (x : Recorded). x.len % 8 ≡ 0) xs → sum_by (λ (x : Recorded). x.len) xs % 8 ≡ 0
+pub sum_even : (xs : List Recorded) → Every (λ (x : Recorded). x.len % 8 ≡ 0) xs → sum_by (λ (x : Recorded). x.len) xs % 8 ≡ 0
 sum_even [] h = refl
 sum_even (x ∷ xs) h = let a : x.len % 8 ≡ 0 = h.0 in omega (arith, sum_by-cons (λ (y : Recorded). y.len) x xs, a, sum_even xs h.1)
 
@@ -307,20 +307,6 @@ front_enter r t id enter.Empty g h w l = refl
 front_enter r t id (enter.FullRing need free) g h w l = refl
 front_enter r t id (enter.FullBlocks need free) g h w l = refl
 
-length-ids : (ids : List ℕ) → length (ids_bytes ids) ≡ 2 * length ids
-length-ids [] = refl
-length-ids (id ∷ ids) = omega (arith, length-append (le 2 id) (ids_bytes ids), length-le 2 id, length-ids ids)
-
-length-note : (type_ : ℕ) (ids : List ℕ) → length (tmr_bytes type_ ids) ≡ tmr_length (length ids)
-unfolding tmr_bytes
-length-note type_ ids =
-    let n : ℕ = tmr_length (length ids) in
-    let head : List ℕ = entry_header 2 n 0 ++ le 1 type_ ++ zeros 3 ++ le 4 (length ids) ++ zeros 16 in
-    let lh : length head ≡ 32 = omega (writes, length-entry_header 2 n 0) in
-    let la : length (head ++ ids_bytes ids) ≡ length head + length (ids_bytes ids) = length-append head (ids_bytes ids) in
-    let up : 32 + 2 * length ids ≤ n = omega arith in
-    length-padded n (head ++ ids_bytes ids) (omega (arith, lh, la, length-ids ids, up))
-
 front_note : (r : RegionState) (t : TargetState) (type_ : ℕ) (ss : List ℕ) (a : Tmr) → IsSettings t.settings → RingKept t → ToldNote t ss a → length r.front ≡ data_start t.settings.ring → length (region_noted r t type_ ss a).front ≡ length r.front
 unfolding region_noted
 front_note r t type_ ss tmr.Noted g h w l =
@@ -330,14 +316,6 @@ front_note r t type_ ss tmr.Off g h w l = refl
 front_note r t type_ ss tmr.Busy g h w l = refl
 front_note r t type_ ss (tmr.Unknown s) g h w l = refl
 front_note r t type_ ss (tmr.FullRing need free) g h w l = refl
-
-front_clean : (r : RegionState) (t : TargetState) → (region_cleaned r t).front ≡ r.front
-unfolding region_cleaned
-front_clean r t = go (eqb (length (target_cleaned r t).rows) (length t.rows))
-  where
-    go : (b : Bool) → (cond b r (record r { blocks = take (above_all (blocks_held (target_cleaned r t).rows)) r.blocks })).front ≡ r.front
-    go true = refl
-    go false = refl
 
 front_reset : (r : RegionState) (ring : ℕ) → length r.front ≡ data_start ring → length (region_reset r).front ≡ length r.front
 unfolding region_reset
@@ -351,14 +329,8 @@ front_called r t (Enters id) g sound h l = front_enter r t id (target_enter_answ
 front_called r t (Notes type_ ss) g sound h l = front_note r t type_ ss (target_tmr_answer t ss) g h (told_note t ss) l
 front_called r t (Ticks n) g sound h l = refl
 front_called r t (Blocks b) g sound h l = refl
-front_called r t Cleans g sound h l = ap length (front_clean r t)
+front_called r t Cleans g sound h l = ap length (front_cleaned r t)
 front_called r t (Resets level) g sound h l = front_reset r t.settings.ring l
-
-opening_long : (s : SettingsData) → length (opening_region s).front ≡ data_start s.ring
-opening_long s =
-    let m = device_mailbox s.flags s.ring 0 0 in
-    let l : length (mailbox_bytes m) ≡ 128 = length-mailbox m in
-    length-padded (data_start s.ring) (mailbox_bytes m) (omega (arith, l))
 
 front_along : (s : SettingsData) (r : RegionState) (t : TargetState) (ms : List CallMade) (left : RegionState) (after : TargetState) → t.settings ≡ s → IsSettings s → TargetSound t → RingKept t →
     length r.front ≡ data_start s.ring → CalledOn r t ms left after → length left.front ≡ data_start s.ring
@@ -371,4 +343,4 @@ front_along s r t (m ∷ ms) left after q g sound h l c =
     (sound_called m.region t m.call sound c.1) (ring_called m.region t m.call g' sound h) (front_called m.region t m.call g' sound h mine ∙ here) c.2
 
 pub front_of_opening : (s : SettingsData) (ms : List CallMade) (r : RegionState) (t : TargetState) → IsSettings s → CalledOn (opening_region s) (opening_target s) ms r t → length r.front ≡ data_start s.ring
-front_of_opening s ms r t g c = front_along s (opening_region s) (opening_target s) ms r t (opened_settings s) g (sound_opened s) (ring_opened s g) (opening_long s) c
+front_of_opening s ms r t g c = front_along s (opening_region s) (opening_target s) ms r t (opened_settings s) g (sound_opened s) (ring_opened s g) (length-opening s) c

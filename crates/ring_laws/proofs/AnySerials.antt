@@ -1,47 +1,15 @@
 -- What it says of the log that each accepted serial stands in one place.
-use Rattle.std.proofs.Common.{◌≡◌, ℕ, ◌+◌, ◌<◌, ◌≤◌, Bool, true, false, cond, ◌&&◌, eqb, ltb, leb, List, [], ◌∷◌, ◌++◌, map, refl, arith, ⊎_elim}
-use Rattle.std.proofs.lemmas.Bool.{cases_Bool, and_parts, ltb-true, leb-true, le-leb, eq-eqb, ne_eqb}
+use Rattle.std.proofs.Common.{◌≡◌, ℕ, ◌+◌, ◌<◌, ◌≤◌, Bool, true, false, cond, ◌&&◌, eqb, ltb, leb, List, [], ◌∷◌, ◌++◌, map, refl, arith}
+use Rattle.std.proofs.lemmas.Bool.{and_parts, ltb-true, leb-true, le-leb, ne_eqb}
 use Rattle.std.proofs.lemmas.List.Sums.{sum_by-cons}
 use Rattle.tcmu_types.specs.Data.{DoneData}
 use Rattle.tcmu_model.specs.Device.{Delayed}
-use Rattle.tcmu_model.specs.Events.{is_among}
 use Rattle.tcmu_model.specs.Sound.{Every, Rise, Differ, times_logged, delayed_serials, is_delayed_at}
 use Rattle.tcmu_model.specs.Sides.{PendingRow, TargetState}
 use Rattle.tcmu_model.proofs.Everies.{every-weaker, every-both, every-mapped, every-front}
 use Rattle.tcmu_model.proofs.Rises.{rise_within}
 use Rattle.ring_laws.specs.Calls.{is_pending_at, times_pending, times_delayed, is_given, TargetSound}
-
-cons_logged : (e : DoneData) (es : List DoneData) (k : ℕ) → times_logged (e ∷ es) k ≡ cond (eqb e.serial k) 1 0 + times_logged es k
-cons_logged e es k = sum_by-cons (λ (x : DoneData). cond {A = ℕ} (eqb x.serial k) 1 0) e es
-
-here : (n : ℕ) → cond {A = ℕ} (eqb n n) 1 0 ≡ 1
-here n = let z : eqb n n ≡ true = eq-eqb n n refl in rw z refl
-
-not_logged : (es : List DoneData) (k : ℕ) → times_logged es k ≡ 0 → is_among (map (λ (e : DoneData). e.serial) es) k ≡ false
-not_logged [] k h = refl
-not_logged (e ∷ es) k h =
-    ⊎_elim
-    (λ (z : eqb e.serial k ≡ true). let w : cond {A = ℕ} (eqb e.serial k) 1 0 ≡ 1 = rw z refl in absurd (omega (arith, cons_logged e es k, w, h)))
-    (λ (z : eqb e.serial k ≡ false). rw z (not_logged es k (omega (arith, cons_logged e es k, h))))
-    (cases_Bool (eqb e.serial k))
-
-once_differ : (es : List DoneData) → ((k : ℕ) → times_logged es k ≤ 1) → Differ (map (λ (e : DoneData). e.serial) es)
-once_differ [] h = tt
-once_differ (e ∷ es) h =
-    (not_logged es e.serial (omega (arith, cons_logged e es e.serial, here e.serial, h e.serial)), once_differ es (λ k. omega (arith, cons_logged e es k, h k)))
-
-some_logged : (B : ℕ → Type 0) (es : List DoneData) → ((k : ℕ) → 1 ≤ times_logged es k → B k) → Every (λ e. B e.serial) es
-some_logged B [] h = tt
-some_logged B (e ∷ es) h =
-    (h e.serial (omega (arith, cons_logged e es e.serial, here e.serial)), some_logged B es (λ k l. h k (omega (arith, cons_logged e es k, l))))
-
-at_most_one : (b : Bool) → cond {A = ℕ} b 1 0 ≤ 1
-at_most_one true = omega arith
-at_most_one false = omega arith
-
-some_one : (b : Bool) → 1 ≤ cond {A = ℕ} b 1 0 → b ≡ true
-some_one true h = refl
-some_one false h = absurd (omega (arith, h))
+use Rattle.tcmu_model.proofs.Accounts.{once_differ, some_logged, at_most_one, some_one}
 
 -- no serial stands twice in the log
 pub logged_once : (t : TargetState) → TargetSound t → Differ (map (λ (e : DoneData). e.serial) t.log)

@@ -32,8 +32,7 @@ use Rattle.ring_laws.proofs.SoundRing.{holds}
 use Rattle.ring_laws.proofs.Numbered.{can_answer, counted-before}
 use Rattle.ring_laws.proofs.Places.{used_is, lengths_more}
 use Rattle.ring_laws.proofs.CleanedOne.{CleanWith, CleanAt, clean-one, clean-pass, commands-next, next-place, placed-first, take-next, found-serial_is}
-use Rattle.ring_laws.proofs.LaidBlocks.{get-there}
-use Rattle.ring_laws.proofs.PlacedAnswers.{drop-at}
+use Rattle.tcmu_types.proofs.Places.{get_within, drop_from}
 
 -- ==== small facts
 
@@ -93,7 +92,7 @@ record PlacedAnswer (d : DeviceState) (m : ℕ) : Type 0 where
 placed_answer : (d : DeviceState) (m : ℕ) → IsSound d → cleared_commands d.ring ≤ m → m < published_commands d.ring → PlacedAnswer d m
 placed_answer d m sound l h =
     let p : ℕ = published_commands d.ring in
-    let gs = get-there d.placed m (omega (arith, h, sound.answers.published)) in
+    let gs = get_within d.placed m (omega (arith, h, sound.answers.published)) in
     let s : ℕ = gs.0 in
     let a : is_among (dispatched_serials d.ring) s ≡ true = every_at (λ q. is_among (dispatched_serials d.ring) q ≡ true) d.placed m s sound.answers.dispatched gs.1 in
     let b : is_among (serials_in d.ring.laid) s ≡ true = among_more d.ring.dispatched d.ring.laid s a in
@@ -145,13 +144,13 @@ clean-run r rows0 d lists zero j us log k w cl e at =
 clean-run r rows0 d lists (suc n) j us log k w cl e at =
     let rl : Bool = d.settings.flags.read_len in
     let pl : d.ring.published ≤ length d.ring.laid = omega (arith, w.sound.ring.published, w.sound.ring.dispatched) in
-    let gx = get-there d.ring.laid j (omega arith) in
+    let gx = get_within d.ring.laid j (omega arith) in
     let x : Item = gx.0 in
     let g : slice_get d.ring.laid j ≡ Some x = gx.1 in
     let p : ℕ = published_commands d.ring in
     let m : ℕ = commands_in (take j d.ring.laid) in
     let xs : List Recorded = map recorded (drop (suc j) d.ring.laid) in
-    let dr : map recorded (drop j d.ring.laid) ≡ recorded x ∷ xs = ap (map recorded) (drop-at d.ring.laid j x g) in
+    let dr : map recorded (drop j d.ring.laid) ≡ recorded x ∷ xs = ap (map recorded) (drop_from d.ring.laid j x g) in
     let differ : k.cleaned ≡ tail d.ring → ⊥ = λ z. apart x g pl (sym at.cleaned ∙ z) in
     let k' : TargetState = one_cleaned r k (recorded x) xs (kind_of x.laid) in
     let on : all_cleaned r (tail d.ring) k (map recorded (drop j d.ring.laid)) ≡ all_cleaned r (tail d.ring) k' xs =
@@ -167,7 +166,7 @@ clean-run r rows0 d lists (suc n) j us log k w cl e at =
     let next = clean-one r rows0 d lists j us log k x s u a.reply w at cl g c a.there a.new a.found a.placed a.replied in
     let ih = clean-run r rows0 d lists n (suc j) (without_first (is_at s Placed) us) (log ++ completions rl u) k' w (omega arith) (omega arith) next in
     let cn : commands_in (take (suc j) d.ring.laid) ≡ suc m = commands-next d.ring.laid j x g ∙ ap (λ b. m + cond b 1 0) c ∙ (let z : m + 1 ≡ suc m = omega arith in z) in
-    let ds : drop m (answered d) ≡ s ∷ drop (suc m) (answered d) = drop-at (answered d) m s (get-take d.placed p m (omega arith) ∙ a.there) in
+    let ds : drop m (answered d) ≡ s ∷ drop (suc m) (answered d) = drop_from (answered d) m s (get-take d.placed p m (omega arith) ∙ a.there) in
     let b : books_from d j us log ≡ books_from d (suc j) (without_first (is_at s Placed) us) (log ++ completions rl u) =
     ap (finish_all rl (record { unfinished = us; log = log })) ds
     ∙ ap (λ (y : Books). finish_all rl y (drop (suc m) (answered d))) (finish-found rl us log s u f)
@@ -240,8 +239,8 @@ ends-step : (d : DeviceState) (j : ℕ) → j < length d.ring.laid →
     ends_at d.ring.size (place_of d.ring j) (map recorded (drop j d.ring.laid)) (tail d.ring)
     ≡ (eqb (place_of d.ring (suc j)) (tail d.ring) || ends_at d.ring.size (place_of d.ring (suc j)) (map recorded (drop (suc j) d.ring.laid)) (tail d.ring))
 ends-step d j h =
-    let g = get-there d.ring.laid j h in
-    let dr : map recorded (drop j d.ring.laid) ≡ recorded g.0 ∷ map recorded (drop (suc j) d.ring.laid) = ap (map recorded) (drop-at d.ring.laid j g.0 g.1) in
+    let g = get_within d.ring.laid j h in
+    let dr : map recorded (drop j d.ring.laid) ≡ recorded g.0 ∷ map recorded (drop (suc j) d.ring.laid) = ap (map recorded) (drop_from d.ring.laid j g.0 g.1) in
     let nx : (place_of d.ring j + g.0.len) % d.ring.size ≡ place_of d.ring (suc j) = next-place d.ring j g.0 g.1 in
     ap (λ xs. ends_at d.ring.size (place_of d.ring j) xs (tail d.ring)) dr
     ∙ ap (λ z. eqb z (tail d.ring) || ends_at d.ring.size z (map recorded (drop (suc j) d.ring.laid)) (tail d.ring)) nx

@@ -33,11 +33,12 @@ use Rattle.ring_laws.specs.Cleaned.{response_of}
 use Rattle.tcmu_model.specs.Owned.{ListsSound}
 use Rattle.ring_laws.proofs.SoundRing.{holds}
 use Rattle.ring_laws.proofs.LaidIds.{command_long}
-use Rattle.ring_laws.proofs.Layouts.{add-mod, length-request, length-iovs}
+use Rattle.ring_laws.proofs.Layouts.{add-mod}
 use Rattle.ring_laws.proofs.AnswerBlocks.{can_fill}
 use Rattle.ring_laws.proofs.Completing.{response_of_entry, response_read, completed-log}
 use Rattle.ring_laws.proofs.TakenOut.{first-without, TakenOut, taken-out, differ-left, serial-left}
 use Rattle.ring_laws.proofs.AnswerBytes.{command-of}
+use Rattle.tcmu_model.proofs.PartLengths.{length-iovs, length-request}
 
 -- ==== small facts
 

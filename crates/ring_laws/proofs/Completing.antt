@@ -2,7 +2,6 @@
 use Rattle.std.proofs.Common.{◌≡◌, ℕ, ◌+◌, ◌-◌, ◌%◌, ◌^◌, ◌≤◌, ◌<◌, ◌&&◌, min, Bool, true, false, not, cond, List, [], ◌++◌, length, take, drop, refl, sym, ap, ◌∙◌, arith, Option, Some, None, length-append, length-drop, ⊎_elim, eqb}
 use Rattle.std.specs.Prelude.{IfSome, IsTrue, unwrap_or, ◌∷◌}
 use Rattle.std.specs.Option.{is_some}
-use Rattle.byteorder.specs.Endian.{little_number}
 use Rattle.std.proofs.lemmas.Bool.{cases_Bool, eqb-true}
 use Rattle.std.proofs.lemmas.List.{take_at, drop_at, take-take, take-append-drop, length-take-le, drop-drop, nil_from_length}
 use Rattle.tcmu_types.specs.Data.{CommandData, SenseData, ReplyData, DoneData}
@@ -23,17 +22,15 @@ use Rattle.tcmu_model.specs.Represents.{HaveData, entry_at, pending_of}
 use Rattle.tcmu_model.specs.TargetCleans.{completion_read, completions_read, length_told, payload_read, sense_read}
 use Rattle.ring_laws.specs.Cleaned.{response_of}
 use Rattle.ring_laws.proofs.Bytes.{part_of_front}
-use Rattle.ring_laws.proofs.Answered.{length-response, id_of_answered, sense_short}
+use Rattle.ring_laws.proofs.Answered.{id_of_answered}
+use Rattle.tcmu_model.proofs.EntriesThere.{field_behind}
+use Rattle.tcmu_model.proofs.PartLengths.{length-sense, length-response}
 
 -- ==== what is read of an entry
 
 same_response : {a b c d a' b' c' d' : ℕ} {s s' : List ℕ} → a ≡ a' → b ≡ b' → c ≡ c' → d ≡ d' → s ≡ s' →
     ◌≡◌ {A = Response} (record { id = a; uflags = b; status = c; read_len = d; sense = s }) (record { id = a'; uflags = b'; status = c'; read_len = d'; sense = s' })
 same_response p q r t u = cc
-
-pub field_behind : (n b k : ℕ) (xs : List ℕ) → field n (b + k) xs ≡ field n k (drop b xs)
-unfolding field
-field_behind n b k xs = ap (λ ys. little_number n ys) (sym (drop-drop k b xs))
 
 field_entry : (front : List ℕ) (b n k len : ℕ) → k + n ≤ len → b + len ≤ length front → field n (b + k) front ≡ field n k (take len (drop b front))
 field_entry front b n k len h l =
@@ -64,7 +61,7 @@ response_read entry id reply n h small status told =
     let l2 : length (le 2 id) ≡ 2 = length-le 2 id in
     let lx : length x ≡ length entry = length-put entry 4 (le 2 id) (omega arith) in
     let lr : length r ≡ 105 = length-response reply n in
-    let lb : length buffer ≡ 96 = length-padded 96 (sense_buffer reply.sense) (sense_short reply.sense) in
+    let lb : length buffer ≡ 96 = length-padded 96 (sense_buffer reply.sense) (length-sense reply.sense) in
     let l9 : length (le 1 u ++ le 1 reply.status ++ zeros 3 ++ le 4 t) ≡ 9 = omega writes in
     let uf : u < 256 = flag_small n in
     let f7 : field 1 7 (put x 7 r) ≡ u =

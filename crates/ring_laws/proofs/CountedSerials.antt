@@ -1,6 +1,6 @@
 -- The serials of the target, whatever bytes it reads: how each call leaves each of them in one place.
 use Rattle.std.proofs.Common.{◌≡◌, ℕ, ◌+◌, ◌%◌, Bool, true, false, not, cond, ◌&&◌, eqb, ltb, leb, List, [], ◌∷◌, ◌++◌, map, Option, Some, None, refl, sym, ap, ◌∙◌, arith, subst, ⊎_elim, append_assoc, append-nil}
-use Rattle.std.specs.List.{count_by, filter}
+use Rattle.std.specs.List.{filter}
 use Rattle.std.proofs.lemmas.Bool.{cases_Bool, false≢true, leb-true, le-ltb}
 use Rattle.std.proofs.lemmas.List.{map-append}
 use Rattle.std.proofs.lemmas.List.Sums.{sum_by-cons, sum_by_push, sum_by-append}
@@ -17,8 +17,8 @@ use Rattle.tcmu_model.specs.TargetCleans.{completion_read, completions_read, res
 use Rattle.tcmu_model.proofs.Counts.{sum-without_first}
 use Rattle.tcmu_model.proofs.Everies.{map_kept}
 use Rattle.tcmu_model.proofs.Rises.{rise_from, rise_push, rise_order}
-use Rattle.tcmu_model.proofs.SoundSubmit.{accepted_more}
-use Rattle.tcmu_model.proofs.SoundEvents.{reset_serial}
+use Rattle.tcmu_model.proofs.SoundSubmit.{accepted_more, delayed_push}
+use Rattle.tcmu_model.proofs.SoundEvents.{left_delayed, rise_behind, delayed_rise, reset_delayed}
 use Rattle.ring_laws.specs.Calls.{is_pending_at, times_pending, times_delayed, SerialsSound}
 use Rattle.ring_laws.proofs.PendingRows.{only_expires}
 
@@ -66,12 +66,6 @@ serials_queued n rows log e h s x =
           let c : cond {A = ℕ} (eqb e.pending.serial k) 1 0 ≡ cond (eqb (n + 1) k) 1 0 = ap (λ z. cond {A = ℕ} (eqb z k) 1 0) s in
           omega (arith, h.accounted k, accepted_more n k, pending_push k rows e x, c);
     }
-
-delayed_push : (k s : ℕ) (ws : List Delayed) (w : Delayed) → w.serial ≡ s → count_by (is_delayed_at k) (ws ++ w ∷ []) ≡ count_by (is_delayed_at k) ws + cond (eqb s k) 1 0
-delayed_push k s ws w e =
-    let a : count_by (is_delayed_at k) (ws ++ w ∷ []) ≡ count_by (is_delayed_at k) ws + cond (is_delayed_at k w) 1 0 = sum_by_push (λ (v : Delayed). cond {A = ℕ} (is_delayed_at k v) 1 0) ws w in
-    let b : cond {A = ℕ} (is_delayed_at k w) 1 0 ≡ cond (eqb s k) 1 0 = rw e refl in
-    omega (arith, a, b)
 
 -- a command is accepted and waits
 pub serials_delayed : (n : ℕ) (rows : List PendingRow) (ws : List Delayed) (log : List DoneData) (w : Delayed) → SerialsSound n rows ws log → w.serial ≡ n + 1 → SerialsSound (n + 1) rows (ws ++ w ∷ []) log
@@ -167,33 +161,6 @@ due_pending now k (e ∷ rows) =
     open_due true y h = absurd (false≢true h)
     open_due false y h = refl
 
-left_delayed : (now k : ℕ) (ws : List Delayed) → times_logged (map departure (filter (has_left now) ws)) k + count_by (is_delayed_at k) (filter (λ w. not (has_left now w)) ws) ≡ count_by (is_delayed_at k) ws
-left_delayed now k [] = refl
-left_delayed now k (w ∷ ws) =
-    let a : count_by (is_delayed_at k) (w ∷ ws) ≡ cond (eqb w.serial k) 1 0 + count_by (is_delayed_at k) ws = sum_by-cons (λ (v : Delayed). cond {A = ℕ} (is_delayed_at k v) 1 0) w ws in
-    ⊎_elim
-    (λ (e : has_left now w ≡ true).
-    let c : times_logged (map departure (filter (has_left now) (w ∷ ws))) k ≡ cond (eqb w.serial k) 1 0 + times_logged (map departure (filter (has_left now) ws)) k = rw e (sum_by-cons (λ (v : DoneData). cond {A = ℕ} (eqb v.serial k) 1 0) (departure w) (map departure (filter (has_left now) ws))) in
-    let f : count_by (is_delayed_at k) (filter (λ w. not (has_left now w)) (w ∷ ws)) ≡ count_by (is_delayed_at k) (filter (λ w. not (has_left now w)) ws) = rw e refl in
-    omega (arith, a, c, f, left_delayed now k ws))
-    (λ (e : has_left now w ≡ false).
-    let c : times_logged (map departure (filter (has_left now) (w ∷ ws))) k ≡ times_logged (map departure (filter (has_left now) ws)) k = rw e refl in
-    let f : count_by (is_delayed_at k) (filter (λ w. not (has_left now w)) (w ∷ ws)) ≡ cond (eqb w.serial k) 1 0 + count_by (is_delayed_at k) (filter (λ w. not (has_left now w)) ws) = rw e (sum_by-cons (λ (v : Delayed). cond {A = ℕ} (is_delayed_at k v) 1 0) w (filter (λ w. not (has_left now w)) ws)) in
-    omega (arith, a, c, f, left_delayed now k ws))
-    (cases_Bool (has_left now w))
-
-rise_behind : (low : ℕ) (xs ys zs : List ℕ) (high : ℕ) → ((l : ℕ) → Rise l ys high → Rise l zs high) → Rise low (xs ++ ys) high → Rise low (xs ++ zs) high
-rise_behind low [] ys zs high h r = h low r
-rise_behind low (x ∷ xs) ys zs high h r = (r.0, rise_behind x xs ys zs high h r.1)
-
-delayed_rise : (p : Delayed → Bool) (low : ℕ) (ws : List Delayed) (high : ℕ) → Rise low (delayed_serials ws) high → Rise low (delayed_serials (filter p ws)) high
-delayed_rise p low [] high h = h
-delayed_rise p low (w ∷ ws) high h =
-    ⊎_elim
-    (λ (e : p w ≡ true). rw e (h.0, delayed_rise p w.serial ws high h.1))
-    (λ (e : p w ≡ false). rw e (rise_from w.serial low (delayed_serials (filter p ws)) high (omega (arith, h.0)) (delayed_rise p w.serial ws high h.1)))
-    (cases_Bool (p w))
-
 pub serials_ticked : (n now : ℕ) (rows : List PendingRow) (ws : List Delayed) (log : List DoneData) → SerialsSound n rows ws log →
     SerialsSound n (map (expired_at now) rows) (filter (λ (w : Delayed). not (has_left now w)) ws)
     (log ++ (map (λ (e : PendingRow). checked 0x0b 0x08 0x01 e.pending) (filter (is_due_at now) rows) ++ map departure (filter (has_left now) ws)))
@@ -239,15 +206,6 @@ reset_pending level k (e ∷ rows) =
     let g : cond {A = ℕ} (is_pending_at k e) 1 0 ≡ cond (eqb e.pending.serial k) 1 0 = rw x (always (eqb e.pending.serial k)) in
     omega (arith, a, c, s, g, reset_pending level k rows))
     (cases_Bool e.pending.expired)
-
-reset_delayed : (level k : ℕ) (ws : List Delayed) → times_logged (map (λ w. reset_completion level w.serial w.command) ws) k ≡ count_by (is_delayed_at k) ws
-reset_delayed level k [] = refl
-reset_delayed level k (w ∷ ws) =
-    let a : count_by (is_delayed_at k) (w ∷ ws) ≡ cond (eqb w.serial k) 1 0 + count_by (is_delayed_at k) ws = sum_by-cons (λ (v : Delayed). cond {A = ℕ} (is_delayed_at k v) 1 0) w ws in
-    let rest : List DoneData = map (λ w. reset_completion level w.serial w.command) ws in
-    let c : times_logged (reset_completion level w.serial w.command ∷ rest) k ≡ cond (eqb (reset_completion level w.serial w.command).serial k) 1 0 + times_logged rest k = sum_by-cons (λ (v : DoneData). cond {A = ℕ} (eqb v.serial k) 1 0) (reset_completion level w.serial w.command) rest in
-    let s : cond {A = ℕ} (eqb (reset_completion level w.serial w.command).serial k) 1 0 ≡ cond (eqb w.serial k) 1 0 = ap (λ n. cond {A = ℕ} (eqb n k) 1 0) (reset_serial level w.serial w.command) in
-    omega (arith, a, c, s, reset_delayed level k ws)
 
 pub serials_reset : (n level : ℕ) (rows : List PendingRow) (ws : List Delayed) (log : List DoneData) → SerialsSound n rows ws log →
     SerialsSound n [] []

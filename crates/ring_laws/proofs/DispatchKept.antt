@@ -21,11 +21,12 @@ use Rattle.tcmu_model.proofs.Everies.{every-with_first}
 use Rattle.ring_laws.specs.Dispatched.{CanDispatch}
 use Rattle.ring_laws.proofs.AnswerBytes.{turned-found}
 use Rattle.ring_laws.proofs.CleanedOne.{commands-next}
-use Rattle.ring_laws.proofs.NextCases.{after_at, after_detached, behind_item, by_next, noted_in, sent_in}
+use Rattle.ring_laws.proofs.NextCases.{after_at, after_detached, by_next, noted_in, sent_in}
 use Rattle.ring_laws.proofs.PlacedAnswers.{pending_turned}
 use Rattle.ring_laws.proofs.LaidRing.{commands-append}
 use Rattle.ring_laws.proofs.TailMoved.{take_more}
 use Rattle.ring_laws.proofs.Ticked.{ring_by}
+use Rattle.tcmu_model.proofs.Unnamed.{found_item}
 
 -- ==== the ring, the ids and the notes
 
@@ -159,7 +160,7 @@ behind P d h =
     (λ (a : d.attached ≡ false). subst P (sym (after_detached d a)) h.same)
     (cases_Bool d.attached)
   where
-    by_item : (o : Option Item) → P (behind_item d o)
+    by_item : (o : Option Item) → P (found_item d o)
     by_item None = h.same
     by_item (Some x) = turned_by (λ us. P (record d { ring = passed d.ring; unfinished = us })) d.unfinished x.len x.laid h.noted h.sent
 

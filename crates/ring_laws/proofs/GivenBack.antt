@@ -15,9 +15,9 @@ use Rattle.std.proofs.lemmas.Bool.{or_parts, or_left, or_right}
 use Rattle.ring_laws.proofs.LaidBlocks.{every-join}
 use Rattle.ring_laws.proofs.Scatter.{along-same}
 use Rattle.ring_laws.proofs.AnswerData.{returned-other, returned-data}
-use Rattle.ring_laws.proofs.AnswerBlocks.{differ-split, differ-left, differ-right}
+use Rattle.ring_laws.proofs.AnswerBlocks.{differ-split, differ-right}
 use Rattle.tcmu_model.proofs.Everies.{every-weaker}
-use Rattle.tcmu_model.proofs.Rises.{among-append, among_every, every-among}
+use Rattle.tcmu_model.proofs.Rises.{among-append, among_every, every-among, differ_front}
 
 -- the parts of commands are put back into the blocks of their lists
 abbrev pub all_back : List Taken → List (Option (List ℕ)) → List Unfinished → List (List (List ℕ)) → List (Option (List ℕ))
@@ -90,7 +90,7 @@ back-data size lists area (u ∷ us) [] d e h = absurd h
 back-data size lists area (u ∷ us) (ps ∷ pss) d e h =
     let bs : List ℕ = list_of lists u.serial in
     let area1 : List (Option (List ℕ)) = returned area bs ps in
-    let k = returned-data size area bs ps h.0.count (differ-left bs (held_by lists us) d) e.0 h.0.sized in
+    let k = returned-data size area bs ps h.0.count (differ_front bs (held_by lists us) d) e.0 h.0.sized in
     let own : HaveData size area1 bs (payload_of u) = record {
       here = k.0;
       begin_ = ap (take (length (payload_of u))) k.1 ∙ front-of (payload_length u.command) (gathered ps) (payload_of u) h.0.payload;

@@ -32,7 +32,7 @@ use Rattle.ring_laws.proofs.LaidIds.{rows_below, lists_below, every-push}
 use Rattle.ring_laws.proofs.TargetAnswers.{held_length}
 use Rattle.tcmu_model.proofs.Everies.{every-weaker}
 use Rattle.tcmu_model.proofs.Rises.{among-append, among_every, every-among}
-use Rattle.tcmu_types.proofs.Places.{get_append_left}
+use Rattle.tcmu_types.proofs.Places.{get_append_left, get_within}
 
 -- ==== what is held
 
@@ -71,11 +71,6 @@ sized_whole size (None ∷ area) h zero bytes g = absurd (cc)
 sized_whole size (Some block ∷ area) h zero bytes g = let e : block ≡ bytes = cc in ap length (sym e) ∙ h.0
 sized_whole size (None ∷ area) h (suc b) bytes g = sized_whole size area h b bytes g
 sized_whole size (Some block ∷ area) h (suc b) bytes g = sized_whole size area h.1 b bytes g
-
-pub get-there : {X : Type 0} (xs : List X) (i : ℕ) → i < length xs → (x : X) × (slice_get xs i ≡ Some x)
-get-there [] i h = absurd (omega arith)
-get-there (x ∷ xs) zero h = (x, refl)
-get-there (x ∷ xs) (suc i) h = get-there xs i (omega arith)
 
 -- ==== the area grows
 
@@ -117,7 +112,7 @@ new-here : (size : ℕ) (area : List (Option (List ℕ))) (hs bs bs0 : List ℕ)
 new-here size area hs [] bs0 low high w c f just = tt
 new-here size area hs (b ∷ bs) bs0 low high w c f just =
     let n : ℕ = above_all bs0 in
-    let g = get-there (grown size area n) b (omega (arith, c.0, length-grown size area n)) in
+    let g = get_within (grown size area n) b (omega (arith, c.0, length-grown size area n)) in
     (there g.0 g.1, new-here size area hs bs bs0 low high w c.1 f.1 just)
   where
     there : (o : Option (List ℕ)) → slice_get (grown size area (above_all bs0)) b ≡ Some o → IsHome size (grown size area (above_all bs0)) b

@@ -8,10 +8,11 @@ use Rattle.tcmu_model.specs.Device.{Unfinished, DeviceState}
 use Rattle.tcmu_model.specs.Layout.{le, put, ring_start, data_start, head_place, pad_bytes}
 use Rattle.tcmu_model.specs.TargetSteps.{with_pad}
 use Rattle.ring_laws.proofs.Bytes.{part, take-written, part-written, part-written_before, part-written_behind}
-use Rattle.ring_laws.proofs.Layouts.{take-written_inside, length-pad}
+use Rattle.ring_laws.proofs.Layouts.{take-written_inside}
 use Rattle.tcmu_model.proofs.Written.{length-le, length-put}
 use Rattle.ring_laws.specs.Placed.{HoldsItems}
 use Rattle.tcmu_model.proofs.Laying.{times_eight}
+use Rattle.tcmu_model.proofs.PartLengths.{length-pad}
 
 -- the device with an item laid
 abbrev pub laid_in : DeviceState → Item → List Unfinished → DeviceState

@@ -28,13 +28,14 @@ use Rattle.tcmu_model.proofs.Basics.{placed_every}
 use Rattle.tcmu_model.proofs.Everies.{every-front, every-back}
 use Rattle.tcmu_model.proofs.Indexed.{every_at}
 use Rattle.tcmu_model.specs.Owned.{ListsSound, HasRoom}
-use Rattle.ring_laws.proofs.Layouts.{add-mod, length-iovs, length-request, id_of_request}
+use Rattle.ring_laws.proofs.Layouts.{add-mod, id_of_request}
 use Rattle.ring_laws.specs.Placed.{HoldsItems}
 use Rattle.ring_laws.proofs.SoundRing.{holds}
 use Rattle.ring_laws.proofs.Places.{laid_with, lengths_to_new}
 use Rattle.ring_laws.proofs.LaidEntry.{laid_in, entered}
 use Rattle.ring_laws.proofs.RingLaid.{SameItems, ring-laid}
 use Rattle.ring_laws.proofs.Agree.{Agrees, agrees, blocks-same}
+use Rattle.tcmu_model.proofs.PartLengths.{length-iovs, length-request}
 
 -- ==== serials below the new one
 

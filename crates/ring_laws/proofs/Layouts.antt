@@ -1,17 +1,15 @@
 -- The lengths of what is written into a ring, and where its ids stand.
-use Rattle.std.proofs.Common.{◌≡◌, ℕ, ◌+◌, ◌-◌, ◌*◌, ◌/◌, ◌%◌, ◌^◌, ◌≤◌, ◌<◌, true, false, List, [], ◌∷◌, ◌++◌, length, take, drop, refl, sym, ap, ◌∙◌, arith, suc, zero, length-append, ⊎_elim, eqb}
+use Rattle.std.proofs.Common.{◌≡◌, ℕ, ◌+◌, ◌-◌, ◌*◌, ◌/◌, ◌%◌, ◌^◌, ◌≤◌, ◌<◌, List, [], ◌∷◌, ◌++◌, length, take, drop, refl, sym, ap, ◌∙◌, arith, suc, zero, length-append}
 use Rattle.std.proofs.Math.Nat.{add-mul-mod_self_left}
-use Rattle.std.proofs.lemmas.Bool.{cases_Bool}
 use Rattle.std.proofs.lemmas.List.{take-take, drop-take, length-take-le}
 use Rattle.tcmu_types.specs.declared.settings.Flags.{Flags}
 use Rattle.tcmu_model.specs.Lengths.{round_up}
 use Rattle.tcmu_model.specs.RingState.{head}
-use Rattle.tcmu_model.specs.Layout.{le, field, put, zeros, ring_start, head_place, pad_bytes, mailbox_bytes, device_mailbox}
+use Rattle.tcmu_model.specs.Layout.{le, field, put, zeros, ring_start, head_place, mailbox_bytes, device_mailbox}
 use Rattle.tcmu_model.specs.Picture.{tail}
 use Rattle.tcmu_types.specs.declared.iovec.Iov.{Iov}
 use Rattle.tcmu_model.specs.Layout.{padded, entry_header, iovs_bytes, command_head, cdb_place, command_length, command_bytes}
-use Rattle.tcmu_model.specs.Iovecs.{piece, merged, iovs_along}
-use Rattle.tcmu_model.proofs.Written.{lengths as writes, length-le, length-zeros, length-padded, length-entry_header, length-command_head, field-in, field-front}
+use Rattle.tcmu_model.proofs.Written.{lengths as writes, length-le, length-command_head, field-in, field-front}
 
 pub add-mod : (a b n : ℕ) → (a % n + b) % n ≡ (a + b) % n
 add-mod a b n = let e : (a % n + b) + n * (a / n) ≡ a + b = omega arith in sym (add-mul-mod_self_left (a % n + b) n (a / n)) ∙ ap (λ t. t % n) e
@@ -41,52 +39,7 @@ pub mailbox_moved : (f : Flags) (size head tail head' : ℕ) → put (mailbox_by
 unfolding put le zeros mailbox_bytes
 mailbox_moved f size head tail head' = refl
 
-pub length-pad : (n : ℕ) → 8 ≤ n → length (pad_bytes n) ≡ n
-unfolding pad_bytes
-length-pad n h = length-append (entry_header 0 n 0) (zeros (n - 8)) ∙ omega (arith, length-entry_header 0 n 0, length-zeros (n - 8))
-
 -- ==== a command's entry
-
-pub length-iovs_bytes : (iovs : List Iov) → length (iovs_bytes iovs) ≡ 16 * length iovs
-length-iovs_bytes [] = refl
-length-iovs_bytes (iov ∷ iovs) =
-    let rest : length (iovs_bytes iovs) ≡ 16 * length iovs = length-iovs_bytes iovs in
-    let one : length (le 8 iov.base ++ le 8 iov.len) ≡ length (le 8 iov.base) + length (le 8 iov.len) = length-append (le 8 iov.base) (le 8 iov.len) in
-    length-append (le 8 iov.base ++ le 8 iov.len) (iovs_bytes iovs) ∙ omega (arith, rest, one, length-le 8 iov.base, length-le 8 iov.len)
-
-pub length-merged : (e : Iov) (es : List Iov) → length (merged e es) ≤ length es + 1
-unfolding merged
-length-merged e [] = omega arith
-length-merged e (f ∷ fs) =
-    ⊎_elim
-    (λ (z : eqb (e.base + e.len) f.base ≡ true). rw z (omega arith))
-    (λ (z : eqb (e.base + e.len) f.base ≡ false). rw z (omega arith))
-    (cases_Bool (eqb (e.base + e.len) f.base))
-
-pub length-iovs : (start size : ℕ) (bs : List ℕ) (n : ℕ) → length (iovs_along start size bs n) ≤ length bs
-unfolding iovs_along
-length-iovs start size [] n = omega arith
-length-iovs start size (b ∷ bs) n = omega (arith, length-merged (piece start size b n) (iovs_along start size bs (n - size)), length-iovs start size bs (n - size))
-
-front_long : (at id slots : ℕ) (iovs : List Iov) (cdb : List ℕ) → length iovs ≤ slots →
-    length (command_head (command_length slots (length cdb)) id (length iovs) (ring_start + at + cdb_place slots) ++ iovs_bytes iovs) ≤ cdb_place slots
-front_long at id slots iovs cdb h =
-    let a : length (command_head (command_length slots (length cdb)) id (length iovs) (ring_start + at + cdb_place slots) ++ iovs_bytes iovs) ≡
-    length (command_head (command_length slots (length cdb)) id (length iovs) (ring_start + at + cdb_place slots)) + length (iovs_bytes iovs) =
-    length-append (command_head (command_length slots (length cdb)) id (length iovs) (ring_start + at + cdb_place slots)) (iovs_bytes iovs) in
-    let b : length (command_head (command_length slots (length cdb)) id (length iovs) (ring_start + at + cdb_place slots)) ≡ 48 = length-command_head (command_length slots (length cdb)) id (length iovs) (ring_start + at + cdb_place slots) in
-    let c : length (iovs_bytes iovs) ≡ 16 * length iovs = length-iovs_bytes iovs in
-    let big : 48 + 16 * slots ≤ cdb_place slots = omega arith in
-    omega (arith, a, b, c, big, h)
-
-pub length-request : (at id slots : ℕ) (iovs : List Iov) (cdb : List ℕ) → length iovs ≤ slots → length (command_bytes at id slots iovs cdb) ≡ cdb_place slots + round_up (length cdb)
-unfolding command_bytes
-length-request at id slots iovs cdb h =
-    let f : List ℕ = command_head (command_length slots (length cdb)) id (length iovs) (ring_start + at + cdb_place slots) ++ iovs_bytes iovs in
-    let a : length (padded (cdb_place slots) f) ≡ cdb_place slots = length-padded (cdb_place slots) f (front_long at id slots iovs cdb h) in
-    let up : length cdb ≤ round_up (length cdb) = omega arith in
-    let b : length (padded (round_up (length cdb)) cdb) ≡ round_up (length cdb) = length-padded (round_up (length cdb)) cdb up in
-    length-append (padded (cdb_place slots) f) (padded (round_up (length cdb)) cdb) ∙ omega (arith, a, b)
 
 head-id : (len id count off : ℕ) → id < 2 ^ 16 → field 2 4 (command_head len id count off) ≡ id
 unfolding command_head entry_header le zeros

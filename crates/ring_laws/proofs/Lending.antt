@@ -1,8 +1,8 @@
 -- The blocks of a command that are at home can be lent along its iovecs: the parts have what stood in them.
-use Rattle.std.proofs.Common.{◌≡◌, ℕ, ◌+◌, ◌-◌, ◌*◌, ◌%◌, ◌≤◌, ◌<◌, ◌==◌, ◌&&◌, min, Bool, true, false, List, [], ◌∷◌, ◌++◌, length, set, refl, sym, ap, ◌∙◌, arith, suc, Option, Some, None, slice_get, ⊎_elim, eqb, nat_le, nat_lt}
+use Rattle.std.proofs.Common.{◌≡◌, ℕ, ◌+◌, ◌-◌, ◌*◌, ◌%◌, ◌≤◌, ◌<◌, ◌==◌, ◌&&◌, min, true, false, List, [], ◌∷◌, ◌++◌, length, set, refl, sym, ap, ◌∙◌, arith, suc, Option, Some, None, slice_get, ⊎_elim, eqb, nat_le, nat_lt}
 use Rattle.std.specs.Prelude.{unwrap_or}
 use Rattle.std.proofs.Math.Nat.{add-mul-mod_self_left, mod_self, mul-mod_right}
-use Rattle.std.proofs.lemmas.Bool.{cases_Bool, eqb-true, eqb-false, eq-eqb, or_parts}
+use Rattle.std.proofs.lemmas.Bool.{cases_Bool, eqb-true, eqb-false, eq-eqb, or_parts, and_from, and_parts}
 use Rattle.std.proofs.lemmas.Bool.Decides.{nat_tests}
 use Rattle.tcmu_types.specs.declared.iovec.Iov.{Iov}
 use Rattle.tcmu_model.specs.Events.{is_among}
@@ -33,13 +33,6 @@ starts start size b n h =
     some : (n : ℕ) → 0 < n → nat_lt 0 n ≡ true
     some n h = grind (arith, nat_tests)
 
-pub both_true : (a b : Bool) → a ≡ true → b ≡ true → a && b ≡ true
-both_true a b e f = ap (λ (w : Bool). w && b) e ∙ f
-
-both_parts : (a b : Bool) → a && b ≡ true → (a ≡ true) × (b ≡ true)
-both_parts true b h = (refl, h)
-both_parts false b h = cc
-
 -- a whole block in front of whole iovecs
 whole-merged : (start size b : ℕ) (es : List Iov) → 0 < size → are_whole start size es ≡ true → are_whole start size (merged (record { base = start + size * b; len = size }) es) ≡ true
 unfolding merged
@@ -48,7 +41,7 @@ whole-merged start size b (f ∷ []) z h =
     ⊎_elim
     (λ (e : eqb (start + size * b + size) f.base ≡ true). rw e (starts start size b (size + f.len) (omega arith)))
     (λ (e : eqb (start + size * b + size) f.base ≡ false).
-    rw e (both_true _ _ (both_true _ _ (starts start size b size z) (zero_is (size % size) (mod_self size))) h))
+    rw e (and_from _ _ (and_from _ _ (starts start size b size z) (zero_is (size % size) (mod_self size))) h))
     (cases_Bool (eqb (start + size * b + size) f.base))
 whole-merged start size b (f ∷ g ∷ fs) z h =
     ⊎_elim
@@ -56,13 +49,13 @@ whole-merged start size b (f ∷ g ∷ fs) z h =
     let some : 0 < size + f.len = omega arith in
     let k : size + f.len ≡ f.len + size * 1 = omega arith in
     let s : starts_block start size (record { base = start + size * b; len = size + f.len }) ≡ true = starts start size b (size + f.len) some in
-    let two = both_parts _ _ h in
-    let one = both_parts _ _ two.0 in
+    let two = and_parts _ _ h in
+    let one = and_parts _ _ two.0 in
     let even : f.len % size ≡ 0 = eqb-true (f.len % size) 0 one.1 in
     let m : (size + f.len) % size ≡ 0 = ap (λ y. y % size) k ∙ add-mul-mod_self_left f.len size 1 ∙ even in
-    rw e (both_true _ _ (both_true _ _ s (zero_is ((size + f.len) % size) m)) two.1))
+    rw e (and_from _ _ (and_from _ _ s (zero_is ((size + f.len) % size) m)) two.1))
     (λ (e : eqb (start + size * b + size) f.base ≡ false).
-    rw e (both_true _ _ (both_true _ _ (starts start size b size z) (zero_is (size % size) (mod_self size))) h))
+    rw e (and_from _ _ (and_from _ _ (starts start size b size z) (zero_is (size % size) (mod_self size))) h))
     (cases_Bool (eqb (start + size * b + size) f.base))
 
 pub iovs-whole : (start size : ℕ) (bs : List ℕ) (n : ℕ) → 0 < size → n ≤ size * length bs → size * length bs < n + size → are_whole start size (iovs_along start size bs n) ≡ true
@@ -84,7 +77,7 @@ pub can_take-home : (size : ℕ) (area : List (Option (List ℕ))) (bs : List �
 can_take-home size area [] d e = refl
 can_take-home size area (b ∷ bs) d e =
     let i = e.0 in
-    both_true _ _ (ap is_home i.1) (can_take-home size (set area b None) bs d.1 (here-other size area b None bs d.0 e.1))
+    and_from _ _ (ap is_home i.1) (can_take-home size (set area b None) bs d.1 (here-other size area b None bs d.0 e.1))
 
 -- the parts have what stands along the blocks
 pub gathered-taken : (size : ℕ) (area : List (Option (List ℕ))) (bs : List ℕ) → Differ bs → Every (IsHome size area) bs → gathered (taken area bs) ≡ bytes_along size area bs

@@ -56,7 +56,6 @@ pub mod NoteBytes
 pub mod Noted
 pub mod Lending
 pub mod MailboxThere
-pub mod EntriesThere
 pub mod PassedItems
 pub mod Sending
 pub mod JobRead

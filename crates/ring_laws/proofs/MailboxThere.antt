@@ -1,5 +1,5 @@
 -- The mailbox that stands at the front of a region is read as what was written.
-use Rattle.std.proofs.Common.{◌≡◌, ℕ, ◌+◌, ◌*◌, ◌/◌, ◌%◌, ◌≤◌, ◌<◌, Bool, true, false, cond, List, [], ◌∷◌, ◌++◌, length, take, drop, refl, sym, ap, ◌∙◌, arith, append_assoc, Ok, nat_le, nat_lt, suc, zero, eqb}
+use Rattle.std.proofs.Common.{◌≡◌, ℕ, ◌+◌, ◌*◌, ◌/◌, ◌%◌, ◌≤◌, ◌<◌, Bool, true, false, cond, List, [], ◌∷◌, ◌++◌, length, take, drop, refl, sym, ap, ◌∙◌, arith, Ok, nat_le, nat_lt, suc, zero, eqb}
 use Rattle.std.proofs.lemmas.Bool.{le-ltb, eq-eqb}
 use Rattle.std.proofs.lemmas.Bool.Decides.{nat_tests}
 use Rattle.std.proofs.lemmas.List.{take-append-drop}
@@ -11,33 +11,18 @@ use Rattle.tcmu_model.specs.RingState.{Item, lengths, head}
 use Rattle.tcmu_model.specs.Device.{DeviceState}
 use Rattle.tcmu_model.specs.Sound.{Along, IsItem, IsSound}
 use Rattle.tcmu_model.specs.BlockLists.{Taken}
-use Rattle.tcmu_model.specs.Layout.{le, field, zeros, mailbox_bytes, device_mailbox, flag_bits, ring_start, data_start}
+use Rattle.tcmu_model.specs.Layout.{mailbox_bytes, device_mailbox, flag_bits, ring_start, data_start}
 use Rattle.tcmu_model.specs.MailboxReading.{mailbox_in, mailbox_read, judged, is_ring_size, Fits, IsMailbox}
 use Rattle.tcmu_model.specs.Picture.{tail}
 use Rattle.tcmu_model.specs.Regions.{RegionState}
 use Rattle.tcmu_model.specs.Sides.{Recorded}
 use Rattle.tcmu_model.specs.Represents.{RingStands}
 use Rattle.tcmu_model.specs.UserSteps.{user_mailbox, of_size, ring_size}
-use Rattle.tcmu_model.proofs.Written.{lengths as writes, field-in, field-front}
+use Rattle.tcmu_model.proofs.Written.{field-front}
 use Rattle.ring_laws.proofs.SoundRing.{holds}
 use Rattle.ring_laws.specs.Placed.{HoldsItems}
 use Rattle.tcmu_model.proofs.Laying.{times_eight}
-
-length-text : (m : Mailbox) → length (mailbox_bytes m) ≡ 128
-unfolding mailbox_bytes
-length-text m = omega writes
-
--- the fields of what was written
-fields : (m : Mailbox) → Fits m → mailbox_in (mailbox_bytes m) ≡ m
-unfolding mailbox_bytes mailbox_in
-fields m h =
-    let f1 : field 2 0 (mailbox_bytes m) ≡ m.version = field-in 2 0 m.version [] (le 2 m.flags ++ le 4 m.cmdr_off ++ le 4 m.cmdr_size ++ le 4 m.head ++ zeros 48 ++ le 4 m.tail ++ zeros 60) _ (simp append_assoc) refl (omega (arith, h.version)) in
-    let f2 : field 2 2 (mailbox_bytes m) ≡ m.flags = field-in 2 2 m.flags (le 2 m.version) (le 4 m.cmdr_off ++ le 4 m.cmdr_size ++ le 4 m.head ++ zeros 48 ++ le 4 m.tail ++ zeros 60) _ (simp append_assoc) (omega writes) (omega (arith, h.flags)) in
-    let f3 : field 4 4 (mailbox_bytes m) ≡ m.cmdr_off = field-in 4 4 m.cmdr_off (le 2 m.version ++ le 2 m.flags) (le 4 m.cmdr_size ++ le 4 m.head ++ zeros 48 ++ le 4 m.tail ++ zeros 60) _ (simp append_assoc) (omega writes) (omega (arith, h.cmdr_off)) in
-    let f4 : field 4 8 (mailbox_bytes m) ≡ m.cmdr_size = field-in 4 8 m.cmdr_size (le 2 m.version ++ le 2 m.flags ++ le 4 m.cmdr_off) (le 4 m.head ++ zeros 48 ++ le 4 m.tail ++ zeros 60) _ (simp append_assoc) (omega writes) (omega (arith, h.cmdr_size)) in
-    let f5 : field 4 12 (mailbox_bytes m) ≡ m.head = field-in 4 12 m.head (le 2 m.version ++ le 2 m.flags ++ le 4 m.cmdr_off ++ le 4 m.cmdr_size) (zeros 48 ++ le 4 m.tail ++ zeros 60) _ (simp append_assoc) (omega writes) (omega (arith, h.head)) in
-    let f6 : field 4 64 (mailbox_bytes m) ≡ m.tail = field-in 4 64 m.tail (le 2 m.version ++ le 2 m.flags ++ le 4 m.cmdr_off ++ le 4 m.cmdr_size ++ le 4 m.head ++ zeros 48) (zeros 60) _ (simp append_assoc) (omega writes) (omega (arith, h.tail)) in
-    rw (f1, f2, f3, f4, f5, f6) refl
+use Rattle.tcmu_model.proofs.PartLengths.{length-mailbox, mailbox_fields}
 
 -- they are those of the first 128 bytes
 of_front : (text rest : List ℕ) → length text ≡ 128 → mailbox_in (text ++ rest) ≡ mailbox_in text
@@ -69,7 +54,7 @@ unfolding mailbox_read
 mailbox_there front m fits ok long there =
     let t : nat_lt (length front) 128 ≡ false = le-ltb _ _ long in
     let split : front ≡ mailbox_bytes m ++ drop 128 front = sym (take-append-drop 128 front) ∙ ap (λ xs. xs ++ drop 128 front) there in
-    let fs : mailbox_in front ≡ m = ap mailbox_in split ∙ of_front (mailbox_bytes m) (drop 128 front) (length-text m) ∙ fields m fits in
+    let fs : mailbox_in front ≡ m = ap mailbox_in split ∙ of_front (mailbox_bytes m) (drop 128 front) (length-mailbox m) ∙ mailbox_fields m fits in
     rw t (ap judged fs ∙ judged_ok m ok)
 
 -- ==== of a sound device

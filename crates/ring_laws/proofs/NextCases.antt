@@ -9,7 +9,7 @@ use Rattle.tcmu_model.specs.declared.state.CommandState.TheVariants.{Waiting, Ou
 use Rattle.tcmu_model.specs.RingState.{Item, Laid, is_pad}
 use Rattle.tcmu_model.specs.RingState as ring
 use Rattle.tcmu_model.specs.Device.{DeviceState}
-use Rattle.tcmu_model.specs.Events.{after_dispatch, dispatch_answer, item_answer, after_item, is_running, next_item, passed, turned}
+use Rattle.tcmu_model.specs.Events.{after_dispatch, dispatch_answer, item_answer, is_running, next_item, passed, turned}
 use Rattle.tcmu_model.specs.BlockLists.{Taken}
 use Rattle.tcmu_model.specs.Regions.{RegionState}
 use Rattle.tcmu_model.specs.Sides.{InHand, TargetState, UserState}
@@ -18,6 +18,7 @@ use Rattle.ring_laws.specs.Dispatched.{CanDispatch}
 use Rattle.ring_laws.proofs.Nexts.{NoteComes, can_pass, job_comes, job_nexted, note_comes, note_nexted}
 use Rattle.ring_laws.proofs.PassedItems.{comes_to_head}
 use Rattle.ring_laws.proofs.Places.{get-dropped}
+use Rattle.tcmu_model.proofs.Unnamed.{found_item}
 
 -- the device behind a command that is sent out, and behind a note
 abbrev pub sent_in : DeviceState → ℕ → DeviceState
@@ -51,19 +52,16 @@ next_no_pad d n g =
 
 -- ==== the device's part
 
-abbrev pub behind_item : DeviceState → Option Item → DeviceState
-behind_item d o = elim o as (λ x. DeviceState) [ None ↦ d | Some i ↦ record d { ring = passed d.ring; unfinished = after_item d.unfinished i } ]
-
 abbrev answer_of : DeviceState → Option Item → DispatchData
 answer_of d o = elim o as (λ x. DispatchData) [ None ↦ device.Nothing | Some i ↦ item_answer d.unfinished i ]
 
-pub after_at : (d : DeviceState) (o : Option Item) → d.attached ≡ true → next_item d ≡ o → after_dispatch d ≡ behind_item d o
+pub after_at : (d : DeviceState) (o : Option Item) → d.attached ≡ true → next_item d ≡ o → after_dispatch d ≡ found_item d o
 unfolding after_dispatch
-after_at d o a e = ap (λ b. cond b (behind_item d (next_item d)) d) a ∙ ap (behind_item d) e
+after_at d o a e = ap (λ b. cond b (found_item d (next_item d)) d) a ∙ ap (found_item d) e
 
 pub after_detached : (d : DeviceState) → d.attached ≡ false → after_dispatch d ≡ d
 unfolding after_dispatch
-after_detached d a = ap (λ b. cond b (behind_item d (next_item d)) d) a
+after_detached d a = ap (λ b. cond b (found_item d (next_item d)) d) a
 
 answer_at : (d : DeviceState) (o : Option Item) → d.attached ≡ true → next_item d ≡ o → dispatch_answer d ≡ answer_of d o
 unfolding dispatch_answer

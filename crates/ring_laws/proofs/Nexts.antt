@@ -2,7 +2,7 @@
 use Rattle.std.proofs.Common.{◌≡◌, ℕ, ◌+◌, ◌-◌, ◌*◌, ◌/◌, ◌^◌, ◌≤◌, ◌<◌, min, take, Bool, true, false, cond, List, [], ◌∷◌, ◌++◌, length, drop, filter, refl, sym, ap, ◌∙◌, arith, suc, Option, Some, None, Ok, subst, ⊎_elim, eqb}
 use Rattle.std.specs.Prelude.{IsTrue}
 use Rattle.std.specs.List.{list_any}
-use Rattle.std.proofs.lemmas.Bool.{cases_Bool, eqb-true, ne_eqb, eq-eqb}
+use Rattle.std.proofs.lemmas.Bool.{cases_Bool, eqb-true, ne_eqb, eq-eqb, and_from}
 use Rattle.std.proofs.lemmas.List.{length-take-le, length-drop}
 use Rattle.std.proofs.lemmas.Option.{slice_get_within}
 use Rattle.tcmu_types.specs.Data.{CommandData}
@@ -34,14 +34,14 @@ use Rattle.tcmu_model.proofs.Indexed.{item_at}
 use Rattle.ring_laws.specs.Dispatched.{CanDispatch}
 use Rattle.ring_laws.proofs.AnswerBlocks.{found-held, found-differ}
 use Rattle.ring_laws.proofs.AnswerData.{iovs-numbers}
-use Rattle.ring_laws.proofs.EntriesThere.{note_there, NoteRead, note_ids, length-ids_in}
 use Rattle.ring_laws.proofs.JobRead.{RequestRead, request_read, total_along}
-use Rattle.ring_laws.proofs.Lending.{both_true, iovs-whole, can_take-home}
+use Rattle.ring_laws.proofs.Lending.{iovs-whole, can_take-home}
 use Rattle.ring_laws.proofs.MailboxThere.{mailbox_of}
 use Rattle.ring_laws.proofs.PassedItems.{CanPass, Comes, Within, comes_to, item_there, item_within, passed_one, passed_to, ring_is}
 use Rattle.ring_laws.proofs.Sending.{Sends, sends, first-split}
 use Rattle.ring_laws.proofs.Matched.{unmatched}
 use Rattle.tcmu_model.proofs.Rises.{among_every, every-among}
+use Rattle.tcmu_model.proofs.EntriesThere.{note_there, NoteRead, note_ids, length-ids_in}
 
 pub can_pass : (r : RegionState) (t : TargetState) (user : UserState) (hand : List InHand) (d : DeviceState) (lists : List Taken) → CanDispatch r t user hand d lists → CanPass r t.items user d lists
 can_pass r t user hand d lists h = record { sound = h.sound; attached = h.attached; ring = h.ring; side = h.side }
@@ -164,7 +164,7 @@ job_comes r t user hand d lists n s c h g =
     let numbers : named_by r iovs ≡ bs = ap (λ y. numbers_of y (size_of r) iovs) st ∙ ap (λ y. numbers_of start y iovs) sz ∙ iovs-numbers start size bs len some low high in
     let whole : are_whole (length r.front) (size_of r) iovs ≡ true = ap (λ y. are_whole y (size_of r) iovs) st ∙ ap (λ y. are_whole start y iovs) sz ∙ iovs-whole start size bs len some low high in
     let can : can_lend r iovs ≡ true =
-    both_true (are_whole (length r.front) (size_of r) iovs) (can_take r.blocks (named_by r iovs)) whole (ap (can_take r.blocks) numbers ∙ can_take-home size r.blocks bs b.differ b.home.here) in
+    and_from (are_whole (length r.front) (size_of r) iovs) (can_take r.blocks (named_by r iovs)) whole (ap (can_take r.blocks) numbers ∙ can_take-home size r.blocks bs b.differ b.home.here) in
     let command : HasLength d.settings (lengths (take i d.ring.laid)) n (ring.Cmd s c) = (item_at d i x h.sound g).kind in
     let in_len : cond (takes_payload c.cdb) 0 (min (total_of iovs) 4294967295) ≡ c.in_len = in_length c iovs command.1 (total_along start size bs len low) in
     let on : with_passed (passed_to user d i) kind.Cmd n ≡ passed_to user d (suc i) = passed_one user d i x (ring_is r t.items user d lists (can_pass r t user hand d lists h)) (omega arith) g in

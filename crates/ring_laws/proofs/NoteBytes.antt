@@ -4,7 +4,8 @@ use Rattle.tcmu_model.specs.Lengths.{tmr_length}
 use Rattle.tcmu_model.specs.Sound.{Every}
 use Rattle.tcmu_model.specs.Layout.{entry_header, field, ids_bytes, le, padded, tmr_bytes, zeros}
 use Rattle.tcmu_model.specs.Represents.{ids_in}
-use Rattle.tcmu_model.proofs.Written.{field-in, length-entry_header, length-le, length-padded, lengths}
+use Rattle.tcmu_model.proofs.Written.{field-in, length-entry_header, length-le, lengths}
+use Rattle.tcmu_model.proofs.PartLengths.{length-ids_bytes}
 
 -- what stands before the ids
 note_head : ℕ → ℕ → List ℕ
@@ -14,20 +15,10 @@ length-note_head : (kind count : ℕ) → length (note_head kind count) ≡ 32
 unfolding note_head
 length-note_head kind count = omega (lengths, length-entry_header 2 (tmr_length count) 0)
 
-pub length-ids : (ids : List ℕ) → length (ids_bytes ids) ≡ 2 * length ids
-length-ids [] = refl
-length-ids (id ∷ ids) =
-    let rest : length (ids_bytes ids) ≡ 2 * length ids = length-ids ids in
-    length-append (le 2 id) (ids_bytes ids) ∙ omega (arith, rest, length-le 2 id)
-
 inside : (kind : ℕ) (ids : List ℕ) → length (note_head kind (length ids) ++ ids_bytes ids) ≤ tmr_length (length ids)
 inside kind ids =
     let up : 32 + 2 * length ids ≤ tmr_length (length ids) = omega arith in
-    omega (arith, up, length-append (note_head kind (length ids)) (ids_bytes ids), length-note_head kind (length ids), length-ids ids)
-
-pub length-note : (kind : ℕ) (ids : List ℕ) → length (tmr_bytes kind ids) ≡ tmr_length (length ids)
-unfolding tmr_bytes note_head
-length-note kind ids = length-padded (tmr_length (length ids)) (note_head kind (length ids) ++ ids_bytes ids) (inside kind ids)
+    omega (arith, up, length-append (note_head kind (length ids)) (ids_bytes ids), length-note_head kind (length ids), length-ids_bytes ids)
 
 ids_read : (front ids rest : List ℕ) (at : ℕ) → at ≡ length front → Every (λ id. id < 2 ^ 16) ids → ids_in (length ids) at (front ++ (ids_bytes ids ++ rest)) ≡ ids
 ids_read front [] rest at h small = refl

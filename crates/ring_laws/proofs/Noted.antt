@@ -42,8 +42,9 @@ use Rattle.ring_laws.proofs.SameJobs.{HasSame}
 use Rattle.ring_laws.proofs.RingLaid.{SameItems, new-entry, old-entry, ring-laid}
 use Rattle.ring_laws.proofs.LaidRing.{commands-append, front_same}
 use Rattle.ring_laws.proofs.LaidIds.{command_long, commands-pads, id-same}
-use Rattle.ring_laws.proofs.NoteBytes.{ids_again, length-note}
+use Rattle.ring_laws.proofs.NoteBytes.{ids_again}
 use Rattle.ring_laws.proofs.TargetAnswers.{Rooms, rooms}
+use Rattle.tcmu_model.proofs.PartLengths.{length-note}
 
 -- ==== which serials are known
 

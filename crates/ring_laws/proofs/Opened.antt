@@ -6,17 +6,14 @@ use Rattle.tcmu_types.specs.Rules.{IsSettings}
 use Rattle.tcmu_types.specs.declared.settings.Flags.{Flags}
 use Rattle.tcmu_model.specs.declared.mailbox.Mailbox.{Mailbox}
 use Rattle.tcmu_model.specs.Device.{opening_state}
-use Rattle.tcmu_model.specs.Layout.{le, zeros, padded, mailbox_bytes, device_mailbox, data_start}
+use Rattle.tcmu_model.specs.Layout.{zeros, padded, mailbox_bytes, device_mailbox, data_start}
 use Rattle.tcmu_model.specs.Regions.{opening_region}
 use Rattle.tcmu_model.specs.TargetSteps.{opening_target}
 use Rattle.tcmu_model.specs.UserSteps.{flags_in, opening_user}
 use Rattle.tcmu_model.specs.Owned.{ListsSound}
 use Rattle.tcmu_model.specs.Represents.{Represents}
 use Rattle.tcmu_model.proofs.Written.{length-padded}
-
-pub length-mailbox : (m : Mailbox) → ◌≡◌ {A = ℕ} (length (mailbox_bytes m)) 128
-unfolding le zeros mailbox_bytes
-length-mailbox m = refl
+use Rattle.tcmu_model.proofs.PartLengths.{length-mailbox}
 
 pub take-padded : (n k : ℕ) (xs : List ℕ) → length xs ≡ k → take k (padded n xs) ≡ xs
 unfolding padded

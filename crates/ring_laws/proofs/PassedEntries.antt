@@ -1,7 +1,6 @@
 -- What entries and mailboxes that read without a fault keep, over any bytes.
 use Rattle.std.proofs.Common.{◌≡◌, ◌≢◌, ℕ, ◌+◌, ◌-◌, ◌*◌, ◌%◌, ◌<◌, ◌≤◌, Bool, true, false, not, cond, eqb, ltb, leb, ◌==◌, List, length, Option, Some, None, Result, Ok, Err, refl, ap, ◌∙◌, arith, subst, ⊎_elim}
 use Rattle.std.proofs.lemmas.Bool.{cases_Bool, eqb-true, eqb-false}
-use Rattle.std.proofs.lemmas.Bool.Decides.{nat_tests}
 use Rattle.tcmu_model.specs.declared.mailbox.Mailbox.{Mailbox}
 use Rattle.tcmu_model.specs.declared.mailbox.MailboxFault.{MailboxFault}
 use Rattle.tcmu_model.specs.declared.mailbox.MailboxFault.TheVariants as mailbox
@@ -14,7 +13,7 @@ use Rattle.tcmu_model.specs.MailboxReading.{mailbox_in, is_ring_size, judged, ma
 use Rattle.tcmu_model.specs.EntryReading.{op_at, len_at, id_at, iov_cnt_at, bidi_cnt_at, dif_cnt_at, cdb_off_at, kind_at, id_cnt_at, first_outside, cdb_at, where_outside, with_cdb, command_read, tmr_read, limit_of, least_of, kind_read, sized_read, entry_read}
 use Rattle.tcmu_model.specs.Regions.{RegionState}
 use Rattle.tcmu_model.specs.UserSteps.{ring_size, of_size, user_mailbox}
-use Rattle.tcmu_model.proofs.Guards.{guard_ok, is_same, not_below, not_most}
+use Rattle.tcmu_model.proofs.Guards.{guard_ok, is_same, not_below, not_most, is_ring_sized}
 
 -- ==== a mailbox
 
@@ -23,9 +22,6 @@ pub record Bounded (m : Mailbox) : Type 0 where
   pub head_below : m.head < m.cmdr_size
   pub tail_below : m.tail < m.cmdr_size
   pub tail_aligned : m.tail % 8 ≡ 0
-
-of_ring_size : (n : ℕ) → not (is_ring_size n) ≡ false → IsRingSize n
-of_ring_size n test = record { least = grind (arith, nat_tests); most = grind (arith, nat_tests); pages = grind (arith, nat_tests) }
 
 bounded_read : (xs : List ℕ) (m : Mailbox) → mailbox_read xs ≡ Ok m → Bounded m
 unfolding mailbox_read judged
@@ -40,7 +36,7 @@ bounded_read xs m h =
     let g6 = guard_ok (leb b.cmdr_size b.head) (mailbox.OutOfRing b.head) _ _ g5.1 in
     let g7 = guard_ok (leb b.cmdr_size b.tail) (mailbox.OutOfRing b.tail) _ _ g6.1 in
     let whole : Bounded (mailbox_in xs) = record {
-      ring = of_ring_size _ g3.0;
+      ring = is_ring_sized _ g3.0;
       head_below = not_most _ _ g6.0;
       tail_below = not_most _ _ g7.0;
       tail_aligned = is_same _ _ g5.0;

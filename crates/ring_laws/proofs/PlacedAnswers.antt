@@ -1,5 +1,5 @@
 -- What a placed answer keeps: the ring, the ids, and what both sides keep of the device.
-use Rattle.std.proofs.Common.{◌≡◌, ℕ, ◌+◌, ◌^◌, ◌≤◌, ◌<◌, true, false, List, [], ◌∷◌, ◌++◌, length, take, drop, map, refl, sym, ap, ◌∙◌, arith, suc, zero, Some, slice_get, length-append, subst, ⊎_elim}
+use Rattle.std.proofs.Common.{◌≡◌, ℕ, ◌+◌, ◌^◌, ◌≤◌, ◌<◌, true, false, List, [], ◌∷◌, ◌++◌, length, take, drop, map, refl, sym, ap, ◌∙◌, arith, suc, Some, length-append, subst, ⊎_elim}
 use Rattle.std.proofs.lemmas.Bool.{cases_Bool}
 use Rattle.std.specs.Option.{option_map}
 use Rattle.tcmu_types.specs.declared.settings.Flags.{Flags}
@@ -21,11 +21,7 @@ use Rattle.tcmu_model.specs.UserSteps.{Placing, placed_at, placed_one, with_payl
 use Rattle.ring_laws.specs.Placed.{CanAnswer, CanPlace, placed_in}
 use Rattle.ring_laws.proofs.Numbered.{NextEntry, next-entry}
 use Rattle.ring_laws.proofs.AnswerBytes.{place-ring, place-ids, found-at, other-kept, answer_into}
-
-pub drop-at : {X : Type 0} (xs : List X) (i : ℕ) (x : X) → slice_get xs i ≡ Some x → drop i xs ≡ x ∷ drop (suc i) xs
-drop-at [] i x h = absurd (cc)
-drop-at (y ∷ xs) zero x h = cc
-drop-at (y ∷ xs) (suc i) x h = drop-at xs i x h
+use Rattle.tcmu_types.proofs.Places.{drop_from}
 
 abbrev pub placing_of : RegionState → UserState → Placing
 placing_of r user = record { region = r; user = user }
@@ -41,7 +37,7 @@ goes_into user rows d lists s u p parts can place =
     let e : NextEntry d = next-entry d can place.behind in
     let ps : List ℕ = command_places d.ring.size 0 (take d.ring.dispatched d.ring.laid) in
     let k : suc (length d.placed) ≡ length d.placed + 1 = omega arith in
-    record { entry = e; first = place.offsets ∙ drop-at ps (length d.placed) (place_of d.ring e.index) e.place ∙ ap (λ n. place_of d.ring e.index ∷ drop n ps) k }
+    record { entry = e; first = place.offsets ∙ drop_from ps (length d.placed) (place_of d.ring e.index) e.place ∙ ap (λ n. place_of d.ring e.index ∷ drop n ps) k }
 
 front_answered : (r : RegionState) (user : UserState) (rows : List PendingRow) (d : DeviceState) (lists : List Taken) (s : ℕ) (u : Unfinished) (p : sides.Parked) (parts : List (List ℕ)) (rest : List GivenJob) →
     CanPlace user rows d lists s u p parts → (i : Into user d) →

@@ -3,11 +3,11 @@ use Rattle.std.proofs.Common.{◌≡◌, ◌≢◌, ℕ, ◌+◌, ◌-◌, ◌*�
 use Rattle.std.proofs.Math.Nat.{mul-le-mul_left}
 use Rattle.std.proofs.lemmas.Bool.{cases_Bool, eqb-true, eqb-false, cases_lt, eq-eqb, ne_eqb}
 use Rattle.std.proofs.lemmas.List.{take_at, take-append-le, take-append-drop, take-take}
-use Rattle.std.proofs.lemmas.List.Sums.{sum_by-append, sum_by-take-le, sum_by-cons}
+use Rattle.std.proofs.lemmas.List.Sums.{sum_by-take-le, sum_by-cons}
 use Rattle.tcmu_model.specs.RingState.{RingState, Item, Laid, lengths, head, used, free, need, pads, with_item, commands_in, is_command}
 use Rattle.tcmu_model.specs.RingState as ring
 use Rattle.tcmu_types.proofs.Places.{get_append_left}
-use Rattle.tcmu_model.proofs.Laying.{lengths-pads}
+use Rattle.tcmu_model.proofs.Laying.{lengths-pads, lengths-append}
 
 -- two stretches of a ring of n bytes, whole and no further than n from the first one's start to the second one's end, do not meet
 pub apart_in_ring : (n p a q b : ℕ) → 0 < n → p + a ≤ q → q + b ≤ p + n → p % n + a ≤ n → q % n + b ≤ n → (p % n + a ≤ q % n) ⊎ (q % n + b ≤ p % n)
@@ -84,9 +84,6 @@ take-laid r it i h =
     let n : ℕ = ring.pad r it.len in
     let e : length (r.laid ++ pads n) ≡ length r.laid + length (pads n) = length-append r.laid (pads n) in
     take-append-le i (r.laid ++ pads n) (it ∷ []) (omega arith) ∙ take-append-le i r.laid (pads n) h
-
-pub lengths-append : (xs ys : List Item) → lengths (xs ++ ys) ≡ lengths xs + lengths ys
-lengths-append xs ys = sum_by-append (λ i. i.len) xs ys
 
 pub lengths_to_new : (r : RingState) (it : Item) → lengths (take (length (r.laid ++ pads (ring.pad r it.len))) (laid_with r it)) ≡ lengths r.laid + ring.pad r it.len
 lengths_to_new r it =

@@ -16,9 +16,9 @@ use Rattle.tcmu_model.specs.TargetSteps.{pads_of}
 use Rattle.ring_laws.proofs.Bytes.{part}
 use Rattle.ring_laws.proofs.Layouts.{mailbox_moved}
 use Rattle.ring_laws.specs.Placed.{HoldsItems}
-use Rattle.ring_laws.proofs.Places.{apart_in_ring, laid_with, LaidCase, laid_case, Old, Padding, New, take-laid, lengths_to_new, ends_within, used_is, lengths_more, lengths-append}
+use Rattle.ring_laws.proofs.Places.{apart_in_ring, laid_with, LaidCase, laid_case, Old, Padding, New, take-laid, lengths_to_new, ends_within, used_is, lengths_more}
 use Rattle.ring_laws.proofs.LaidEntry.{laid_in, entered, Room, has_room, entered_part, entered_new, entered_pad, length-entered, take-entered}
-use Rattle.tcmu_model.proofs.Laying.{lengths-pads}
+use Rattle.tcmu_model.proofs.Laying.{lengths-pads, lengths-append}
 
 -- an entry has the same bytes where the answer that stands in it is the same
 pub entry_same : (d e : DeviceState) (id : ℕ) (request : List ℕ) (o : Option ℕ) → e.settings ≡ d.settings → ((s : ℕ) → o ≡ Some s → first_of (has_serial s) e.unfinished ≡ first_of (has_serial s) d.unfinished)

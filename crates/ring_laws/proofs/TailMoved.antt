@@ -23,11 +23,11 @@ use Rattle.tcmu_model.specs.Owned.{ListsSound}
 use Rattle.tcmu_model.specs.UserSteps.{is_cmd, movable, moving, moving_items, user_publish_answer, user_published, region_published}
 use Rattle.ring_laws.proofs.Bytes.{part-written_behind}
 use Rattle.ring_laws.proofs.Layouts.{take-written_inside, add-mod}
-use Rattle.ring_laws.proofs.Places.{lengths-append}
 use Rattle.ring_laws.proofs.RingLaid.{stands-by}
 use Rattle.ring_laws.proofs.LaidRing.{commands-append}
 use Rattle.ring_laws.proofs.Agree.{sum-recorded}
 use Rattle.ring_laws.proofs.LaidIds.{id-same}
+use Rattle.tcmu_model.proofs.Laying.{lengths-append}
 
 -- the device with its items published up to an index
 abbrev pub published_to : DeviceState → ℕ → DeviceState

@@ -3,16 +3,13 @@ use Rattle.std.proofs.Common.{◌≡◌, ◌≢◌, ℕ, zero, suc, ◌+◌, ◌
 use Rattle.std.specs.List.{sum_by, count_by}
 use Rattle.std.proofs.lemmas.List.{get_or-set_same, get_or-set_other, length-set}
 use Rattle.std.proofs.lemmas.List.Sums.{sum_by_push}
-use Rattle.std.proofs.lemmas.Bool.{cond-true, cond-false, ltb-false, eqb-true, eqb-false, eq-eqb, ne_eqb}
+use Rattle.std.proofs.lemmas.Bool.{cond-true, cond-false, ltb-false, eqb-true, eqb-false, eq-eqb, ne_eqb, or_parts}
 use Rattle.tcmu_types.specs.Data.{CommandData}
 use Rattle.tcmu_model.specs.ScenarioData.{ScenarioData, DeviceLineData, LineData, command_of}
 use Rattle.tcmu_model.specs.Scenario.{with_name, with_initiator, initiators, initiators_from, is_dump, bytes_in, bytes_out, small_at, breaks_dump, breaks_many, with_line}
 use Rattle.tcmu_model.specs.declared.faults.Why.TheVariants as why
 use Rattle.scenario_text.specs.Counts.{Counted, noted, dump_by, many_by, one_if}
-
-initiators_from_push : (d : ℕ) (names : List (List ℕ)) (ls : List LineData) (l : LineData) → initiators_from d names (ls ++ l ∷ []) ≡ with_initiator d (initiators_from d names ls) l
-initiators_from_push d names [] l = refl
-initiators_from_push d names (k ∷ ls) l = initiators_from_push d (with_initiator d names k) ls l
+use Rattle.tcmu_model.proofs.ScenarioLaws.{initiators_push}
 
 -- by the command of the line, if it has one
 abbrev noted_by : List (List (List ℕ)) → ℕ → Option CommandData → List (List (List ℕ))
@@ -59,27 +56,23 @@ many_is : (s : ScenarioData) (l : LineData) (all : List (List (List ℕ))) (dump
     → breaks_many (s.lines ++ l ∷ []) l.device ≡ many_by (get_or (noted all l) l.device []) (length s.lines + 1) (ins + bytes_in l) (outs + bytes_out l)
 unfolding breaks_many
 many_is s l all dumps ins outs k lt =
-    let a : initiators l.device (s.lines ++ l ∷ []) ≡ get_or (noted all l) l.device [] = initiators_from_push l.device [] s.lines l ∙ ap (λ ns. with_initiator l.device ns l) (sym (k.names_are l.device)) ∙ sym (noted_at all l l.device (omega (arith, k.names_of_all, lt))) in
+    let a : initiators l.device (s.lines ++ l ∷ []) ≡ get_or (noted all l) l.device [] = initiators_push l.device [] s.lines l ∙ ap (λ ns. with_initiator l.device ns l) (sym (k.names_are l.device)) ∙ sym (noted_at all l l.device (omega (arith, k.names_of_all, lt))) in
     let b : length (s.lines ++ l ∷ []) ≡ length s.lines + 1 = length-append s.lines (l ∷ []) in
     let c : sum_by bytes_in (s.lines ++ l ∷ []) ≡ ins + bytes_in l = sum_by_push bytes_in s.lines l ∙ ap (λ n. n + bytes_in l) (sym k.ins_are) in
     let d : sum_by bytes_out (s.lines ++ l ∷ []) ≡ outs + bytes_out l = sum_by_push bytes_out s.lines l ∙ ap (λ n. n + bytes_out l) (sym k.outs_are) in
     rw (a, b, c, d) refl
-
-or_false : (a b : Bool) → (a || b) ≡ false → (a ≡ false) × (b ≡ false)
-or_false true b e = absurd (cc)
-or_false false b e = (refl, e)
 
 -- a line that breaks no rule is counted
 pub counted_more : (s : ScenarioData) (l : LineData) (all : List (List (List ℕ))) (dumps ins outs : ℕ) → Counted s.devices s.lines all dumps ins outs → l.device < length s.devices
     → dump_by s.devices (dumps + one_if (is_dump l)) l ≡ false → many_by (get_or (noted all l) l.device []) (length s.lines + 1) (ins + bytes_in l) (outs + bytes_out l) ≡ false
     → Counted s.devices (s.lines ++ l ∷ []) (noted all l) (dumps + one_if (is_dump l)) (ins + bytes_in l) (outs + bytes_out l)
 counted_more s l all dumps ins outs k lt no_dump few =
-    let h1 : ((nat_lt 16 (length (get_or (noted all l) l.device [])) || nat_lt 20000 (length s.lines + 1) || nat_lt 67108864 (ins + bytes_in l)) ≡ false) × (nat_lt 67108864 (outs + bytes_out l) ≡ false) = or_false _ _ few in
-    let h2 : ((nat_lt 16 (length (get_or (noted all l) l.device [])) || nat_lt 20000 (length s.lines + 1)) ≡ false) × (nat_lt 67108864 (ins + bytes_in l) ≡ false) = or_false _ _ h1.0 in
-    let h3 : (nat_lt 16 (length (get_or (noted all l) l.device [])) ≡ false) × (nat_lt 20000 (length s.lines + 1) ≡ false) = or_false _ _ h2.0 in
+    let h1 : ((nat_lt 16 (length (get_or (noted all l) l.device [])) || nat_lt 20000 (length s.lines + 1) || nat_lt 67108864 (ins + bytes_in l)) ≡ false) × (nat_lt 67108864 (outs + bytes_out l) ≡ false) = or_parts _ _ few in
+    let h2 : ((nat_lt 16 (length (get_or (noted all l) l.device [])) || nat_lt 20000 (length s.lines + 1)) ≡ false) × (nat_lt 67108864 (ins + bytes_in l) ≡ false) = or_parts _ _ h1.0 in
+    let h3 : (nat_lt 16 (length (get_or (noted all l) l.device [])) ≡ false) × (nat_lt 20000 (length s.lines + 1) ≡ false) = or_parts _ _ h2.0 in
     let lines : length s.lines + 1 ≤ 20000 = ltb-false _ _ h3.1 in
     record {
-      names_are = λ d. noted_at all l d (omega (arith, k.names_of_all, lt)) ∙ ap (λ ns. with_initiator d ns l) (k.names_are d) ∙ sym (initiators_from_push d [] s.lines l);
+      names_are = λ d. noted_at all l d (omega (arith, k.names_of_all, lt)) ∙ ap (λ ns. with_initiator d ns l) (k.names_are d) ∙ sym (initiators_push d [] s.lines l);
       names_of_all = noted_length all l ∙ k.names_of_all;
       dumps_are = ap (λ n. n + one_if (is_dump l)) k.dumps_are ∙ sym (dumps_push s.lines l);
       ins_are = ap (λ n. n + bytes_in l) k.ins_are ∙ sym (sum_by_push bytes_in s.lines l);
@@ -92,7 +85,7 @@ counted_more s l all dumps ins outs k lt no_dump few =
     }
   where
     few_dumps : (b c : Bool) → (b && (nat_lt 16 (dumps + one_if b) || c)) ≡ false → dumps + one_if b ≤ 16
-    few_dumps true c e = ltb-false _ _ (or_false _ _ e).0
+    few_dumps true c e = ltb-false _ _ (or_parts _ _ e).0
     few_dumps false c e = omega (arith, k.few_dumps)
 
 -- ---- one more device, before the first line

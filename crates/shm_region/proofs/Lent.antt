@@ -8,6 +8,7 @@ use Rattle.std.proofs.lemmas.Bool.Decides.{nat_tests}
 use Rattle.tcmu_types.specs.declared.iovec.Iov.{Iov}
 use Rattle.tcmu_model.specs.Regions.{RegionState, size_of, home, is_home, put_where, put_home, returned, HaveSize, can_take, taken, without, numbers_from, numbers_of, first_block, block_count, starts_block, are_whole, can_lend, named_by, StartsBlock, AreWhole, AreHome, IsOther, AreOnce, CanLend}
 use Rattle.shm_region.proofs.Sized.{set-set}
+use Rattle.std.proofs.lemmas.Bool.{and_from, and_parts}
 
 pub home_some : (o : Option (Option (List ℕ))) (p : List ℕ) → home o ≡ Some p → o ≡ Some (Some p)
 home_some None p h = cc
@@ -241,13 +242,6 @@ range_back self new front ms all list last same is after =
 
 -- ==== the rule in words
 
-first_two : (a b : Bool) → a && b ≡ true → (a ≡ true) × (b ≡ true)
-first_two true b h = (refl, h)
-first_two false b h = cc
-
-both_true : (a b : Bool) → a ≡ true → b ≡ true → a && b ≡ true
-both_true a b e f = ap (λ (w : Bool). w && b) e ∙ f
-
 starts_true : (start size : ℕ) (iov : Iov) → starts_block start size iov ≡ true → StartsBlock start size iov
 starts_true start size iov h = (grind (arith, nat_tests), grind (arith, nat_tests), grind (arith, nat_tests))
 
@@ -262,8 +256,8 @@ whole_true : (start size : ℕ) (iovs : List Iov) → are_whole start size iovs 
 whole_true start size [] h = tt
 whole_true start size (iov ∷ []) h = starts_true start size iov h
 whole_true start size (iov ∷ next ∷ iovs) h =
-    let two = first_two _ _ h in
-    let one = first_two _ _ two.0 in
+    let two = and_parts _ _ h in
+    let one = and_parts _ _ two.0 in
     (starts_true start size iov one.0, multiple _ one.1, whole_true start size (next ∷ iovs) two.1)
   where
     multiple : (n : ℕ) → n == 0 ≡ true → n ≡ 0
@@ -273,7 +267,7 @@ true_whole : (start size : ℕ) (iovs : List Iov) → AreWhole start size iovs �
 true_whole start size [] h = refl
 true_whole start size (iov ∷ []) h = true_starts start size iov h
 true_whole start size (iov ∷ next ∷ iovs) h =
-    both_true _ _ (both_true _ _ (true_starts start size iov h.0) (is_zero _ h.1)) (true_whole start size (next ∷ iovs) h.2)
+    and_from _ _ (and_from _ _ (true_starts start size iov h.0) (is_zero _ h.1)) (true_whole start size (next ∷ iovs) h.2)
   where
     is_zero : (n : ℕ) → n ≡ 0 → n == 0 ≡ true
     is_zero n h = grind (arith, nat_tests)
@@ -309,22 +303,22 @@ other_homes xs n (k ∷ ks) o h = (other_home xs n k o.0 h.0, other_homes xs n k
 take_true : (xs : List (Option (List ℕ))) (ns : List ℕ) → can_take xs ns ≡ true → AreHome xs ns × AreOnce ns
 take_true xs [] h = (tt, tt)
 take_true xs (n ∷ ns) h =
-    let two = first_two _ _ h in
+    let two = and_parts _ _ h in
     let rest = take_true (set xs n None) ns two.1 in
     let others = homes_other xs n ns rest.0 in
     ((two.0, others.1), (others.0, rest.1))
 
 true_take : (xs : List (Option (List ℕ))) (ns : List ℕ) → AreHome xs ns → AreOnce ns → can_take xs ns ≡ true
 true_take xs [] h o = refl
-true_take xs (n ∷ ns) h o = both_true _ _ h.0 (true_take (set xs n None) ns (other_homes xs n ns o.0 h.1) o.1)
+true_take xs (n ∷ ns) h o = and_from _ _ h.0 (true_take (set xs n None) ns (other_homes xs n ns o.0 h.1) o.1)
 
 pub lends_by_rule : (r : RegionState) (iovs : List Iov) → (can_lend r iovs ≡ true) ↔ CanLend r iovs
 lends_by_rule r iovs = (
   λ h.
-      let two = first_two _ _ h in
+      let two = and_parts _ _ h in
       let takes = take_true r.blocks (named_by r iovs) two.1 in
       record { whole = whole_true (length r.front) (size_of r) iovs two.0; there = takes.0; once = takes.1 },
-  λ h. both_true _ _ (true_whole (length r.front) (size_of r) iovs h.whole) (true_take r.blocks (named_by r iovs) h.there h.once),
+  λ h. and_from _ _ (true_whole (length r.front) (size_of r) iovs h.whole) (true_take r.blocks (named_by r iovs) h.there h.once),
 )
 
 -- ==== the tests of the iovecs' bounds, one by one
@@ -419,7 +413,7 @@ length-taken xs [] = refl
 length-taken xs (n ∷ ns) = ap suc (length-taken (set xs n None) ns)
 
 pub second_true : (a b : Bool) → a && b ≡ true → b ≡ true
-second_true a b h = (first_two a b h).1
+second_true a b h = (and_parts a b h).1
 
 -- ==== how many blocks are named
 

@@ -6,6 +6,7 @@ use Rattle.tcmu_model.specs.Layout.{put, padded, zeros, mailbox_bytes, device_ma
 use Rattle.tcmu_model.specs.Regions.{opening_region}
 use Rattle.tcmu_model.specs.declared.mailbox.Mailbox.{Mailbox}
 use Rattle.tcmu_model.proofs.Written.{lengths, length-zeros}
+use Rattle.tcmu_model.proofs.PartLengths.{length-mailbox}
 
 -- a text over zeros
 pub put-replicate : (n : ℕ) (text : List ℕ) → put (replicate n 0) 0 text ≡ padded n text
@@ -14,14 +15,3 @@ put-replicate n text = ap (λ (w : List ℕ). text ++ w) (ap (λ (m : ℕ). drop
   where
     none_before : (m : ℕ) → 0 + m ≡ m
     none_before m = omega arith
-
-pub length-mailbox : (m : Mailbox) → length (mailbox_bytes m) ≡ 128
-unfolding mailbox_bytes
-length-mailbox m = omega lengths
-
-pub opens_at : (s : SettingsData) → length (opening_region s).front ≡ data_start s.ring
-unfolding padded
-opens_at s =
-    let m : Mailbox = device_mailbox s.flags s.ring 0 0 in
-    let text : List ℕ = mailbox_bytes m in
-    omega (arith, length-append text (zeros (data_start s.ring - length text)), length-zeros (data_start s.ring - length text), length-mailbox m)

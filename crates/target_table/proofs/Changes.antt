@@ -5,7 +5,7 @@ use Rattle.std.specs.Option.{option_map}
 use Rattle.std.specs.List.Sorted.{IsPartitionPoint}
 use Rattle.std.proofs.lemmas.List.{get_or-set_same, get_or-set_other, get_or_append_left, length-set, map-append}
 use Rattle.std.proofs.lemmas.List.Folds.{list_any-append}
-use Rattle.std.proofs.lemmas.Bool.{cases_eq, cases_lt, cases_Bool, eqb-true, eqb-false}
+use Rattle.std.proofs.lemmas.Bool.{cases_eq, cases_lt, cases_Bool, eqb-true, eqb-false, or_parts}
 use Rattle.tcmu_model.specs.Lists.{first_of, without_first, with_first}
 use Rattle.tcmu_model.specs.Events.{is_among}
 use Rattle.tcmu_model.specs.Pending.{PendingData}
@@ -13,13 +13,11 @@ use Rattle.target_table.specs.declared.table.Ranked.{Ranked}
 use Rattle.target_table.specs.Rows.{Row, TableData, has_id, is_waiting, id_of, pending_of, with_expired, AllPrecede, IdsDiffer, IsTable, ExpiredFirst, without, without_found}
 use Rattle.target_table.specs.Kept.{place_of, at_id, or_none, row_at, rows_of, Stands, AllStand, is_ranked, IsFree, IsDistinct, IsKept}
 use Rattle.target_table.proofs.Ordered.{order-added, ids-added, differ-added, expired-added, order-without, ids-without, differ-without, length-without, some-expired, expired-without, waiting-without, order-expired, ids-expired, differ-expired, length-expired, expired-more, expired-most, first-any}
-use Rattle.target_table.proofs.Places.{row_of, row-found, any-row, there, length-rows, false-true, eqb-not, eqb-self, or-true, at-one, rank-of}
+use Rattle.target_table.proofs.Places.{row_of, row-found, any-row, there, length-rows, false-true, eqb-not, eqb-self, or-true, at-one, rank-of, none-id}
+use Rattle.tcmu_model.proofs.Rises.{among-append}
 
 pub none-some : {p : PendingData} → ◌≡◌ {A = Option PendingData} None (Some p) → ⊥
 none-some h = cc
-
-none-id : {n : ℕ} → ◌≡◌ {A = Option ℕ} None (Some n) → ⊥
-none-id h = cc
 
 -- ==== other places
 
@@ -63,13 +61,6 @@ place-other places id other p a b d = get_or-set_other places (id - 1) (other - 
 
 -- ==== free ids
 
-among-append : (xs ys : List ℕ) (m : ℕ) → is_among (xs ++ ys) m ≡ (is_among xs m || is_among ys m)
-among-append xs ys m = list_any-append (λ k. k == m) xs ys
-
-or-split : (a b : Bool) → (a || b) ≡ false → (a ≡ false) × (b ≡ false)
-or-split true b h = absurd (false-true (sym h))
-or-split false b h = (refl, h)
-
 or-case : (a b : Bool) → (a || b) ≡ true → (a ≡ true) ⊎ (b ≡ true)
 or-case true b h = inl refl
 or-case false b h = inr h
@@ -78,14 +69,14 @@ pub distinct-last : (xs : List ℕ) (x : ℕ) → IsDistinct (xs ++ x ∷ []) �
 distinct-last [] x h = (tt, refl)
 distinct-last (y ∷ ys) x h =
     let i = distinct-last ys x h.1 in
-    let s = or-split (is_among ys y) (is_among (x ∷ []) y) (sym (among-append ys (x ∷ []) y) ∙ h.0) in
-    let t = or-split (x == y) false s.1 in
+    let s = or_parts (is_among ys y) (is_among (x ∷ []) y) (sym (among-append ys (x ∷ []) y) ∙ h.0) in
+    let t = or_parts (x == y) false s.1 in
     ((s.0, i.0), rw (eqb-not y x (λ (e : y ≡ x). eqb-false x y t.0 (sym e))) i.1)
 
 pub distinct-more : (xs : List ℕ) (x : ℕ) → IsDistinct xs → is_among xs x ≡ false → IsDistinct (xs ++ x ∷ [])
 distinct-more [] x h f = (refl, tt)
 distinct-more (y ∷ ys) x h f =
-    let s = or-split (y == x) (is_among ys x) f in
+    let s = or_parts (y == x) (is_among ys x) f in
     let d : (x == y) ≡ false = eqb-not x y (λ (e : x ≡ y). eqb-false y x s.0 (sym e)) in
     (among-append ys (x ∷ []) y ∙ rw (h.0, d) refl, distinct-more ys x h.1 s.1)
 

@@ -1,10 +1,11 @@
 -- Rows in the order of their serials: what is found first, and what adding, taking out and expiring keep.
 use Rattle.std.proofs.Common.{◌≡◌, ◌≢◌, ℕ, ◌+◌, ◌-◌, ◌≤◌, ⊎_elim, Bool, true, false, not, ◌&&◌, ◌||◌, ◌==◌, List, [], ◌∷◌, ◌++◌, length, slice_get, Option, Some, None, refl, sym, ap, subst, ◌∙◌, arith, suc, zero}
 use Rattle.std.specs.List.{list_any}
-use Rattle.std.proofs.lemmas.Bool.{cases_Bool, eqb-false}
+use Rattle.std.proofs.lemmas.Bool.{cases_Bool, eqb-false, or_parts}
 use Rattle.tcmu_model.specs.Lists.{first_of, without_first, with_first}
 use Rattle.tcmu_model.specs.Pending.{PendingData}
 use Rattle.target_table.specs.Rows.{Row, has_id, is_waiting, is_due, has_passed, with_expired, NotAfter, Precedes, AllPrecede, PrecedesAll, AreInOrder, IdsDiffer, AreIds, ExpiredFirst}
+use Rattle.target_table.proofs.Places.{or-true, eqb-not}
 
 no-row : {r : Row} → ◌≡◌ {A = Option Row} None (Some r) → ⊥
 no-row h = cc
@@ -14,13 +15,6 @@ true-false h = cc
 
 eqb-yes : (a b : ℕ) → a ≡ b → (a == b) ≡ true
 eqb-yes a b d = grind arith
-
-or-yes : (b : Bool) → (b || true) ≡ true
-or-yes true = refl
-or-yes false = refl
-
-eqb-no : (a b : ℕ) → a ≢ b → (a == b) ≡ false
-eqb-no a b d = grind arith
 
 -- ==== what is due
 
@@ -85,18 +79,14 @@ pub ids-added : (rows : List Row) (r : Row) → AreIds rows → 1 ≤ r.id → r
 ids-added [] r h a b = (a, b, tt)
 ids-added (x ∷ xs) r h a b = (h.0, h.1, ids-added xs r h.2 a b)
 
-or-split : (a b : Bool) → (a || b) ≡ false → (a ≡ false) × (b ≡ false)
-or-split true b h = absurd (true-false h)
-or-split false b h = (refl, h)
-
 any-added : (id : ℕ) (rows : List Row) (r : Row) → list_any (has_id id) rows ≡ false → r.id ≢ id → list_any (has_id id) (rows ++ r ∷ []) ≡ false
-any-added id [] r h d = rw (eqb-no r.id id d) refl
-any-added id (x ∷ xs) r h d = let s = or-split (x.id == id) (list_any (has_id id) xs) h in rw s.0 (any-added id xs r s.1 d)
+any-added id [] r h d = rw (eqb-not r.id id d) refl
+any-added id (x ∷ xs) r h d = let s = or_parts (x.id == id) (list_any (has_id id) xs) h in rw s.0 (any-added id xs r s.1 d)
 
 pub differ-added : (rows : List Row) (r : Row) → IdsDiffer rows → list_any (has_id r.id) rows ≡ false → IdsDiffer (rows ++ r ∷ [])
 differ-added [] r h f = (refl, tt)
 differ-added (x ∷ xs) r h f =
-    let s = or-split (x.id == r.id) (list_any (has_id r.id) xs) f in
+    let s = or_parts (x.id == r.id) (list_any (has_id r.id) xs) f in
     (any-added x.id xs r h.0 (λ e. eqb-false x.id r.id s.0 (sym e)), differ-added xs r h.1 s.1)
 
 pub expired-added : (n : ℕ) (rows : List Row) (r : Row) → ExpiredFirst n rows → r.pending.expired ≡ false → ExpiredFirst n (rows ++ r ∷ [])
@@ -125,7 +115,7 @@ ids-without p (y ∷ ys) h =
 any-without : (p q : Row → Bool) (rows : List Row) → list_any q rows ≡ false → list_any q (without_first p rows) ≡ false
 any-without p q [] h = refl
 any-without p q (y ∷ ys) h =
-    let s = or-split (q y) (list_any q ys) h in
+    let s = or_parts (q y) (list_any q ys) h in
     ⊎_elim (λ (t : p y ≡ true). rw t s.1) (λ (f : p y ≡ false). rw (f, s.0) (any-without p q ys s.1)) (cases_Bool (p y))
 
 pub differ-without : (p : Row → Bool) (rows : List Row) → IdsDiffer rows → IdsDiffer (without_first p rows)
@@ -231,7 +221,7 @@ first-any p [] r h = absurd (no-row h)
 first-any p (y ∷ ys) r h =
     ⊎_elim
     (λ (t : p y ≡ true). let g : Some y ≡ Some r = rw t at h in let s : y ≡ r = cc in ap (λ b. b || list_any (has_id r.id) ys) (eqb-yes y.id r.id (ap (λ z. z.id) s)))
-    (λ (f : p y ≡ false). ap (λ b. (y.id == r.id) || b) (first-any p ys r (rw f at h)) ∙ or-yes (y.id == r.id))
+    (λ (f : p y ≡ false). ap (λ b. (y.id == r.id) || b) (first-any p ys r (rw f at h)) ∙ or-true (y.id == r.id))
     (cases_Bool (p y))
 
 pub expired-more : (n : ℕ) (rows : List Row) (r : Row) → ExpiredFirst n rows → IdsDiffer rows → first_of is_waiting rows ≡ Some r → ExpiredFirst (suc n) (with_first (has_id r.id) with_expired rows)
@@ -247,7 +237,7 @@ expired-more (suc n) (x ∷ xs) r e d h =
     let w : is_waiting x ≡ false = ap not e.0 in
     let g : first_of is_waiting xs ≡ Some r = rw w at h in
     let a = first-any is_waiting xs r g in
-    let f : (x.id == r.id) ≡ false = eqb-no x.id r.id (λ q. true-false (sym (ap (λ i. list_any (has_id i) xs) q ∙ a) ∙ d.0)) in
+    let f : (x.id == r.id) ≡ false = eqb-not x.id r.id (λ q. true-false (sym (ap (λ i. list_any (has_id i) xs) q ∙ a) ∙ d.0)) in
     rw f (e.0, expired-more n xs r e.1 d.1 g)
 
 pub expired-most : (n : ℕ) (rows : List Row) → ExpiredFirst n rows → n ≤ length rows

@@ -138,7 +138,7 @@ rank-stands places (x ∷ xs) (suc n) o s h =
 some-none : {n : ℕ} → ◌≡◌ {A = Option ℕ} (Some n) None → ⊥
 some-none h = cc
 
-none-id : {n : ℕ} → ◌≡◌ {A = Option ℕ} None (Some n) → ⊥
+pub none-id : {n : ℕ} → ◌≡◌ {A = Option ℕ} None (Some n) → ⊥
 none-id h = cc
 
 -- ==== the first that is not expired

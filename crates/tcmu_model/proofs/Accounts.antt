@@ -13,13 +13,13 @@ use Rattle.tcmu_model.proofs.Rises.{rise_within, among_every}
 use Rattle.tcmu_model.proofs.Basics.{rows_rise, rows_among}
 use Rattle.tcmu_model.proofs.Facts.{delayed_above}
 
-cons_logged : (e : DoneData) (es : List DoneData) (k : ℕ) → times_logged (e ∷ es) k ≡ cond (eqb e.serial k) 1 0 + times_logged es k
+pub cons_logged : (e : DoneData) (es : List DoneData) (k : ℕ) → times_logged (e ∷ es) k ≡ cond (eqb e.serial k) 1 0 + times_logged es k
 cons_logged e es k = sum_by-cons (λ (x : DoneData). cond {A = ℕ} (eqb x.serial k) 1 0) e es
 
-here : (n : ℕ) → cond {A = ℕ} (eqb n n) 1 0 ≡ 1
-here n = let z : eqb n n ≡ true = eq-eqb n n refl in rw z refl
+pub counts_itself : (n : ℕ) → cond {A = ℕ} (eqb n n) 1 0 ≡ 1
+counts_itself n = let z : eqb n n ≡ true = eq-eqb n n refl in rw z refl
 
-not_logged : (es : List DoneData) (k : ℕ) → times_logged es k ≡ 0 → is_among (map (λ e. e.serial) es) k ≡ false
+pub not_logged : (es : List DoneData) (k : ℕ) → times_logged es k ≡ 0 → is_among (map (λ e. e.serial) es) k ≡ false
 not_logged [] k h = refl
 not_logged (e ∷ es) k h =
     ⊎_elim
@@ -27,21 +27,21 @@ not_logged (e ∷ es) k h =
     (λ (z : eqb e.serial k ≡ false). rw z (not_logged es k (omega (arith, cons_logged e es k, h))))
     (cases_Bool (eqb e.serial k))
 
-once_differ : (es : List DoneData) → ((k : ℕ) → times_logged es k ≤ 1) → Differ (map (λ e. e.serial) es)
+pub once_differ : (es : List DoneData) → ((k : ℕ) → times_logged es k ≤ 1) → Differ (map (λ e. e.serial) es)
 once_differ [] h = tt
 once_differ (e ∷ es) h =
-    (not_logged es e.serial (omega (arith, cons_logged e es e.serial, here e.serial, h e.serial)), once_differ es (λ k. omega (arith, cons_logged e es k, h k)))
+    (not_logged es e.serial (omega (arith, cons_logged e es e.serial, counts_itself e.serial, h e.serial)), once_differ es (λ k. omega (arith, cons_logged e es k, h k)))
 
-some_logged : (B : ℕ → Type 0) (es : List DoneData) → ((k : ℕ) → 1 ≤ times_logged es k → B k) → Every (λ e. B e.serial) es
+pub some_logged : (B : ℕ → Type 0) (es : List DoneData) → ((k : ℕ) → 1 ≤ times_logged es k → B k) → Every (λ e. B e.serial) es
 some_logged B [] h = tt
 some_logged B (e ∷ es) h =
-    (h e.serial (omega (arith, cons_logged e es e.serial, here e.serial)), some_logged B es (λ k l. h k (omega (arith, cons_logged e es k, l))))
+    (h e.serial (omega (arith, cons_logged e es e.serial, counts_itself e.serial)), some_logged B es (λ k l. h k (omega (arith, cons_logged e es k, l))))
 
-at_most_one : (b : Bool) → cond {A = ℕ} b 1 0 ≤ 1
+pub at_most_one : (b : Bool) → cond {A = ℕ} b 1 0 ≤ 1
 at_most_one true = omega arith
 at_most_one false = omega arith
 
-some_one : (b : Bool) → 1 ≤ cond {A = ℕ} b 1 0 → b ≡ true
+pub some_one : (b : Bool) → 1 ≤ cond {A = ℕ} b 1 0 → b ≡ true
 some_one true h = refl
 some_one false h = absurd (omega (arith, h))
 

@@ -1,5 +1,5 @@
 -- A drain keeps its device attached, can always go on where the handler can answer, and ends.
-use Rattle.std.proofs.Common.{◌≡◌, ℕ, ◌+◌, ◌<◌, ◌≤◌, Bool, true, false, List, [], ◌∷◌, length, refl, sym, ap, ◌∙◌, arith, ⊎_elim, subst, if◌then◌else◌, Some, None, Option, suc, zero, inl, inr, length-append}
+use Rattle.std.proofs.Common.{◌≡◌, ℕ, ◌+◌, ◌<◌, ◌≤◌, Bool, true, false, List, [], ◌∷◌, length, refl, sym, ap, ◌∙◌, arith, ⊎_elim, subst, Some, None, Option, suc, zero, inl, inr, length-append}
 use Rattle.std.specs.List.{list_any, count_by}
 use Rattle.std.proofs.lemmas.Bool.{cases_Bool, false≢true}
 use Rattle.tcmu_types.specs.Data.{CommandData, DoneData, SettingsData}
@@ -7,13 +7,11 @@ use Rattle.tcmu_types.specs.Rules.{IsCommand}
 use Rattle.tcmu_types.specs.Events.{EventData, AnswerData, EntryData}
 use Rattle.tcmu_types.specs.Events as ev
 use Rattle.tcmu_types.specs.declared.answer.Handle.TheVariants as handle
-use Rattle.tcmu_types.specs.declared.answer.Enter.{Enter}
-use Rattle.tcmu_types.specs.declared.answer.Enter.TheVariants as enter
 use Rattle.tcmu_model.specs.declared.state.CommandState.TheVariants.{Out, Placed}
 use Rattle.tcmu_model.specs.Lists.{first_of}
 use Rattle.tcmu_model.specs.RingState.{Item, Laid, Cmd}
-use Rattle.tcmu_model.specs.Device.{Unfinished, Delayed, DeviceState, Device, is_at}
-use Rattle.tcmu_model.specs.Events.{is_handled, placing, publishable, next_item, passed, after_item, with_command, after_entering, enter_answer, after_enter, dispatch_answer, after_dispatch, after_handle, respond_answer, after_respond, publish_answer, after_publish, Books, finish, finish_all, completions, books, answered, clean_answer, after_clean}
+use Rattle.tcmu_model.specs.Device.{Unfinished, DeviceState, Device, is_at}
+use Rattle.tcmu_model.specs.Events.{with_command, enter_answer, after_enter, dispatch_answer, after_dispatch, after_handle, respond_answer, after_respond, publish_answer, after_publish, Books, finish, finish_all, completions, books, answered, clean_answer, after_clean}
 use Rattle.tcmu_model.specs.Steps.{HandlerRelation, asked, moved, Makes, Step}
 use Rattle.tcmu_model.specs.Drain.{drain_event, Drains}
 use Rattle.tcmu_model.specs.Sound.{Every, IsLaid, Along, IsItem, IsSound, times_logged, times_open, is_open_at, is_delayed_at}
@@ -23,50 +21,9 @@ use Rattle.tcmu_model.proofs.Draining.{Choice, handles, responds, publishes, cle
 use Rattle.tcmu_model.proofs.Runs.{sound_step}
 use Rattle.tcmu_model.proofs.Drained.{drained}
 use Rattle.tcmu_model.proofs.Accounts.{each_once}
+use Rattle.tcmu_model.proofs.Unnamed.{enter_kept, dispatch_kept, respond_kept, publish_kept}
 
 -- ==== the bit stays
-
-respond_attached : (d : DeviceState) (s : ℕ) → (after_respond d s).attached ≡ d.attached
-unfolding after_respond
-respond_attached d s = go (is_handled d s)
-  where
-    go : (b : Bool) → (if b then record d { unfinished = (placing d s).unfinished; placed = (placing d s).placed } else d).attached ≡ d.attached
-    go true = refl
-    go false = refl
-
-publish_attached : (d : DeviceState) → (after_publish d).attached ≡ d.attached
-unfolding after_publish
-publish_attached d = go d.attached
-  where
-    go : (b : Bool) → (if b then record d { ring = record d.ring { published = publishable d } } else d).attached ≡ d.attached
-    go true = refl
-    go false = refl
-
-abbrev found_item : DeviceState → Option Item → DeviceState
-found_item d o = elim o as (λ x. DeviceState) [ None ↦ d | Some i ↦ record d { ring = passed d.ring; unfinished = after_item d.unfinished i } ]
-
-dispatch_kept : {X : Type 0} (g : DeviceState → X) (d : DeviceState) → ((i : Item) → g (record d { ring = passed d.ring; unfinished = after_item d.unfinished i }) ≡ g d) → g (after_dispatch d) ≡ g d
-unfolding after_dispatch
-dispatch_kept g d h = go d.attached (next_item d)
-  where
-    go : (b : Bool) (o : Option Item) → g (if b then found_item d o else d) ≡ g d
-    go true None = refl
-    go true (Some i) = h i
-    go false o = refl
-
-enter_kept : {X : Type 0} (g : DeviceState → X) (d : DeviceState) → ((w : Delayed) (ws : List Delayed) → g (record (with_command d w.serial w.command) { delayed = ws }) ≡ g d) → g (after_enter d (enter_answer d)) ≡ g d
-unfolding after_enter
-enter_kept g d h = go (enter_answer d) d.delayed
-  where
-    entering : (ws : List Delayed) → g (after_entering d ws) ≡ g d
-    entering [] = refl
-    entering (w ∷ ws) = h w ws
-
-    go : (a : Enter) (ws : List Delayed) → g (after_enter d a) ≡ g d
-    go (enter.Entered s) ws = entering d.delayed
-    go enter.Empty ws = refl
-    go (enter.FullRing n f) ws = refl
-    go (enter.FullBlocks n f) ws = refl
 
 handle_attached : (R : HandlerRelation) (d d' : Device) (s : ℕ) (a : AnswerData) → Makes R d (ev.Handle s) a d' → d'.state.attached ≡ d.state.attached
 unfolding after_handle
@@ -87,12 +44,12 @@ attached_by R d d' e a (handles u h k) m = handle_attached R d d' u.serial a (su
 attached_by R d d' e a (responds u h k) m = responded a (subst (λ (x : EventData). Makes R d x a d') k m)
   where
     responded : (b : AnswerData) → Makes R d (ev.Respond u.serial) b d' → d'.state.attached ≡ d.state.attached
-    responded (ev.Responded b) m = stays d d' (after_respond d.state u.serial) m.after (respond_attached d.state u.serial)
+    responded (ev.Responded b) m = stays d d' (after_respond d.state u.serial) m.after (respond_kept (λ x. x.attached) d.state u.serial refl)
     responded _ m = absurd m
 attached_by R d d' e a (publishes h k) m = published a (subst (λ (x : EventData). Makes R d x a d') k m)
   where
     published : (b : AnswerData) → Makes R d ev.Publish b d' → d'.state.attached ≡ d.state.attached
-    published (ev.Published b) m = stays d d' (after_publish d.state) m.after (publish_attached d.state)
+    published (ev.Published b) m = stays d d' (after_publish d.state) m.after (publish_kept (λ x. x.attached) d.state refl)
     published _ m = absurd m
 attached_by R d d' e a (cleans h k) m = cleaned a (subst (λ (x : EventData). Makes R d x a d') k m)
   where
@@ -103,7 +60,7 @@ attached_by R d d' e a (enters h k) m = entered a (subst (λ (x : EventData). Ma
   where
     entered : (b : AnswerData) → Makes R d ev.Enter b d' → d'.state.attached ≡ d.state.attached
     entered (ev.Entered b) m =
-        stays d d' (after_enter d.state (enter_answer d.state)) (subst (λ x. d' ≡ moved d (after_enter d.state x)) m.answer m.after) (enter_kept (λ x. x.attached) d.state (λ w ws. refl))
+        stays d d' (after_enter d.state (enter_answer d.state)) (subst (λ x. d' ≡ moved d (after_enter d.state x)) m.answer m.after) (enter_kept (λ x. x.attached) d.state (enter_answer d.state) (λ w ws. refl))
     entered _ m = absurd m
 attached_by R d d' e a (dispatches h k) m = sent a (subst (λ (x : EventData). Makes R d x a d') k m)
   where
@@ -120,22 +77,6 @@ drain_empties R device d d' (e ∷ es) h a r =
     drain_empties R device r.2 d' es (sound_step R d r.2 e h r.3) k r.4
 
 -- ==== what is logged
-
-respond_log : (d : DeviceState) (s : ℕ) → (after_respond d s).log ≡ d.log
-unfolding after_respond
-respond_log d s = go (is_handled d s)
-  where
-    go : (b : Bool) → (if b then record d { unfinished = (placing d s).unfinished; placed = (placing d s).placed } else d).log ≡ d.log
-    go true = refl
-    go false = refl
-
-publish_log : (d : DeviceState) → (after_publish d).log ≡ d.log
-unfolding after_publish
-publish_log d = go d.attached
-  where
-    go : (b : Bool) → (if b then record d { ring = record d.ring { published = publishable d } } else d).log ≡ d.log
-    go true = refl
-    go false = refl
 
 finish_logs : (read_len : Bool) (b : Books) (s : ℕ) (o : Option Unfinished) → first_of (is_at s Placed) b.unfinished ≡ o → length b.log ≤ length (finish read_len b s).log
 finish_logs read_len b s None h = rw (finish, h) (omega arith)
@@ -228,14 +169,14 @@ unfolding with_command
 choice_made R device d e o h (handles u a k) = subst (λ (x : EventData). Made R device d x) (sym k) (out_made R device d u.serial o h a)
 choice_made R device d e o h (responds u a k) = subst (λ (x : EventData). Made R device d x) (sym k)
     (simple R device d (ev.Respond u.serial) (ev.Responded (respond_answer d.state u.serial)) (after_respond d.state u.serial) 0 (record { answer = refl; after = refl })
-    (none_logged (after_respond d.state u.serial).log d.state.log (respond_log d.state u.serial)) (respond_attached d.state u.serial))
+    (none_logged (after_respond d.state u.serial).log d.state.log (respond_kept (λ x. x.log) d.state u.serial refl)) (respond_kept (λ x. x.attached) d.state u.serial refl))
 choice_made R device d e o h (publishes a k) = subst (λ (x : EventData). Made R device d x) (sym k)
     (simple R device d ev.Publish (ev.Published (publish_answer d.state)) (after_publish d.state) 0 (record { answer = refl; after = refl })
-    (none_logged (after_publish d.state).log d.state.log (publish_log d.state)) (publish_attached d.state))
+    (none_logged (after_publish d.state).log d.state.log (publish_kept (λ x. x.log) d.state refl)) (publish_kept (λ x. x.attached) d.state refl))
 choice_made R device d e o h (cleans a k) = subst (λ (x : EventData). Made R device d x) (sym k) (clean_made R device d)
 choice_made R device d e o h (enters a k) = subst (λ (x : EventData). Made R device d x) (sym k)
     (simple R device d ev.Enter (ev.Entered (enter_answer d.state)) (after_enter d.state (enter_answer d.state)) 0 (record { answer = refl; after = refl })
-    (none_logged (after_enter d.state (enter_answer d.state)).log d.state.log (enter_kept (λ x. x.log) d.state (λ w ws. refl))) (enter_kept (λ x. x.attached) d.state (λ w ws. refl)))
+    (none_logged (after_enter d.state (enter_answer d.state)).log d.state.log (enter_kept (λ x. x.log) d.state (enter_answer d.state) (λ w ws. refl))) (enter_kept (λ x. x.attached) d.state (enter_answer d.state) (λ w ws. refl)))
 choice_made R device d e o h (dispatches a k) = subst (λ (x : EventData). Made R device d x) (sym k)
     (simple R device d ev.Dispatch (ev.Dispatched (dispatch_answer d.state)) (after_dispatch d.state) 0 (record { answer = refl; after = refl })
     (none_logged (after_dispatch d.state).log d.state.log (dispatch_kept (λ x. x.log) d.state (λ i. refl))) (dispatch_kept (λ x. x.attached) d.state (λ i. refl)))

@@ -5,7 +5,7 @@ use Rattle.std.proofs.lemmas.List.{take-take}
 use Rattle.std.proofs.lemmas.Bool.{cases_Bool, eqb-true, eqb-false}
 use Rattle.tcmu_model.specs.RingState.{Item, is_command, commands_in, front_with}
 
-commands_cons : (m : ℕ) (x : Item) (xs : List Item) → commands_in (take (m + 1) (x ∷ xs)) ≡ cond (is_command x) 1 0 + commands_in (take m xs)
+pub commands_cons : (m : ℕ) (x : Item) (xs : List Item) → commands_in (take (m + 1) (x ∷ xs)) ≡ cond (is_command x) 1 0 + commands_in (take m xs)
 commands_cons m x xs = rw add-one (sum_by-cons (λ y. cond (is_command y) 1 0) x (take m xs))
 
 -- it holds no more

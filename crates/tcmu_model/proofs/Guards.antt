@@ -1,6 +1,7 @@
 -- Chains of tests that end in a fault.
 use Rattle.std.proofs.Common.{◌≡◌, ◌≢◌, ℕ, ◌==◌, ◌≤◌, ◌<◌, not, nat_lt, nat_le, Bool, true, false, cond, Result, Ok, Err, refl, sym, ◌∙◌, arith}
 use Rattle.std.proofs.lemmas.Bool.Decides.{nat_tests}
+use Rattle.tcmu_model.specs.MailboxReading.{is_ring_size, IsRingSize}
 
 -- a chain whose answer is no fault passed its first test, and its rest answers
 pub guard_ok : {A E : Type 0} (b : Bool) (e : E) (r : Result A E) (y : A) → cond b (Err e) r ≡ Ok y → (b ≡ false) × (r ≡ Ok y)
@@ -36,3 +37,7 @@ is_most a b test = grind (arith, nat_tests)
 
 pub not_most : (a b : ℕ) → nat_le a b ≡ false → b < a
 not_most a b test = grind (arith, nat_tests)
+
+-- a size that passes the test is one of a ring
+pub is_ring_sized : (n : ℕ) → not (is_ring_size n) ≡ false → IsRingSize n
+is_ring_sized n test = record { least = grind (arith, nat_tests); most = grind (arith, nat_tests); pages = grind (arith, nat_tests) }

@@ -337,7 +337,7 @@ answered_sender : (es : List EntryData) (read_len : Bool) (c : CommandData) (e :
 answered_sender es read_len c e a =
     (ap (λ (x : DoneData). x.init) a.carries ∙ ap (λ (x : CommandData). x.init) a.sent, ap (λ (x : DoneData). x.tag) a.carries ∙ ap (λ (x : CommandData). x.tag) a.sent)
 
-abbrev HasSender : List EntryData → DoneData → Type 0
+abbrev pub HasSender : List EntryData → DoneData → Type 0
 HasSender es e = (c : CommandData) × WasAccepted es e.serial c × (e.init ≡ c.init) × (e.tag ≡ c.tag)
 
 explained_sender : (es : List EntryData) (read_len : Bool) (e : DoneData) → IsExplained es read_len e → HasSender es e

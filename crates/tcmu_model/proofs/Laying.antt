@@ -25,6 +25,9 @@ drop_laid r i n h =
 pub length_laid : (r : RingState) (i : Item) → length (with_item r i).laid ≡ length r.laid + length (pads (pad r i.len)) + 1
 length_laid r i = length-append (r.laid ++ pads (pad r i.len)) (i ∷ []) ∙ ap (λ k. k + 1) (length-append r.laid (pads (pad r i.len)))
 
+pub lengths-append : (xs ys : List Item) → lengths (xs ++ ys) ≡ lengths xs + lengths ys
+lengths-append xs ys = sum_by-append (λ i. i.len) xs ys
+
 pub lengths-pads : (n : ℕ) → lengths (pads n) ≡ n
 lengths-pads n =
     ⊎_elim

@@ -1,23 +1,20 @@
 -- A log only grows: no event takes a completion back.
-use Rattle.std.proofs.Common.{◌≡◌, ℕ, Bool, true, false, cond, ◌&&◌, nat_eq, List, [], ◌∷◌, ◌++◌, Option, Some, None, refl, sym, ap, ◌∙◌, append_assoc, ⊎_elim}
+use Rattle.std.proofs.Common.{◌≡◌, ℕ, Bool, true, false, cond, ◌&&◌, nat_eq, List, [], ◌∷◌, ◌++◌, Option, Some, None, refl, sym, ap, ◌∙◌, append_assoc}
 use Rattle.std.proofs.lemmas.List.{append-nil}
-use Rattle.std.proofs.lemmas.Bool.{cases_Bool}
 use Rattle.tcmu_types.specs.Data.{CommandData, ReplyData, DoneData}
 use Rattle.tcmu_types.specs.Events.{EventData, AnswerData, EntryData}
 use Rattle.tcmu_types.specs.Events as ev
 use Rattle.tcmu_types.specs.declared.answer.Submit.{Submit}
 use Rattle.tcmu_types.specs.declared.answer.Submit.TheVariants as submit
-use Rattle.tcmu_types.specs.declared.answer.Enter.{Enter}
-use Rattle.tcmu_types.specs.declared.answer.Enter.TheVariants as enter
 use Rattle.tcmu_types.specs.declared.answer.Handle.TheVariants as handle
 use Rattle.tcmu_types.specs.declared.answer.Tmr.{Tmr}
 use Rattle.tcmu_types.specs.declared.answer.Tmr.TheVariants as tmr
 use Rattle.tcmu_model.specs.declared.state.CommandState.TheVariants.{Placed}
 use Rattle.tcmu_model.specs.Lists.{first_of, without_first}
-use Rattle.tcmu_model.specs.RingState.{Item}
-use Rattle.tcmu_model.specs.Device.{Unfinished, Delayed, DeviceState, Device, is_at}
-use Rattle.tcmu_model.specs.Events.{after_submit, with_command, with_delayed, after_enter, after_entering, after_dispatch, next_item, passed, after_item, after_handle, after_respond, is_handled, after_publish, Books, finish, finish_all, books, answered, completions, after_clean, after_tick, after_block, emptied, count_in_hand, after_reset, after_restart, with_note, after_tmr}
+use Rattle.tcmu_model.specs.Device.{Unfinished, DeviceState, Device, is_at}
+use Rattle.tcmu_model.specs.Events.{after_submit, with_command, with_delayed, after_handle, Books, finish, finish_all, books, answered, completions, after_clean, after_tick, after_block, emptied, count_in_hand, after_reset, after_restart, with_note, after_tmr}
 use Rattle.tcmu_model.specs.Steps.{HandlerRelation, Makes}
+use Rattle.tcmu_model.proofs.Unnamed.{enter_kept, dispatch_kept, respond_kept, publish_kept}
 
 -- the later log is the earlier one with more behind it
 abbrev pub Grows : List DoneData → List DoneData → Type 0
@@ -37,46 +34,6 @@ after_submit_same d c submit.Busy = refl
 after_submit_same d c (submit.TooBig have limit) = refl
 after_submit_same d c (submit.FullRing need free) = refl
 after_submit_same d c (submit.FullBlocks need free) = refl
-
-after_entering_same : (d : DeviceState) (ws : List Delayed) → (after_entering d ws).log ≡ d.log
-unfolding with_command
-after_entering_same d [] = refl
-after_entering_same d (w ∷ ws) = refl
-
-after_enter_same : (d : DeviceState) (a : Enter) → (after_enter d a).log ≡ d.log
-unfolding after_enter
-after_enter_same d (enter.Entered s) = after_entering_same d d.delayed
-after_enter_same d enter.Empty = refl
-after_enter_same d (enter.FullRing need free) = refl
-after_enter_same d (enter.FullBlocks need free) = refl
-
-item_same : (d : DeviceState) (o : Option Item) → (elim o as (λ x. DeviceState) [ None ↦ d | Some i ↦ record d { ring = passed d.ring; unfinished = after_item d.unfinished i } ]).log ≡ d.log
-item_same d None = refl
-item_same d (Some i) = refl
-
-after_dispatch_same : (d : DeviceState) → (after_dispatch d).log ≡ d.log
-unfolding after_dispatch
-after_dispatch_same d =
-    ⊎_elim
-    (λ (e : d.attached ≡ true). rw e (item_same d (next_item d)))
-    (λ (e : d.attached ≡ false). rw e refl)
-    (cases_Bool d.attached)
-
-after_respond_same : (d : DeviceState) (s : ℕ) → (after_respond d s).log ≡ d.log
-unfolding after_respond
-after_respond_same d s =
-    ⊎_elim
-    (λ (e : is_handled d s ≡ true). rw e refl)
-    (λ (e : is_handled d s ≡ false). rw e refl)
-    (cases_Bool (is_handled d s))
-
-after_publish_same : (d : DeviceState) → (after_publish d).log ≡ d.log
-unfolding after_publish
-after_publish_same d =
-    ⊎_elim
-    (λ (e : d.attached ≡ true). rw e refl)
-    (λ (e : d.attached ≡ false). rw e refl)
-    (cases_Bool d.attached)
 
 finish_grows : (read_len : Bool) (b : Books) (s : ℕ) → Grows b.log (finish read_len b s).log
 finish_grows read_len b s = go (first_of (is_at s Placed) b.unfinished)
@@ -133,12 +90,13 @@ grows_to : (d d' : Device) (s : DeviceState) → d' ≡ record d { state = s } �
 grows_to d d' s e g = (g.0, log_of d d' s e ∙ g.1)
 
 pub makes_grows : (R : HandlerRelation) (d d' : Device) (e : EventData) (a : AnswerData) → Makes R d e a d' → Grows d.state.log d'.state.log
+unfolding with_command
 makes_grows R d d' (ev.Submit c) (ev.Submitted a) h = grows_to d d' _ h.after (same _ _ (after_submit_same d.state c a))
-makes_grows R d d' ev.Dispatch (ev.Dispatched a) h = grows_to d d' _ h.after (same _ _ (after_dispatch_same d.state))
+makes_grows R d d' ev.Dispatch (ev.Dispatched a) h = grows_to d d' _ h.after (same _ _ (dispatch_kept (λ x. x.log) d.state (λ i. refl)))
 makes_grows R d d' (ev.Handle s) (ev.Answered (handle.Done reply)) h = same _ _ (ap (λ (x : DeviceState). x.log) h.1.state ∙ handled_same d.state s reply)
 makes_grows R d d' (ev.Handle s) (ev.Answered (handle.NotOut t)) h = same _ _ (ap (λ (x : Device). x.state.log) h.2)
-makes_grows R d d' (ev.Respond s) (ev.Responded a) h = grows_to d d' _ h.after (same _ _ (after_respond_same d.state s))
-makes_grows R d d' ev.Publish (ev.Published a) h = grows_to d d' _ h.after (same _ _ (after_publish_same d.state))
+makes_grows R d d' (ev.Respond s) (ev.Responded a) h = grows_to d d' _ h.after (same _ _ (respond_kept (λ x. x.log) d.state s refl))
+makes_grows R d d' ev.Publish (ev.Published a) h = grows_to d d' _ h.after (same _ _ (publish_kept (λ x. x.log) d.state refl))
 makes_grows R d d' ev.Clean (ev.Logged n) h = grows_to d d' _ h.after (after_clean_grows d.state)
 makes_grows R d d' (ev.Tick n) (ev.Logged count) h = grows_to d d' _ h.after (after_tick_grows d.state n)
 makes_grows R d d' ev.Block (ev.Changed b) h = grows_to d d' _ h.after (same _ _ (block_same d.state true))
@@ -147,5 +105,5 @@ makes_grows R d d' (ev.Reset level) (ev.WasReset a) h = grows_to d d' _ h.after 
 makes_grows R d d' ev.Restart (ev.Lost n) h = grows_to d d' _ h.after (same _ _ (restarted_same d.state))
 makes_grows R d d' (ev.Tmr kind ss) (ev.Noted a) h = grows_to d d' _ h.after (same _ _ (after_tmr_same d.state kind ss a))
 makes_grows R d d' ev.Stat (ev.Told a) h = same _ _ (ap (λ (x : Device). x.state.log) h.after)
-makes_grows R d d' ev.Enter (ev.Entered a) h = grows_to d d' _ h.after (same _ _ (after_enter_same d.state a))
+makes_grows R d d' ev.Enter (ev.Entered a) h = grows_to d d' _ h.after (same _ _ (enter_kept (λ x. x.log) d.state a (λ w ws. refl)))
 makes_grows R d d' _ _ h = absurd h

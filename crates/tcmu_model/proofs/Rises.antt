@@ -7,6 +7,7 @@ use Rattle.std.proofs.lemmas.List.Folds.{list_any-append}
 use Rattle.tcmu_model.specs.Events.{is_among}
 use Rattle.tcmu_model.specs.Sound.{Every, Rise, Differ}
 use Rattle.tcmu_model.proofs.Everies.{every-weaker}
+use Rattle.tcmu_model.specs.Lists.{IsRising}
 
 pub rise_order : (low : ℕ) (xs : List ℕ) (high : ℕ) → Rise low xs high → low ≤ high
 rise_order low [] high h = h
@@ -191,3 +192,11 @@ count_differ low xs high (s ∷ ss) r d h = omega (arith, split xs, one low xs r
           where
             over : (low y : ℕ) → s ≤ low → low < y → y ≡ s → ⊥
             over low y l m q = omega arith
+
+pub differ_front : (xs ys : List ℕ) → Differ (xs ++ ys) → Differ xs
+differ_front [] ys d = tt
+differ_front (x ∷ xs) ys d = ((or_parts (is_among xs x) (is_among ys x) (sym (among-append xs ys x) ∙ d.0)).0, differ_front xs ys d.1)
+
+pub rising_rest : (x : ℕ) (xs : List ℕ) → IsRising (x ∷ xs) → IsRising xs
+rising_rest x [] h = tt
+rising_rest x (y ∷ ys) h = h.1

@@ -1,7 +1,7 @@
 -- What is read of a scenario text keeps the limits of scenarios.
 use Rattle.std.proofs.Common.{◌≡◌, ◌≢◌, ℕ, ◌+◌, ◌≤◌, Bool, true, false, cond, ◌&&◌, ◌||◌, not, nat_eq, nat_lt, List, [], ◌∷◌, ◌++◌, length, Option, Some, None, Result, Ok, Err, refl, sym, ap, ◌∙◌, arith, subst, length-append}
 use Rattle.std.specs.List.{list_all, count_by, sum_by}
-use Rattle.std.proofs.lemmas.Bool.{cond-false, ltb-false, eqb-true}
+use Rattle.std.proofs.lemmas.Bool.{cond-false, ltb-false, eqb-true, or_parts}
 use Rattle.std.proofs.lemmas.List.Elements.{All-nil, All-push}
 use Rattle.std.proofs.lemmas.List.Quantifiers.{all_pairs_push}
 use Rattle.std.proofs.lemmas.List.Sums.{sum_by_push}
@@ -15,12 +15,12 @@ use Rattle.tcmu_model.specs.Scenario.{with_name, with_initiator, initiators, ini
 use Rattle.tcmu_model.specs.ScenarioRules.{IsDeviceLine, IsLine, IsScenario}
 use Rattle.tcmu_model.specs.declared.faults.Why.{Why}
 use Rattle.tcmu_model.specs.declared.faults.Why.TheVariants as why
-use Rattle.tcmu_model.proofs.Readings.{same_ok, step, read_step, not_false, neither, none_any, other_bytes}
+use Rattle.tcmu_model.proofs.Readings.{same_ok, step, read_step, not_false, none_any, other_bytes}
 use Rattle.tcmu_model.proofs.SaidLaws.{IsNewDevice, IsNewLine, IsSaid, said_is}
 
 -- ---- initiators
 
-initiators_push : (d : ℕ) (names : List (List ℕ)) (ls : List LineData) (l : LineData) → initiators_from d names (ls ++ l ∷ []) ≡ with_initiator d (initiators_from d names ls) l
+pub initiators_push : (d : ℕ) (names : List (List ℕ)) (ls : List LineData) (l : LineData) → initiators_from d names (ls ++ l ∷ []) ≡ with_initiator d (initiators_from d names ls) l
 initiators_push d names [] l = refl
 initiators_push d names (k ∷ ls) l = initiators_push d (with_initiator d names k) ls l
 
@@ -46,15 +46,15 @@ record IsRoom (s : ScenarioData) (l : LineData) : Type 0 where
 dump_room : (s : ScenarioData) (l : LineData) → breaks_dump s l ≡ false → is_dump l ≡ true → (count_by is_dump (s.lines ++ l ∷ []) ≤ 16) × (small_at s.devices l.device ≡ true)
 unfolding breaks_dump
 dump_room s l e d =
-    let h = neither (nat_lt 16 (count_by is_dump (s.lines ++ l ∷ []))) (not (small_at s.devices l.device)) (ap (λ b. b && (nat_lt 16 (count_by is_dump (s.lines ++ l ∷ [])) || not (small_at s.devices l.device))) (sym d) ∙ e) in
+    let h = or_parts (nat_lt 16 (count_by is_dump (s.lines ++ l ∷ []))) (not (small_at s.devices l.device)) (ap (λ b. b && (nat_lt 16 (count_by is_dump (s.lines ++ l ∷ [])) || not (small_at s.devices l.device))) (sym d) ∙ e) in
     (ltb-false _ _ h.0, not_false _ h.1)
 
 many_room : (ls : List LineData) (device : ℕ) → breaks_many ls device ≡ false → (length (initiators device ls) ≤ 16) × (length ls ≤ 20000) × (sum_by bytes_in ls ≤ 67108864) × (sum_by bytes_out ls ≤ 67108864)
 unfolding breaks_many
 many_room ls device e =
-    let a = neither (nat_lt 16 (length (initiators device ls)) || nat_lt 20000 (length ls) || nat_lt 67108864 (sum_by bytes_in ls)) (nat_lt 67108864 (sum_by bytes_out ls)) e in
-    let b = neither (nat_lt 16 (length (initiators device ls)) || nat_lt 20000 (length ls)) (nat_lt 67108864 (sum_by bytes_in ls)) a.0 in
-    let c = neither (nat_lt 16 (length (initiators device ls))) (nat_lt 20000 (length ls)) b.0 in
+    let a = or_parts (nat_lt 16 (length (initiators device ls)) || nat_lt 20000 (length ls) || nat_lt 67108864 (sum_by bytes_in ls)) (nat_lt 67108864 (sum_by bytes_out ls)) e in
+    let b = or_parts (nat_lt 16 (length (initiators device ls)) || nat_lt 20000 (length ls)) (nat_lt 67108864 (sum_by bytes_in ls)) a.0 in
+    let c = or_parts (nat_lt 16 (length (initiators device ls))) (nat_lt 20000 (length ls)) b.0 in
     (ltb-false _ _ c.0, ltb-false _ _ c.1, ltb-false _ _ b.1, ltb-false _ _ a.1)
 
 pub kept_line : (s t : ScenarioData) (l : LineData) → with_line s l ≡ Ok t → (record s { lines = s.lines ++ l ∷ [] } ≡ t) × (breaks_dump s l ≡ false) × (breaks_many (s.lines ++ l ∷ []) l.device ≡ false)

@@ -163,7 +163,7 @@ due_open now k (u ∷ us) =
     always true = refl
     always false = refl
 
-left_delayed : (now k : ℕ) (ws : List Delayed) → times_logged (map departure (filter (has_left now) ws)) k + count_by (is_delayed_at k) (filter (λ w. not (has_left now w)) ws) ≡ count_by (is_delayed_at k) ws
+pub left_delayed : (now k : ℕ) (ws : List Delayed) → times_logged (map departure (filter (has_left now) ws)) k + count_by (is_delayed_at k) (filter (λ w. not (has_left now w)) ws) ≡ count_by (is_delayed_at k) ws
 left_delayed now k [] = refl
 left_delayed now k (w ∷ ws) =
     let a : count_by (is_delayed_at k) (w ∷ ws) ≡ cond (eqb w.serial k) 1 0 + count_by (is_delayed_at k) ws = sum_by-cons (λ (v : Delayed). cond {A = ℕ} (is_delayed_at k v) 1 0) w ws in
@@ -178,11 +178,11 @@ left_delayed now k (w ∷ ws) =
     omega (arith, a, c, f, left_delayed now k ws))
     (cases_Bool (has_left now w))
 
-rise_behind : (low : ℕ) (xs ys zs : List ℕ) (high : ℕ) → ((l : ℕ) → Rise l ys high → Rise l zs high) → Rise low (xs ++ ys) high → Rise low (xs ++ zs) high
+pub rise_behind : (low : ℕ) (xs ys zs : List ℕ) (high : ℕ) → ((l : ℕ) → Rise l ys high → Rise l zs high) → Rise low (xs ++ ys) high → Rise low (xs ++ zs) high
 rise_behind low [] ys zs high h r = h low r
 rise_behind low (x ∷ xs) ys zs high h r = (r.0, rise_behind x xs ys zs high h r.1)
 
-delayed_rise : (p : Delayed → Bool) (low : ℕ) (ws : List Delayed) (high : ℕ) → Rise low (delayed_serials ws) high → Rise low (delayed_serials (filter p ws)) high
+pub delayed_rise : (p : Delayed → Bool) (low : ℕ) (ws : List Delayed) (high : ℕ) → Rise low (delayed_serials ws) high → Rise low (delayed_serials (filter p ws)) high
 delayed_rise p low [] high h = h
 delayed_rise p low (w ∷ ws) high h =
     ⊎_elim
@@ -265,7 +265,7 @@ reset_open level k (u ∷ us) =
     always true = refl
     always false = refl
 
-reset_delayed : (level k : ℕ) (ws : List Delayed) → times_logged (map (λ w. reset_completion level w.serial w.command) ws) k ≡ count_by (is_delayed_at k) ws
+pub reset_delayed : (level k : ℕ) (ws : List Delayed) → times_logged (map (λ w. reset_completion level w.serial w.command) ws) k ≡ count_by (is_delayed_at k) ws
 reset_delayed level k [] = refl
 reset_delayed level k (w ∷ ws) =
     let a : count_by (is_delayed_at k) (w ∷ ws) ≡ cond (eqb w.serial k) 1 0 + count_by (is_delayed_at k) ws = sum_by-cons (λ (v : Delayed). cond {A = ℕ} (is_delayed_at k v) 1 0) w ws in

@@ -52,7 +52,7 @@ open_push k s us u e x =
     opened true = refl
     opened false = refl
 
-none_waits : (ws : List Delayed) → (length ws == 0) ≡ true → ws ≡ []
+pub none_waits : (ws : List Delayed) → (length ws == 0) ≡ true → ws ≡ []
 none_waits [] h = refl
 none_waits (w ∷ ws) h = absurd (positive (length ws) (eqb-true (length (w ∷ ws)) 0 h))
   where
@@ -70,7 +70,7 @@ sound_queued d c h isc fr fb none =
     h.room.delayed (λ q. none)
     (λ k. omega (arith, h.serials.accounted k, accepted_more n k, open_push k (n + 1) d.unfinished (waiting d (n + 1) c) refl refl))
 
-delayed_push : (k s : ℕ) (ws : List Delayed) (w : Delayed) → w.serial ≡ s → count_by (is_delayed_at k) (ws ++ w ∷ []) ≡ count_by (is_delayed_at k) ws + cond (eqb s k) 1 0
+pub delayed_push : (k s : ℕ) (ws : List Delayed) (w : Delayed) → w.serial ≡ s → count_by (is_delayed_at k) (ws ++ w ∷ []) ≡ count_by (is_delayed_at k) ws + cond (eqb s k) 1 0
 delayed_push k s ws w e =
     let a : count_by (is_delayed_at k) (ws ++ w ∷ []) ≡ count_by (is_delayed_at k) ws + cond (is_delayed_at k w) 1 0 = sum_by_push (λ (v : Delayed). cond {A = ℕ} (is_delayed_at k v) 1 0) ws w in
     let b : cond {A = ℕ} (is_delayed_at k w) 1 0 ≡ cond (eqb s k) 1 0 = rw e refl in

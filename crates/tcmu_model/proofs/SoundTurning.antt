@@ -20,6 +20,7 @@ use Rattle.tcmu_model.proofs.Places.{within}
 use Rattle.tcmu_model.proofs.Turning.{turning, turned_map}
 use Rattle.tcmu_model.proofs.Basics.{laid_rise, rows_rise, serials_split}
 use Rattle.tcmu_model.proofs.Rows.{Same, SameRows, rows-turned, state_kept, serials_same, room_same, undispatched_waits, parked_kept}
+use Rattle.tcmu_model.proofs.Unnamed.{found_item}
 
 -- ==== the next item
 
@@ -176,9 +177,6 @@ item_sent : (d : DeviceState) (n : ℕ) (l : Laid) → d.attached ≡ true → n
 item_sent d n Pad a e h = other_sent d (record { len = n; laid = Pad }) e refl h
 item_sent d n (Tmr k ss) a e h = other_sent d (record { len = n; laid = Tmr k ss }) e refl h
 item_sent d n (Cmd s c) a e h = command_sent d n s c a e h
-
-abbrev found_item : DeviceState → Option Item → DeviceState
-found_item d o = elim o as (λ x. DeviceState) [ None ↦ d | Some i ↦ record d { ring = passed d.ring; unfinished = after_item d.unfinished i } ]
 
 item_found : (d : DeviceState) (o : Option Item) → d.attached ≡ true → next_item d ≡ o → IsSound d → IsSound (found_item d o)
 item_found d None a e h = h

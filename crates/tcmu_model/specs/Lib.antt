@@ -49,3 +49,4 @@ pub mod Owned
 pub mod Hostile
 pub mod Shown
 pub mod SideExamples
+pub mod EntryWriting

@@ -26,6 +26,11 @@ pub record Asked : Type 0 where
 abbrev pub asked : CommandData → Asked
 asked c = record { cdb = c.cdb; sent = c.sent; in_len = c.in_len }
 
+-- how many commands an event accepts at most
+abbrev pub accepted_by : EventData → ℕ
+accepted_by (ev.Submit c) = 1
+accepted_by _ = 0
+
 -- what a handler may do: its name, the medium before, what it is asked, its reply, the medium after
 abbrev pub HandlerRelation : Type 1
 HandlerRelation = List ℕ → MediumState → Asked → ReplyData → MediumState → Type 0

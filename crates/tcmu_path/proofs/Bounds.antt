@@ -13,6 +13,10 @@ use Rattle.tcmu_path.specs.Fresh.{AreAway}
 use Rattle.tcmu_model.proofs.Facts.{bounded_rows}
 use Rattle.tcmu_model.proofs.Everies.{every-filter}
 use Rattle.tcmu_path.specs.Tallies.{serials_of}
+use Rattle.tcmu_model.proofs.Readings.{not_true}
+use Rattle.tcmu_model.proofs.Rises.{differ_front, rise_order}
+use Rattle.tcmu_model.proofs.Standing.{rise_differ}
+use Rattle.tcmu_model.proofs.Accounts.{at_most_one}
 
 -- ==== few commands are unfinished
 
@@ -22,14 +26,6 @@ few_rows d h =
     omega (arith, b, h.ring.room, h.ring.size, h.settings.ring_high)
 
 -- ==== serials that are named in a note
-
-at_most_one : (b : Bool) → cond {A = ℕ} b 1 0 ≤ 1
-at_most_one true = omega arith
-at_most_one false = omega arith
-
-not-true : (b : Bool) → not b ≡ true → b ≡ false
-not-true true h = absurd (false≢true h)
-not-true false h = refl
 
 above : ℕ → Unfinished → Bool
 above n u = ltb n u.serial
@@ -111,18 +107,8 @@ rise-none low s (x ∷ xs) high r h =
     let no : eqb x s ≡ false = ne_eqb x s (λ q. omega (arith, r.0, h, q)) in
     rw no (rise-none x s xs high r.1 (omega (arith, r.0, h)))
 
-rise-differ : (low : ℕ) (xs : List ℕ) (high : ℕ) → Rise low xs high → Differ xs
-rise-differ low [] high r = tt
-rise-differ low (x ∷ xs) high r = (rise-none x x xs high r.1 (omega arith), rise-differ x xs high r.1)
-
-differ-front : (xs ys : List ℕ) → Differ (xs ++ ys) → Differ xs
-differ-front [] ys h = tt
-differ-front (x ∷ xs) ys h =
-    let b : is_among (xs ++ ys) x ≡ (is_among xs x || is_among ys x) = list_any-append (λ k. eqb k x) xs ys in
-    ((or_parts (is_among xs x) (is_among ys x) (sym b ∙ h.0)).0, differ-front xs ys h.1)
-
 pub laid_differ : (d : DeviceState) → IsSound d → Differ (serials_in d.ring.laid)
-laid_differ d h = differ-front (serials_in d.ring.laid) (delayed_serials d.delayed) (rise-differ 0 (serials_in d.ring.laid ++ delayed_serials d.delayed) d.accepted h.serials.rise)
+laid_differ d h = differ_front (serials_in d.ring.laid) (delayed_serials d.delayed) (rise_differ 0 (serials_in d.ring.laid ++ delayed_serials d.delayed) d.accepted h.serials.rise)
 
 -- ==== what is cleared is of commands that are finished
 
@@ -136,7 +122,7 @@ filter-passes p (x ∷ xs) =
 
 away-map : (gone : List ℕ) (us : List Unfinished) → Every (λ s. not (is_among gone s) ≡ true) (map (λ u. u.serial) us) → AreAway gone us
 away-map gone [] h = tt
-away-map gone (u ∷ us) h = (not-true (is_among gone u.serial) h.0, away-map gone us h.1)
+away-map gone (u ∷ us) h = (not_true (is_among gone u.serial) h.0, away-map gone us h.1)
 
 -- no unfinished command is finished
 pub away : (d : DeviceState) → IsSound d → AreAway (finished d) d.unfinished
@@ -146,13 +132,9 @@ away d h =
 
 -- ==== a command that is laid comes behind the others
 
-rise-bound : (low : ℕ) (xs : List ℕ) (high : ℕ) → Rise low xs high → low ≤ high
-rise-bound low [] high r = r
-rise-bound low (x ∷ xs) high r = omega (arith, r.0, rise-bound x xs high r.1)
-
 below-high : (low : ℕ) (xs ys : List ℕ) (high : ℕ) → Rise low (xs ++ ys) high → Every (λ s. s < high + 1) xs
 below-high low [] ys high r = tt
-below-high low (x ∷ xs) ys high r = (omega (arith, rise-bound x (xs ++ ys) high r.1), below-high x xs ys high r.1)
+below-high low (x ∷ xs) ys high r = (omega (arith, rise_order x (xs ++ ys) high r.1), below-high x xs ys high r.1)
 
 before-next : (low : ℕ) (xs : List ℕ) (y : ℕ) (ys : List ℕ) (high : ℕ) → Rise low (xs ++ y ∷ ys) high → (low < y) × Every (λ s. s < y) xs
 before-next low [] y ys high r = (r.0, tt)

@@ -11,6 +11,7 @@ use Rattle.tcmu_model.specs.RingState.{Item, Laid, Pad, Cmd, Tmr, serial_in, ser
 use Rattle.tcmu_model.specs.Device.{Unfinished, is_at}
 use Rattle.tcmu_model.specs.Events.{Placing, is_among, with_placed, run_placed}
 use Rattle.tcmu_model.specs.Sound.{Every, Differ}
+use Rattle.tcmu_model.proofs.Rises.{every-among}
 
 -- a parked command that is not placed is placed
 pub goes : (p : Placing) (s : ℕ) (rest : List ℕ) → is_among p.placed s ≡ false → list_any (is_at s Parked) p.unfinished ≡ true → run_placed p (s ∷ rest) ≡ run_placed (with_placed p s) rest
@@ -67,10 +68,6 @@ every-weaker : (x : ℕ) (xs ss : List ℕ) → Every (λ s. is_among xs s ≡ t
 every-weaker x xs [] h = tt
 every-weaker x xs (s ∷ ss) h = (among-more x s xs h.0, every-weaker x xs ss h.1)
 
-own : (xs : List ℕ) → Every (λ s. is_among xs s ≡ true) xs
-own [] = tt
-own (x ∷ xs) = (or_left (x == x) (is_among xs x) (eq-eqb x x refl), every-weaker x xs xs (own xs))
-
 -- the serials before a place, and those from there on
 pub serials-cut : (items : List Item) (n : ℕ) → serials_in items ≡ serials_in (take n items) ++ serials_in (drop n items)
 serials-cut items n = ap serials_in (sym (take-append-drop n items)) ∙ flat_map-append serial_in (take n items) (drop n items)
@@ -80,7 +77,7 @@ pub run_from : (placed : List ℕ) (us : List Unfinished) (items : List Item) (n
 run_from placed us items n e =
     let p : Placing = record { placed = placed; unfinished = us } in
     let cut : serials_in items ≡ placed ++ serials_in (drop n items) = serials-cut items n ∙ ap (λ ss. ss ++ serials_in (drop n items)) (sym e) in
-    sym (ap (run_placed p) cut ∙ passes p placed (serials_in (drop n items)) (own placed))
+    sym (ap (run_placed p) cut ∙ passes p placed (serials_in (drop n items)) (every-among placed))
 
 -- the serials of a longer front
 pub serials-front : (items : List Item) (n k : ℕ) → serials_in (take (n + k) items) ≡ serials_in (take n items) ++ serials_in (take k (drop n items))

@@ -92,9 +92,6 @@ HasNumbers-clear r h u c p gone t e =
       published_is = t.published_is;
     }
 
-commands_cons : (m : ℕ) (x : Item) (xs : List Item) → commands_in (take (m + 1) (x ∷ xs)) ≡ cond (is_command x) 1 0 + commands_in (take m xs)
-commands_cons m x xs = rw add-one (sum_by-cons (λ y. cond (is_command y) 1 0) x (take m xs))
-
 -- a front that is allowed is the beginning of the longest one
 pub front_past : (n p : ℕ) (xs : List Item) → p ≤ length xs → commands_in (take p xs) ≤ n → front_with n xs ≡ p + front_with (n - commands_in (take p xs)) (drop p xs)
 front_past n zero xs l h = let e : n - commands_in (take 0 xs) ≡ n = omega arith in let k : front_with (n - commands_in (take 0 xs)) xs ≡ front_with n xs = ap (λ m. front_with m xs) e in omega (arith, k)

@@ -11,6 +11,7 @@ use Rattle.tcmu_model.specs.Sound.{Every}
 use Rattle.tcmu_model.proofs.Firsts.{any_at}
 use Rattle.tcmu_model.proofs.Everies.{every-weaker, every-mapped}
 use Rattle.tcmu_path.specs.Tallies.{serials_of}
+use Rattle.tcmu_model.proofs.Rises.{rising_rest}
 
 -- ==== numbers that rise
 
@@ -21,10 +22,6 @@ above-every n (x ∷ xs) h = (h.0, every-weaker (λ y. x < y) (λ y. n < y) xs (
 above-lower : (n m : ℕ) (xs : List ℕ) → n ≤ m → RisesAbove m xs → RisesAbove n xs
 above-lower n m [] l h = tt
 above-lower n m (x ∷ xs) l h = (omega (arith, l, h.0), h.1)
-
-pub rises-tail : (x : ℕ) (xs : List ℕ) → IsRising (x ∷ xs) → IsRising xs
-rises-tail x [] h = tt
-rises-tail x (y ∷ xs) h = h.1
 
 pub rises-head : (x : ℕ) (xs : List ℕ) → IsRising (x ∷ xs) → Every (λ y. x < y) xs
 rises-head x xs h = above-every x xs h
@@ -56,7 +53,7 @@ pub rises_taken : (p : Unfinished → Bool) (us : List Unfinished) → IsRising 
 rises_taken p [] h = tt
 rises_taken p (u ∷ us) h =
     ⊎_elim
-    (λ (e : p u ≡ true). rw e (rises-tail u.serial (serials_of us) h))
+    (λ (e : p u ≡ true). rw e (rising_rest u.serial (serials_of us) h))
     (λ (e : p u ≡ false). rw e (above-taken u.serial p us h))
     (cases_Bool (p u))
 
@@ -86,7 +83,7 @@ nondecreasing (u ∷ us) h zero (suc j) d l m =
     let a : u.serial < (get_or us j d).serial = every-at (λ v. u.serial < v.serial) us j d (behind u us h) (omega (arith, m)) in
     omega (arith, a)
 nondecreasing (u ∷ us) h (suc i) zero d l m = absurd (omega (arith, l))
-nondecreasing (u ∷ us) h (suc i) (suc j) d l m = nondecreasing us (rises-tail u.serial (serials_of us) h) i j d (omega (arith, l)) (omega (arith, m))
+nondecreasing (u ∷ us) h (suc i) (suc j) d l m = nondecreasing us (rising_rest u.serial (serials_of us) h) i j d (omega (arith, l)) (omega (arith, m))
 
 -- what passes has the serial s
 abbrev pub Only : (Unfinished → Bool) → ℕ → Type 0
@@ -118,7 +115,7 @@ none_there p s (u ∷ us) zero o h below above bad =
 none_there p s (u ∷ us) (suc n) o h below above bad =
     let less : u.serial < s = below 0 u (omega arith) in
     let z : p u ≡ false = fails p s o u (λ q. omega (arith, q, less)) in
-    rw z (none_there p s us n o (rises-tail u.serial (serials_of us) h) (λ k d l. below (suc k) d (omega (arith, l))) (λ d l. above d (omega (arith, l))) (λ d l. bad d (omega (arith, l))))
+    rw z (none_there p s us n o (rising_rest u.serial (serials_of us) h) (λ k d l. below (suc k) d (omega (arith, l))) (λ d l. above d (omega (arith, l))) (λ d l. bad d (omega (arith, l))))
 
 -- all before place n have a lesser serial, and the one there passes
 pub first_there : (p : Unfinished → Bool) (s : ℕ) (us : List Unfinished) (n : ℕ) (x : Unfinished) → Only p s

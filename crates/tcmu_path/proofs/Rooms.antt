@@ -15,10 +15,7 @@ use Rattle.std.proofs.Common.{◌++◌, length}
 use Rattle.tcmu_model.proofs.Counts.{sum-with_first_less, sum-with_first_same, sum-without_first, sum-with_first_le, sum-map_same, sum-map_le, state_at, state_same}
 use Rattle.tcmu_model.proofs.Firsts.{any-with_first}
 use Rattle.tcmu_path.specs.Room.{may_be_placed, is_placeable, to_place, to_log, held_by, KeepsRoom}
-
-at_most_one : (b : Bool) → cond {A = ℕ} b 1 0 ≤ 1
-at_most_one true = omega arith
-at_most_one false = omega arith
+use Rattle.tcmu_model.proofs.Accounts.{at_most_one}
 
 -- a parked command that is placed is no more to be placed
 pub to_place_less : (s : ℕ) (us : List Unfinished) → list_any (is_at s Parked) us ≡ true → to_place (turned s Parked Placed us) + 1 ≡ to_place us

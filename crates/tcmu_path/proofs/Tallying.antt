@@ -9,7 +9,8 @@ use Rattle.tcmu_model.specs.Device.{Unfinished}
 use Rattle.tcmu_model.specs.Sound.{Every}
 use Rattle.tcmu_model.proofs.Counts.{sum-with_first_less, sum-with_first_same, sum-map_same}
 use Rattle.tcmu_path.specs.Tallies.{serials_of, lesser, without}
-use Rattle.tcmu_path.proofs.Rising.{rises-tail, rises-head}
+use Rattle.tcmu_path.proofs.Rising.{rises-head}
+use Rattle.tcmu_model.proofs.Rises.{rising_rest}
 
 -- the serial of the first that passes
 abbrev least : (Unfinished → Bool) → List Unfinished → Option ℕ
@@ -55,7 +56,7 @@ entered p q g s (u ∷ us) k was is same h a =
     let less : u.serial < s = serial-among q s u.serial us k r (rises-head u.serial (serials_of us) h) in
     let yes : ltb u.serial s ≡ true = lt-ltb u.serial s less in
     rw (e, f, yes) refl)
-    (λ (f : p u ≡ false). rw (e, f) (entered p q g s us k was is same (rises-tail u.serial (serials_of us) h) r))
+    (λ (f : p u ≡ false). rw (e, f) (entered p q g s us k was is same (rising_rest u.serial (serials_of us) h) r))
     (cases_Bool (p u)))
     (cases_Bool (q u))
 

@@ -13,11 +13,6 @@ CanBeMade (ev.Reset level) = (1 ≤ level) × (level ≤ 2)
 CanBeMade (ev.Tmr kind serials) = (1 ≤ kind) × (kind ≤ 7) × IsRising serials
 CanBeMade _ = Unit {0}
 
--- how many commands an event accepts at most
-abbrev pub accepted_by : EventData → ℕ
-accepted_by (ev.Submit c) = 1
-accepted_by _ = 0
-
 -- an event within its limits, or a drain; dumps are not served yet
 abbrev pub IsFit : LineWhat → Type 0
 IsFit (line.Makes event) = IsEvent event

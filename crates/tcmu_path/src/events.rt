@@ -2,10 +2,10 @@
 ghost use Rattle.std.specs.Prelude.{◌≡◌, ℕ, ◌^◌, ◌≤◌, ◌<◌, length, drop, IfOk, IfSome, OnOk, OnErr, IsErrOf};
 ghost use Rattle.std.specs.Option.{option_map};
 ghost use Rattle.tcmu_types.specs.Views.{event_data, answer_data};
-ghost use Rattle.tcmu_model.specs.Steps.{Makes};
+ghost use Rattle.tcmu_model.specs.Steps.{Makes, accepted_by};
 ghost use Rattle.tcmu_model.specs.Drain.{chosen};
 ghost use Rattle.tcmu_path.specs.Calls.{Accepts};
-ghost use Rattle.tcmu_path.specs.Tasks.{CanBeMade, accepted_by};
+ghost use Rattle.tcmu_path.specs.Tasks.{CanBeMade};
 
 use crate::Path;
 use std::alloc::Global;

@@ -13,12 +13,14 @@ use Rattle.tcmu_model.specs.Several.{Journaled, IsLegalEach, journaled_text}
 use Rattle.tcmu_model.proofs.Everies.{every-front, every-back}
 use Rattle.tcmu_model.proofs.Runs.{sound_run}
 use Rattle.tcmu_top.specs.Playing.{WroteOn, WroteOnFront, WroteEach, WroteEachFront}
-use Rattle.tcmu_top.proofs.Legal.{entries, AreOf, piece_of, piece_text, legal_none, legal_one, legal_append}
-use Rattle.tcmu_top.proofs.Places.{get_set_same, every_get, every_set}
+use Rattle.tcmu_top.proofs.Legal.{AreOf, piece_of, piece_text, legal_none, legal_one, legal_append}
+use Rattle.tcmu_top.proofs.Places.{get_set_same, every_set}
 use Rattle.tcmu_top.proofs.RunTexts.{run_append}
 use Rattle.tcmu_top.proofs.Telling.{gained_none, gained_more, gained_as, front_behind}
+use Rattle.tcmu_model.proofs.Indexed.{every_at}
+use Rattle.text_laws.specs.Replays.{entries_of}
 
--- what entries there may be, and where they may lead
+-- what entries_of there may be, and where they may lead
 abbrev pub Leads : Type 1
 Leads = List EntryData → List Device → Type 0
 
@@ -26,7 +28,7 @@ Leads = List EntryData → List Device → Type 0
 pub record SoFar (R : HandlerRelation) (ls : List DeviceLineData) (Next Whole : Leads) (start ds : List Device) (old now : Option (List ℕ)) : Type 0 where
   pub sofar : List Journaled
   pub legal : IsLegalEach R start sofar ds
-  pub goes_on : (rest : List EntryData) (ends : List Device) → Next rest ends → Whole (entries sofar ++ rest) ends
+  pub goes_on : (rest : List EntryData) (ends : List Device) → Next rest ends → Whole (entries_of sofar ++ rest) ends
   pub wrote : Gained old (flat_map (journaled_text ls) sofar) now
   pub sound : Every (λ d. IsSound d.state) ds
   pub count : length ds ≡ length start
@@ -35,8 +37,8 @@ pub sofar_first : (R : HandlerRelation) (ls : List DeviceLineData) (Whole : Lead
 sofar_first R ls Whole ds old sound =
     record { sofar = []; legal = legal_none R ds; goes_on = λ rest ends h. h; wrote = gained_none old; sound = sound; count = refl }
 
-entries_append : (xs ys : List Journaled) (rest : List EntryData) → entries xs ++ (entries ys ++ rest) ≡ entries (xs ++ ys) ++ rest
-entries_append xs ys rest = sym (append_assoc (entries xs) (entries ys) rest) ∙ ap (λ (l : List EntryData). l ++ rest) (sym (map-append (λ (j : Journaled). j.entry) xs ys))
+entries_append : (xs ys : List Journaled) (rest : List EntryData) → entries_of xs ++ (entries_of ys ++ rest) ≡ entries_of (xs ++ ys) ++ rest
+entries_append xs ys rest = sym (append_assoc (entries_of xs) (entries_of ys) rest) ∙ ap (λ (l : List EntryData). l ++ rest) (sym (map-append (λ (j : Journaled). j.entry) xs ys))
 
 -- a device went on
 pub sofar_more : (R : HandlerRelation) (ls : List DeviceLineData) (Next Then Whole : Leads) (so : Device → List EntryData → Device → Type 0) (at n : ℕ) (start ds ds' : List Device) (old mid now : Option (List ℕ))
@@ -52,11 +54,11 @@ sofar_more R ls Next Then Whole so at n start ds ds' old mid now s w own step =
       legal = legal_append R start ds (slice_set ds at w.after) s.sofar p.journal s.count s.legal (legal_one R ds at w.before w.after p.journal w.found p.run p.own);
       goes_on = λ rest ends h.
           subst (λ (es : List EntryData). Whole es ends) (entries_append s.sofar p.journal rest)
-          (s.goes_on (entries p.journal ++ rest) ends (subst (λ (es : List EntryData). Next (es ++ rest) ends) (sym p.are) (step rest ends w.wrote.right h)));
+          (s.goes_on (entries_of p.journal ++ rest) ends (subst (λ (es : List EntryData). Next (es ++ rest) ends) (sym p.are) (step rest ends w.wrote.right h)));
       wrote = gained_as old now _ _ (sym (flat_map-append (journaled_text ls) s.sofar p.journal))
           (gained_more old mid now _ _ s.wrote (gained_as mid now _ _ (piece_text R ls w.line at w.before w.after w.wrote.entries p w.named) w.wrote.wrote));
       sound = every_set (λ (d : Device). IsSound d.state) ds at w.after s.sound
-          (sound_run R w.before w.after w.wrote.entries (every_get (λ (d : Device). IsSound d.state) ds at w.before s.sound w.found) w.wrote.run);
+          (sound_run R w.before w.after w.wrote.entries (every_at (λ (d : Device). IsSound d.state) ds at w.before s.sound w.found) w.wrote.run);
       count = length-set ds at w.after ∙ s.count;
     } in
     subst (λ (x : List Device). SoFar R ls Then Whole start x old now) (sym w.others) all
@@ -65,7 +67,7 @@ sofar_more R ls Next Then Whole so at n start ds ds' old mid now s w own step =
 pub record Ending (R : HandlerRelation) (Next : Leads) (ds : List Device) : Type 0 where
   pub journal : List Journaled
   pub ends : List Device
-  pub right : Next (entries journal) ends
+  pub right : Next (entries_of journal) ends
   pub legal : IsLegalEach R ds journal ends
 
 -- a device stopped on the way
@@ -80,7 +82,7 @@ sofar_stopped R ls Next Then Whole so at start ds ds' old mid now s w own step e
     let all = x.made ++ x.rest in
     let all_run : Run R w.before all x.end = run_append R w.before w.after x.end x.made x.rest x.run x.more in
     let is_own : AreOf at all = own w.before x.end all x.right in
-    let sound : IsSound w.before.state = every_get (λ (d : Device). IsSound d.state) ds at w.before s.sound w.found in
+    let sound : IsSound w.before.state = every_at (λ (d : Device). IsSound d.state) ds at w.before s.sound w.found in
     let made = piece_of R at w.before w.after x.made x.run (every-front (λ (e : EntryData). e.device ≡ at) x.made x.rest is_own) in
     let rest = piece_of R at w.after x.end x.rest x.more (every-back (λ (e : EntryData). e.device ≡ at) x.made x.rest is_own) in
     let last = ending x.end (sound_run R w.before x.end all sound all_run) in
@@ -92,8 +94,8 @@ sofar_stopped R ls Next Then Whole so at start ds ds' old mid now s w own step e
     let end_count : length (slice_set ds at x.end) ≡ length (slice_set ds at w.after) = length-set ds at x.end ∙ sym (length-set ds at w.after) in
     let more : IsLegalEach R (slice_set ds at w.after) (rest.journal ++ last.journal) last.ends =
     legal_append R (slice_set ds at w.after) (slice_set ds at x.end) last.ends rest.journal last.journal end_count then_at last.legal in
-    let names : entries s.sofar ++ (all ++ entries last.journal) ≡ entries ((s.sofar ++ made.journal) ++ (rest.journal ++ last.journal)) =
-    ap (λ (l : List EntryData). entries s.sofar ++ (l ++ entries last.journal)) (ap (λ (l : List EntryData). l ++ x.rest) (sym made.are) ∙ ap (λ (l : List EntryData). entries made.journal ++ l) (sym rest.are))
+    let names : entries_of s.sofar ++ (all ++ entries_of last.journal) ≡ entries_of ((s.sofar ++ made.journal) ++ (rest.journal ++ last.journal)) =
+    ap (λ (l : List EntryData). entries_of s.sofar ++ (l ++ entries_of last.journal)) (ap (λ (l : List EntryData). l ++ x.rest) (sym made.are) ∙ ap (λ (l : List EntryData). entries_of made.journal ++ l) (sym rest.are))
     ∙ regroup s.sofar made.journal rest.journal last.journal in
     let front : WroteEachFront R ls Whole start (slice_set ds at w.after) old now =
     record {
@@ -101,7 +103,7 @@ sofar_stopped R ls Next Then Whole so at start ds ds' old mid now s w own step e
       rest = rest.journal ++ last.journal;
       ends = last.ends;
       right = subst (λ (es : List EntryData). Whole es last.ends) names
-          (s.goes_on (all ++ entries last.journal) last.ends (step all (entries last.journal) w.before x.end last.ends w.found x.right last.right));
+          (s.goes_on (all ++ entries_of last.journal) last.ends (step all (entries_of last.journal) w.before x.end last.ends w.found x.right last.right));
       legal = here;
       whole = legal_append R start (slice_set ds at w.after) last.ends (s.sofar ++ made.journal) (rest.journal ++ last.journal) (length-set ds at w.after ∙ s.count) here more;
       wrote = front_behind old mid now (flat_map (journaled_text ls) s.sofar) (flat_map (journaled_text ls) made.journal) _ (flat_map-append (journaled_text ls) s.sofar made.journal) s.wrote
@@ -109,12 +111,12 @@ sofar_stopped R ls Next Then Whole so at start ds ds' old mid now s w own step e
     } in
     subst (λ (l : List Device). WroteEachFront R ls Whole start l old now) (sym w.others) front
   where
-    append_entries : (xs ys : List Journaled) → entries (xs ++ ys) ≡ entries xs ++ entries ys
+    append_entries : (xs ys : List Journaled) → entries_of (xs ++ ys) ≡ entries_of xs ++ entries_of ys
     append_entries xs ys = map-append (λ (j : Journaled). j.entry) xs ys
 
-    regroup : (a b c e : List Journaled) → entries a ++ ((entries b ++ entries c) ++ entries e) ≡ entries ((a ++ b) ++ (c ++ e))
-    regroup a b c e = sym (append_entries (a ++ b) (c ++ e) ∙ ap (λ (l : List EntryData). l ++ entries (c ++ e)) (append_entries a b) ∙ ap (λ (l : List EntryData). (entries a ++ entries b) ++ l) (append_entries c e)
-        ∙ append_assoc (entries a) (entries b) (entries c ++ entries e) ∙ ap (λ (l : List EntryData). entries a ++ l) (sym (append_assoc (entries b) (entries c) (entries e))))
+    regroup : (a b c e : List Journaled) → entries_of a ++ ((entries_of b ++ entries_of c) ++ entries_of e) ≡ entries_of ((a ++ b) ++ (c ++ e))
+    regroup a b c e = sym (append_entries (a ++ b) (c ++ e) ∙ ap (λ (l : List EntryData). l ++ entries_of (c ++ e)) (append_entries a b) ∙ ap (λ (l : List EntryData). (entries_of a ++ entries_of b) ++ l) (append_entries c e)
+        ∙ append_assoc (entries_of a) (entries_of b) (entries_of c ++ entries_of e) ∙ ap (λ (l : List EntryData). entries_of a ++ l) (sym (append_assoc (entries_of b) (entries_of c) (entries_of e))))
 
 -- nothing more comes
 pub sofar_done : (R : HandlerRelation) (ls : List DeviceLineData) (Next Whole : Leads) (start ds : List Device) (old now : Option (List ℕ))
@@ -122,7 +124,7 @@ pub sofar_done : (R : HandlerRelation) (ls : List DeviceLineData) (Next Whole : 
 sofar_done R ls Next Whole start ds old now s h =
     record {
       journal = s.sofar;
-      right = subst (λ (es : List EntryData). Whole es ds) (append-nil (entries s.sofar)) (s.goes_on [] ds h);
+      right = subst (λ (es : List EntryData). Whole es ds) (append-nil (entries_of s.sofar)) (s.goes_on [] ds h);
       legal = s.legal;
       wrote = s.wrote;
     }
@@ -133,7 +135,7 @@ pub sofar_then : (R : HandlerRelation) (ls : List DeviceLineData) (Next Whole : 
 sofar_then R ls Next Whole start ds ds' old mid now s w =
     record {
       journal = s.sofar ++ w.journal;
-      right = subst (λ (es : List EntryData). Whole es ds') (sym (map-append (λ (j : Journaled). j.entry) s.sofar w.journal)) (s.goes_on (entries w.journal) ds' w.right);
+      right = subst (λ (es : List EntryData). Whole es ds') (sym (map-append (λ (j : Journaled). j.entry) s.sofar w.journal)) (s.goes_on (entries_of w.journal) ds' w.right);
       legal = legal_append R start ds ds' s.sofar w.journal s.count s.legal w.legal;
       wrote = gained_as old now _ _ (sym (flat_map-append (journaled_text ls) s.sofar w.journal)) (gained_more old mid now _ _ s.wrote w.wrote);
     }
@@ -147,8 +149,8 @@ sofar_then_front R ls Next Whole start ds ds' old mid now s w =
       rest = w.rest;
       ends = w.ends;
       right = subst (λ (es : List EntryData). Whole es w.ends)
-          (sym (map-append (λ (j : Journaled). j.entry) s.sofar (w.made ++ w.rest)) ∙ ap entries (sym (append_assoc s.sofar w.made w.rest)))
-          (s.goes_on (entries (w.made ++ w.rest)) w.ends w.right);
+          (sym (map-append (λ (j : Journaled). j.entry) s.sofar (w.made ++ w.rest)) ∙ ap entries_of (sym (append_assoc s.sofar w.made w.rest)))
+          (s.goes_on (entries_of (w.made ++ w.rest)) w.ends w.right);
       legal = legal_append R start ds ds' s.sofar w.made s.count s.legal w.legal;
       whole = subst (λ (js : List Journaled). IsLegalEach R start js w.ends) (sym (append_assoc s.sofar w.made w.rest))
           (legal_append R start ds w.ends s.sofar (w.made ++ w.rest) s.count s.legal w.whole);

@@ -13,9 +13,12 @@ use Rattle.tcmu_model.proofs.GoesOn.{drains_run}
 use Rattle.tcmu_model.proofs.Runs.{sound_run}
 use Rattle.tcmu_path.specs.Tasks.{IsFitFor}
 use Rattle.tcmu_top.proofs.Each.{Leads, Ending}
-use Rattle.tcmu_top.proofs.Legal.{entries, AreOf, piece_of, legal_none, legal_one, legal_append, drains_own, plays_own}
-use Rattle.tcmu_top.proofs.Places.{get_within, every_get, every_set, drop_at, agrees}
+use Rattle.tcmu_top.proofs.Legal.{AreOf, piece_of, legal_none, legal_one, legal_append, drains_own, plays_own}
+use Rattle.tcmu_top.proofs.Places.{every_set, agrees}
 use Rattle.tcmu_top.proofs.Playing.{drained, plays_total, plays_run}
+use Rattle.tcmu_types.proofs.Places.{get_within, drop_from}
+use Rattle.tcmu_model.proofs.Indexed.{every_at}
+use Rattle.text_laws.specs.Replays.{entries_of}
 
 -- ==== drains in order
 
@@ -32,7 +35,7 @@ drains_step R at ds ends d d' es rest found drain h =
     let others : DrainsEach R (at + 1) (drop (suc at) ds) rest (drop (suc at) ends) =
     subst (λ (l : List Device). DrainsEach R (at + 1) l rest (drop (suc at) ends)) kept
     (subst (λ (l : List Device). DrainsEach R (at + 1) (drop (at + 1) (slice_set ds at d')) rest l) (ap (λ (n : ℕ). drop n ends) (add-one at)) h.0) in (
-      subst (λ (l : List Device). DrainsEach R at l (es ++ rest) (drop at ends)) (sym (drop_at ds at d found))
+      subst (λ (l : List Device). DrainsEach R at l (es ++ rest) (drop at ends)) (sym (drop_from ds at d found))
           (subst (λ (l : List Device). DrainsEach R at (d ∷ drop (suc at) ds) (es ++ rest) l) (sym a.from) (es, rest, d', drop (suc at) ends, refl, refl, drain, others)),
       a.before,
     )
@@ -43,7 +46,7 @@ drains_none R at ds h = (subst (λ (l : List Device). DrainsEach R at l [] l) (s
 -- ==== endings
 
 pub ending_as : (R : HandlerRelation) (Next Then : Leads) (ds : List Device) → Ending R Then ds → ((es : List EntryData) (ends : List Device) → Then es ends → Next es ends) → Ending R Next ds
-ending_as R Next Then ds e turns = record { journal = e.journal; ends = e.ends; right = turns (entries e.journal) e.ends e.right; legal = e.legal }
+ending_as R Next Then ds e turns = record { journal = e.journal; ends = e.ends; right = turns (entries_of e.journal) e.ends e.right; legal = e.legal }
 
 -- one device goes on, and then all is ended
 ending_more : (R : HandlerRelation) (Next Then : Leads) (at : ℕ) (ds : List Device) (d d' : Device) (es : List EntryData) → slice_get ds at ≡ Some d → Run R d es d' → AreOf at es
@@ -53,8 +56,8 @@ ending_more R Next Then at ds d d' es found run own last step =
     record {
       journal = p.journal ++ last.journal;
       ends = last.ends;
-      right = subst (λ (x : List EntryData). Next x last.ends) (ap (λ (x : List EntryData). x ++ entries last.journal) (sym p.are) ∙ sym (map-append (λ (j : Journaled). j.entry) p.journal last.journal))
-          (step (entries last.journal) last.ends last.right);
+      right = subst (λ (x : List EntryData). Next x last.ends) (ap (λ (x : List EntryData). x ++ entries_of last.journal) (sym p.are) ∙ sym (map-append (λ (j : Journaled). j.entry) p.journal last.journal))
+          (step (entries_of last.journal) last.ends last.right);
       legal = legal_append R ds (slice_set ds at d') last.ends p.journal last.journal (length-set ds at d') (legal_one R ds at d d' p.journal found p.run p.own) last.legal;
     }
 
@@ -62,8 +65,8 @@ drains_from_end : (R : HandlerRelation) (k at : ℕ) (ds : List Device) → at +
 drains_from_end R zero at ds long outcomes sound = record { journal = []; ends = ds; right = drains_none R at ds (omega (arith, long)); legal = legal_none R ds }
 drains_from_end R (suc k) at ds long outcomes sound =
     let d = get_within ds at (omega (arith, long)) in
-    let first = drained R at d.0 outcomes (every_get (λ (x : Device). IsSound x.state) ds at d.0 sound d.1) in
-    let then_sound = sound_run R d.0 first.1 first.0 (every_get (λ (x : Device). IsSound x.state) ds at d.0 sound d.1) (drains_run R at d.0 first.1 first.0 first.2) in
+    let first = drained R at d.0 outcomes (every_at (λ (x : Device). IsSound x.state) ds at d.0 sound d.1) in
+    let then_sound = sound_run R d.0 first.1 first.0 (every_at (λ (x : Device). IsSound x.state) ds at d.0 sound d.1) (drains_run R at d.0 first.1 first.0 first.2) in
     let last = drains_from_end R k (at + 1) (slice_set ds at first.1) (omega (arith, long, length-set ds at first.1)) outcomes (every_set (λ (x : Device). IsSound x.state) ds at first.1 sound then_sound) in
     ending_more R (DrainsFrom R at ds) (DrainsFrom R (at + 1) (slice_set ds at first.1)) at ds d.0 first.1 first.0 d.1 (drains_run R at d.0 first.1 first.0 first.2) (drains_own R at d.0 first.1 first.0 first.2) last
     (λ rest ends h. drains_step R at ds ends d.0 first.1 first.0 rest d.1 first.2 h)
@@ -82,7 +85,7 @@ pub ending_lines : (R : HandlerRelation) (ds : List Device) (ls : List LineData)
 ending_lines R ds [] outcomes sound fit = ending_as R (ReplaysEach R ds []) (DrainsFrom R 0 ds) ds (ending_drains R 0 ds (omega arith) outcomes sound) (λ es ends h. h.0)
 ending_lines R ds (l ∷ ls) outcomes sound fit =
     let d = get_within ds l.device fit.0.device in
-    let here = every_get (λ (x : Device). IsSound x.state) ds l.device d.0 sound d.1 in
+    let here = every_at (λ (x : Device). IsSound x.state) ds l.device d.0 sound d.1 in
     let first = plays_total R l.device d.0 l.what outcomes here fit.0.what in
     let run = plays_run R l.device d.0 first.1 l.what first.0 first.2 in
     let ds' = slice_set ds l.device first.1 in

@@ -16,13 +16,14 @@ use Rattle.tcmu_path.specs.Tasks.{IsFitFor}
 use Rattle.tcmu_top.proofs.Each.{Leads, SoFar, sofar_first, sofar_more, sofar_stopped, sofar_done}
 use Rattle.tcmu_top.proofs.Endings.{DrainsFrom, drains_step, drains_none, ending_drains, ending_lines}
 use Rattle.tcmu_top.proofs.Legal.{drains_own, plays_own}
-use Rattle.tcmu_top.proofs.Places.{every_get, every_set}
+use Rattle.tcmu_top.proofs.Places.{every_set}
+use Rattle.tcmu_model.proofs.Indexed.{every_at}
 
 -- what one device keeps, all keep
 pub every_kept : (P : Device → Type 0) (R : HandlerRelation) (ls : List DeviceLineData) (at n : ℕ) (so : Device → List EntryData → Device → Type 0) (ds ds' : List Device) (old new : Option (List ℕ))
     → (w : WroteOn R ls at n so ds ds' old new) → (P w.before → P w.after) → Every P ds → Every P ds'
 every_kept P R ls at n so ds ds' old new w keeps h =
-    subst (Every P) (sym w.others) (every_set P ds at w.after h (keeps (every_get P ds at w.before h w.found)))
+    subst (Every P) (sym w.others) (every_set P ds at w.after h (keeps (every_at P ds at w.before h w.found)))
 
 pub count_kept : (R : HandlerRelation) (ls : List DeviceLineData) (at n : ℕ) (so : Device → List EntryData → Device → Type 0) (ds ds' : List Device) (old new : Option (List ℕ))
     → WroteOn R ls at n so ds ds' old new → length ds' ≡ length ds
@@ -72,11 +73,8 @@ played_stopped R ls l more Whole start ds ds' old mid now outcomes fit s w =
     (λ d' sound. ending_lines R (slice_set ds l.device d') more outcomes (every_set (λ (d : Device). IsSound d.state) ds l.device d' s.sound sound)
     (subst (λ (n : ℕ). Every (IsFitFor n) more) (sym (length-set ds l.device d')) fit))
 
-pub line_at : (ls : List LineData) (i : ℕ) (l : LineData) → i < length ls → l ≡ get_or ls i l → drop i ls ≡ l ∷ drop (i + 1) ls
-line_at ls i l lt is = drop_more ls i l lt ∙ ap (λ (x : LineData). x ∷ drop (i + 1) ls) (sym is)
-
 -- what holds of one device behind its turn, and what of all others
 pub every_turned : (P Q : Device → Type 0) (R : HandlerRelation) (ls : List DeviceLineData) (at n : ℕ) (so : Device → List EntryData → Device → Type 0) (ds ds' : List Device) (old new : Option (List ℕ))
     → (w : WroteOn R ls at n so ds ds' old new) → ((d : Device) → P d → Q d) → (P w.before → Q w.after) → Every P ds → Every Q ds'
 every_turned P Q R ls at n so ds ds' old new w weaker turned h =
-    subst (Every Q) (sym w.others) (every_set Q ds at w.after (every-weaker P Q ds weaker h) (turned (every_get P ds at w.before h w.found)))
+    subst (Every Q) (sym w.others) (every_set Q ds at w.after (every-weaker P Q ds weaker h) (turned (every_at P ds at w.before h w.found)))

@@ -15,8 +15,8 @@ use Rattle.media.specs.Stored.{IsStoredIn}
 use Rattle.device_set.specs.Sets.{devices}
 use Rattle.tcmu_top.specs.Playing.{states_of}
 use Rattle.tcmu_top.specs.Opened.{name_in, file_names, is_named, Holds, SameOthers, Kept, OwnFiles, TellFiles, Returns, KeepsEach, after_fetches}
-use Rattle.tcmu_top.proofs.Places.{get_within}
 use Rattle.tcmu_top.proofs.Fetching.{bytes_same, place_free, place_out}
+use Rattle.tcmu_types.proofs.Places.{get_within}
 
 -- the name of a device line's file is no other name
 named_differs : (ls : List DeviceLineData) (at : ℕ) (l : DeviceLineData) (name other : List ℕ) → slice_get ls at ≡ Some l → l.config.kind ≡ InFile name → is_named ls other ≡ false → bytes_eq other name ≡ false

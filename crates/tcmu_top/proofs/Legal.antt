@@ -1,4 +1,4 @@
--- Journals of several devices: the runs of each device's own entries, and their text.
+-- Journals of several devices: the runs of each device's own entries_of, and their text.
 use Rattle.std.proofs.Common.{◌≡◌, ℕ, ◌<◌, true, false, List, [], ◌∷◌, ◌++◌, length, map, drop, slice_get, slice_set, Option, Some, None, refl, sym, ap, ◌∙◌, subst, eq-eqb, ⊎_elim}
 use Rattle.std.specs.List.{filter, flat_map}
 use Rattle.std.proofs.lemmas.Bool.{cases_eq, ne_eqb}
@@ -17,21 +17,20 @@ use Rattle.tcmu_model.specs.Text.{entry_text}
 use Rattle.tcmu_model.proofs.Everies.{filter_all, every-weaker}
 use Rattle.tcmu_model.proofs.Logs.{makes_grows}
 use Rattle.tcmu_top.specs.Playing.{run_text}
-use Rattle.tcmu_top.proofs.Places.{get_set_same, get_set_other, get_within}
+use Rattle.tcmu_top.proofs.Places.{get_set_same, get_set_other}
 use Rattle.tcmu_top.proofs.RunTexts.{drop_front, text_more, text_one}
+use Rattle.tcmu_types.proofs.Places.{get_within}
+use Rattle.text_laws.specs.Replays.{entries_of}
 
 -- ==== one device
-
-abbrev pub entries : List Journaled → List EntryData
-entries js = map (λ j. j.entry) js
 
 abbrev pub AreOf : ℕ → List EntryData → Type 0
 AreOf at es = Every (λ e. e.device ≡ at) es
 
--- the entries of a run, each with what it logged
+-- the entries_of of a run, each with what it logged
 pub record Piece (R : HandlerRelation) (at : ℕ) (d d' : Device) (es : List EntryData) : Type 0 where
   pub journal : List Journaled
-  pub are : entries journal ≡ es
+  pub are : entries_of journal ≡ es
   pub run : RunLogs R d journal d'
   pub own : Every (λ j. j.entry.device ≡ at) journal
 
@@ -47,7 +46,7 @@ piece_of R at d d' (e ∷ es) h own =
       own = (own.0, more.own);
     }
 
-pub logs_run : (R : HandlerRelation) (d d' : Device) (js : List Journaled) → RunLogs R d js d' → Run R d (entries js) d'
+pub logs_run : (R : HandlerRelation) (d d' : Device) (js : List Journaled) → RunLogs R d js d' → Run R d (entries_of js) d'
 logs_run R d d' [] h = h
 logs_run R d d' (j ∷ js) h = (h.0, h.1, logs_run R h.0 d' js h.3)
 
@@ -59,16 +58,16 @@ named_text : (ls : List DeviceLineData) (l : DeviceLineData) (j : Journaled) (o 
     → (elim o [ Some k ↦ entry_text k.name k.settings.qfull j.entry j.completions | None ↦ [] ]) ≡ entry_text l.name l.settings.qfull j.entry j.completions
 named_text ls l j o e = rw e refl
 
--- the text of a device's own entries
+-- the text of a device's own entries_of
 pub journal_text : (R : HandlerRelation) (ls : List DeviceLineData) (l : DeviceLineData) (at : ℕ) (d d' : Device) (js : List Journaled) → slice_get ls at ≡ Some l → RunLogs R d js d'
-    → Every (λ j. j.entry.device ≡ at) js → run_text l d (entries js) d' ≡ flat_map (journaled_text ls) js
+    → Every (λ j. j.entry.device ≡ at) js → run_text l d (entries_of js) d' ≡ flat_map (journaled_text ls) js
 journal_text R ls l at d d' [] named h own = refl
 journal_text R ls l at d d' (j ∷ js) named h own =
     let logged : drop (length d.state.log) h.0.state.log ≡ j.completions = ap (drop (length d.state.log)) h.2 ∙ drop_front d.state.log j.completions (length d.state.log) refl in
     let first : run_text l d (j.entry ∷ []) h.0 ≡ journaled_text ls j =
     text_one R l d h.0 j.entry h.1 ∙ ap (entry_text l.name l.settings.qfull j.entry) logged ∙ sym (named_text ls l j (slice_get ls j.entry.device) (ap (slice_get ls) own.0 ∙ named)) in
-    text_more R l d h.0 d' (j.entry ∷ []) (entries js) (h.0, h.1, refl) (logs_run R h.0 d' js h.3)
-    ∙ ap (λ (t : List ℕ). t ++ run_text l h.0 (entries js) d') first
+    text_more R l d h.0 d' (j.entry ∷ []) (entries_of js) (h.0, h.1, refl) (logs_run R h.0 d' js h.3)
+    ∙ ap (λ (t : List ℕ). t ++ run_text l h.0 (entries_of js) d') first
     ∙ ap (λ (t : List ℕ). journaled_text ls j ++ t) (journal_text R ls l at h.0 d' js named h.3 own.1)
 
 pub piece_text : (R : HandlerRelation) (ls : List DeviceLineData) (l : DeviceLineData) (at : ℕ) (d d' : Device) (es : List EntryData) (p : Piece R at d d' es) → slice_get ls at ≡ Some l

@@ -15,27 +15,10 @@ get_set_other (z ∷ xs) zero (suc j) y ne = refl
 get_set_other (z ∷ xs) (suc i) zero y ne = refl
 get_set_other (z ∷ xs) (suc i) (suc j) y ne = get_set_other xs i j y (λ e. ne (ap (λ n. suc n) e))
 
--- a place within the list has an item
-pub get_within : {X : Type 0} (xs : List X) (i : ℕ) → i < length xs → (x : X) × (slice_get xs i ≡ Some x)
-get_within [] i h = absurd (omega (arith, h))
-get_within (x ∷ xs) zero h = (x, refl)
-get_within (x ∷ xs) (suc i) h = get_within xs i (omega (arith, h))
-
-pub every_get : {X : Type 0} (P : X → Type 0) (xs : List X) (i : ℕ) (x : X) → Every P xs → slice_get xs i ≡ Some x → P x
-every_get P [] i x h e = absurd (cc)
-every_get P (z ∷ xs) zero x h e = subst P (same_Some z x e) h.0
-every_get P (z ∷ xs) (suc i) x h e = every_get P xs i x h.1 e
-
 pub every_set : {X : Type 0} (P : X → Type 0) (xs : List X) (i : ℕ) (y : X) → Every P xs → P y → Every P (slice_set xs i y)
 every_set P [] i y h k = tt
 every_set P (z ∷ xs) zero y h k = (k, h.1)
 every_set P (z ∷ xs) (suc i) y h k = (h.0, every_set P xs i y h.1 k)
-
--- a list from a place on
-pub drop_at : {X : Type 0} (xs : List X) (i : ℕ) (x : X) → slice_get xs i ≡ Some x → drop i xs ≡ x ∷ drop (suc i) xs
-drop_at [] i x e = absurd (cc)
-drop_at (z ∷ xs) zero x e = ap (λ y. y ∷ xs) (same_Some z x e)
-drop_at (z ∷ xs) (suc i) x e = drop_at xs i x e
 
 -- a list that agrees with another, in which one place is written, up to that place
 pub record Agrees {X : Type 0} (xs ys : List X) (i : ℕ) (y : X) : Type 0 where

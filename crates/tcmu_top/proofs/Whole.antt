@@ -21,8 +21,9 @@ use Rattle.tcmu_top.specs.Playing.{AreOpened, WroteEach, WroteEachFront}
 use Rattle.tcmu_path.specs.Tasks.{IsFit, IsFitFor}
 use Rattle.tcmu_top.specs.Top.{Replayed, ReplayedInPart}
 use Rattle.tcmu_top.proofs.Endings.{ending_lines}
-use Rattle.tcmu_top.proofs.Legal.{entries, legal_none}
+use Rattle.tcmu_top.proofs.Legal.{legal_none}
 use Rattle.tcmu_top.proofs.Telling.{gained_more, front_first, front_more, front_behind}
+use Rattle.text_laws.specs.Replays.{entries_of}
 
 -- ==== the parts of the text
 
@@ -32,7 +33,7 @@ lines_text ls = flat_map device_text ls
 abbrev journal_of : List DeviceLineData → List Journaled → List ℕ
 journal_of ls js = flat_map (journaled_text ls) js
 
-abbrev is_text : (R : HandlerRelation) (ls : List DeviceLineData) (ds ends : List Device) (lines : List LineData) (js : List Journaled) → ReplaysEach R ds lines (entries js) ends → IsLegalEach R ds js ends
+abbrev is_text : (R : HandlerRelation) (ls : List DeviceLineData) (ds ends : List Device) (lines : List LineData) (js : List Journaled) → ReplaysEach R ds lines (entries_of js) ends → IsLegalEach R ds js ends
     → IsReplayOf R ls ds lines (lines_text ls ++ journal_of ls js ++ ends_text ls ends)
 is_text R ls ds ends lines js h k = record { journal = js; ends = ends; replays = h; legal = k; whole = refl }
 

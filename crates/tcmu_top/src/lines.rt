@@ -3,13 +3,13 @@ ghost use Rattle.std.specs.Prelude.{◌≡◌, ℕ, ◌^◌, ◌≤◌, ◌<◌,
 ghost use Rattle.std.specs.Option.{option_map};
 ghost use Rattle.tcmu_types.specs.Numbered.{Rose};
 ghost use Rattle.tcmu_types.specs.Views.{event_data, answer_data};
-ghost use Rattle.tcmu_model.specs.Steps.{Makes};
+ghost use Rattle.tcmu_model.specs.Steps.{Makes, accepted_by};
 ghost use Rattle.tcmu_model.specs.Drain.{chosen, Drains};
 ghost use Rattle.tcmu_model.specs.Sound.{IsSound};
 ghost use Rattle.tcmu_model.specs.Work.{HasOutcomes};
 ghost use Rattle.tcmu_model.specs.Replay.{Plays};
 ghost use Rattle.tcmu_path.specs.Calls.{Accepts};
-ghost use Rattle.tcmu_path.specs.Tasks.{CanBeMade, accepted_by, IsFit};
+ghost use Rattle.tcmu_path.specs.Tasks.{CanBeMade, IsFit};
 ghost use Rattle.tcmu_top.specs.Playing.{Told, Stopped, Wrote, WroteFront};
 
 use crate::writing::{Stop, write_entry};

@@ -48,3 +48,15 @@ get_from_index xs ys i j h k e = slice_get-get_or xs i 0 h ∙ ap (λ (n : ℕ).
 pub range_cases : (at n i : ℕ) → (i < at) ⊎ (((at ≤ i) × (i < at + n)) ⊎ (at + n ≤ i))
 range_cases at n i =
     ⊎_elim (λ h. inl h) (λ (h : at ≤ i). ⊎_elim (λ (k : i < at + n). inr (inl (h, k))) (λ (k : at + n ≤ i). inr (inr k)) (cases_lt i (at + n))) (cases_lt i at)
+
+-- a place within the list has an item
+pub get_within : {X : Type 0} (xs : List X) (i : ℕ) → i < length xs → (x : X) × (slice_get xs i ≡ Some x)
+get_within [] i h = absurd (omega arith)
+get_within (x ∷ xs) zero h = (x, refl)
+get_within (x ∷ xs) (suc i) h = get_within xs i (omega arith)
+
+-- a list from a place on
+pub drop_from : {X : Type 0} (xs : List X) (i : ℕ) (x : X) → slice_get xs i ≡ Some x → drop i xs ≡ x ∷ drop (suc i) xs
+drop_from [] i x h = absurd (cc)
+drop_from (y ∷ xs) zero x h = cc
+drop_from (y ∷ xs) (suc i) x h = drop_from xs i x h

@@ -14,12 +14,8 @@ use Rattle.tcmu_types.specs.declared.answer.Tmr.TheVariants as tmr
 use Rattle.tcmu_model.specs.RingState.{Item}
 use Rattle.tcmu_model.specs.Device.{Delayed, DeviceState, Device}
 use Rattle.tcmu_model.specs.Events.{after_submit, with_command, with_delayed, after_enter, after_entering, after_dispatch, next_item, passed, after_item, after_handle, after_respond, is_handled, after_publish, after_clean, after_tick, after_block, emptied, count_in_hand, after_reset, after_restart, with_note, after_tmr}
-use Rattle.tcmu_model.specs.Steps.{HandlerRelation, Makes}
-
--- how many commands an event accepts at most
-abbrev pub accepted_by : EventData → ℕ
-accepted_by (ev.Submit c) = 1
-accepted_by _ = 0
+use Rattle.tcmu_model.specs.Steps.{HandlerRelation, Makes, accepted_by}
+use Rattle.tcmu_model.proofs.Unnamed.{enter_kept, dispatch_kept, respond_kept, publish_kept}
 
 pub accepts_one : (e : EventData) → accepted_by e ≤ 1
 accepts_one (ev.Submit c) = omega arith
@@ -45,46 +41,6 @@ after_submit_more d c submit.Busy = omega arith
 after_submit_more d c (submit.TooBig have limit) = omega arith
 after_submit_more d c (submit.FullRing need free) = omega arith
 after_submit_more d c (submit.FullBlocks need free) = omega arith
-
-after_entering_same : (d : DeviceState) (ws : List Delayed) → (after_entering d ws).accepted ≡ d.accepted
-unfolding with_command
-after_entering_same d [] = refl
-after_entering_same d (w ∷ ws) = refl
-
-after_enter_same : (d : DeviceState) (a : Enter) → (after_enter d a).accepted ≡ d.accepted
-unfolding after_enter
-after_enter_same d (enter.Entered s) = after_entering_same d d.delayed
-after_enter_same d enter.Empty = refl
-after_enter_same d (enter.FullRing need free) = refl
-after_enter_same d (enter.FullBlocks need free) = refl
-
-item_same : (d : DeviceState) (o : Option Item) → (elim o as (λ x. DeviceState) [ None ↦ d | Some i ↦ record d { ring = passed d.ring; unfinished = after_item d.unfinished i } ]).accepted ≡ d.accepted
-item_same d None = refl
-item_same d (Some i) = refl
-
-after_dispatch_same : (d : DeviceState) → (after_dispatch d).accepted ≡ d.accepted
-unfolding after_dispatch
-after_dispatch_same d =
-    ⊎_elim
-    (λ (e : d.attached ≡ true). rw e (item_same d (next_item d)))
-    (λ (e : d.attached ≡ false). rw e refl)
-    (cases_Bool d.attached)
-
-after_respond_same : (d : DeviceState) (s : ℕ) → (after_respond d s).accepted ≡ d.accepted
-unfolding after_respond
-after_respond_same d s =
-    ⊎_elim
-    (λ (e : is_handled d s ≡ true). rw e refl)
-    (λ (e : is_handled d s ≡ false). rw e refl)
-    (cases_Bool (is_handled d s))
-
-after_publish_same : (d : DeviceState) → (after_publish d).accepted ≡ d.accepted
-unfolding after_publish
-after_publish_same d =
-    ⊎_elim
-    (λ (e : d.attached ≡ true). rw e refl)
-    (λ (e : d.attached ≡ false). rw e refl)
-    (cases_Bool d.attached)
 
 after_clean_same : (d : DeviceState) → (after_clean d).accepted ≡ d.accepted
 unfolding after_clean
@@ -126,12 +82,13 @@ kept : (d d' : Device) (s : DeviceState) → d' ≡ record d { state = s } → s
 kept d d' s e k = omega (arith, ap (λ (x : Device). x.state.accepted) e ∙ k)
 
 pub makes_accepts : (R : HandlerRelation) (d d' : Device) (e : EventData) (a : AnswerData) → Makes R d e a d' → d'.state.accepted ≤ d.state.accepted + accepted_by e
+unfolding with_command
 makes_accepts R d d' (ev.Submit c) (ev.Submitted a) h = omega (arith, ap (λ (x : Device). x.state.accepted) h.after, after_submit_more d.state c a)
-makes_accepts R d d' ev.Dispatch (ev.Dispatched a) h = kept d d' _ h.after (after_dispatch_same d.state)
+makes_accepts R d d' ev.Dispatch (ev.Dispatched a) h = kept d d' _ h.after (dispatch_kept (λ x. x.accepted) d.state (λ i. refl))
 makes_accepts R d d' (ev.Handle s) (ev.Answered (handle.Done reply)) h = omega (arith, ap (λ (x : DeviceState). x.accepted) h.1.state ∙ handled_same d.state s reply)
 makes_accepts R d d' (ev.Handle s) (ev.Answered (handle.NotOut t)) h = omega (arith, ap (λ (x : Device). x.state.accepted) h.2)
-makes_accepts R d d' (ev.Respond s) (ev.Responded a) h = kept d d' _ h.after (after_respond_same d.state s)
-makes_accepts R d d' ev.Publish (ev.Published a) h = kept d d' _ h.after (after_publish_same d.state)
+makes_accepts R d d' (ev.Respond s) (ev.Responded a) h = kept d d' _ h.after (respond_kept (λ x. x.accepted) d.state s refl)
+makes_accepts R d d' ev.Publish (ev.Published a) h = kept d d' _ h.after (publish_kept (λ x. x.accepted) d.state refl)
 makes_accepts R d d' ev.Clean (ev.Logged n) h = kept d d' _ h.after (after_clean_same d.state)
 makes_accepts R d d' (ev.Tick n) (ev.Logged count) h = kept d d' _ h.after (after_tick_same d.state n)
 makes_accepts R d d' ev.Block (ev.Changed b) h = kept d d' _ h.after (block_same d.state true)
@@ -140,5 +97,5 @@ makes_accepts R d d' (ev.Reset level) (ev.WasReset a) h = kept d d' _ h.after (a
 makes_accepts R d d' ev.Restart (ev.Lost n) h = kept d d' _ h.after (restarted_same d.state)
 makes_accepts R d d' (ev.Tmr kind ss) (ev.Noted a) h = kept d d' _ h.after (after_tmr_same d.state kind ss a)
 makes_accepts R d d' ev.Stat (ev.Told a) h = omega (arith, ap (λ (x : Device). x.state.accepted) h.after)
-makes_accepts R d d' ev.Enter (ev.Entered a) h = kept d d' _ h.after (after_enter_same d.state a)
+makes_accepts R d d' ev.Enter (ev.Entered a) h = kept d d' _ h.after (enter_kept (λ x. x.accepted) d.state a (λ w ws. refl))
 makes_accepts R d d' _ _ h = absurd h

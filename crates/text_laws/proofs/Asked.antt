@@ -9,7 +9,7 @@ use Rattle.tcmu_model.specs.Lists.{first_of}
 use Rattle.tcmu_model.specs.declared.state.CommandState.TheVariants.{Out, Handled}
 use Rattle.tcmu_model.specs.Device.{Unfinished, DeviceState, Device, has_state}
 use Rattle.tcmu_model.specs.Events.{publishable}
-use Rattle.tcmu_model.specs.Steps.{HandlerRelation, Step}
+use Rattle.tcmu_model.specs.Steps.{HandlerRelation, Step, accepted_by}
 use Rattle.tcmu_model.specs.Drain.{least_serial, chosen, todo_of, nothing_to_do, can_enter, drain_event, Drains}
 use Rattle.tcmu_model.specs.ScenarioData.{LineWhat, LineData, command_of}
 use Rattle.tcmu_model.specs.ScenarioData as line
@@ -25,8 +25,9 @@ use Rattle.tcmu_model.proofs.Runs.{sound_step}
 use Rattle.text_laws.specs.Carried.{IsCarriedWhat}
 use Rattle.text_laws.specs.Lines.{CarriesBytes, made}
 use Rattle.text_laws.specs.Replays.{lines_of}
-use Rattle.text_laws.proofs.Accepted.{accepted_by, accepts_one, makes_accepts}
+use Rattle.text_laws.proofs.Accepted.{accepts_one, makes_accepts}
 use Rattle.text_laws.proofs.Sets.{get_within, every_get, every_set, length_set}
+use Rattle.tcmu_model.proofs.Draining.{all_todo}
 
 -- ---- lines that send commands
 
@@ -74,24 +75,12 @@ chosen_quiet d t e few handles responds q = go t.handle t.respond t.publish t.cl
     go None None false false false true hs rs q = plain ev.Dispatch (record { event = tt; bytes = tt; accepts = refl; silent = λ at. refl }) q
     go None None false false false false hs rs q = absurd (cc)
 
--- what an attached device has to do
-abbrev attached_todo : DeviceState → Todo
-attached_todo d =
-    record {
-      handle = least_serial (has_state Out) d;
-      respond = least_serial (has_state Handled) d;
-      publish = nat_lt d.ring.published (publishable d);
-      clean = nat_lt d.ring.cleared d.ring.published;
-      enter = can_enter d d.delayed;
-      dispatch = nat_lt d.ring.dispatched (length d.ring.laid);
-    }
-
 drain_quiet : (d : DeviceState) (e : EventData) → IsSound d → d.accepted ≤ 1000000000 → drain_event d ≡ Some e → IsQuiet e
 unfolding drain_event todo_of
 drain_quiet d e h few q = go d.attached q
   where
-    go : (b : Bool) → chosen (cond b (attached_todo d) nothing_to_do) ≡ Some e → IsQuiet e
-    go true q = chosen_quiet d (attached_todo d) e few (λ s is. least_served d (has_state Out) s h is) (λ s is. least_served d (has_state Handled) s h is) q
+    go : (b : Bool) → chosen (cond b (all_todo d) nothing_to_do) ≡ Some e → IsQuiet e
+    go true q = chosen_quiet d (all_todo d) e few (λ s is. least_served d (has_state Out) s h is) (λ s is. least_served d (has_state Handled) s h is) q
     go false q = absurd (cc)
 
 -- ---- entries

@@ -19,7 +19,7 @@ use Rattle.text_laws.specs.Configs.{is_other, FileLacks, ConfigsAgain}
 use Rattle.text_laws.proofs.Numbers.{all_digits, number_again}
 use Rattle.text_laws.proofs.Lists.{rising_again, within_each}
 use Rattle.text_laws.proofs.Words.{weaker}
-use Rattle.text_laws.proofs.Fields.{joined_pass}
+use Rattle.text_laws.proofs.Fields.{joined_pass, or_cases}
 use Rattle.text_laws.proofs.Cuts.{none_at, cut_again, part_again}
 
 -- ---- which bytes stand in a config text
@@ -89,10 +89,6 @@ config_passes p l c is file =
     let e = both p (codes "tcm-user/" ++ decimal c.hba ++ codes "/" ++ c.name) (codes "/") d (and_from _ _ l.slash refl) in
     let f = both p (codes "tcm-user/" ++ decimal c.hba ++ codes "/" ++ c.name ++ codes "/") (kind_text c) e (kind_passes p l c is.fails) in
     both p (codes "tcm-user/" ++ decimal c.hba ++ codes "/" ++ c.name ++ codes "/" ++ kind_text c) (medium_text c.kind) f (medium_passes p l c.kind is.medium file)
-
-or_cases : (a b : Bool) {P : Type 0} → (a || b) ≡ true → (a ≡ true → P) → (b ≡ true → P) → P
-or_cases true b e f g = f refl
-or_cases false b e f g = g e
 
 -- a byte that stands in no name
 pub lets_other : (at : ℕ) → ((x : ℕ) → is_name_byte x ≡ true → (x ≡ at) → ⊥) → (x : ℕ) → is_name_byte x ≡ true → is_other at x ≡ true

@@ -92,10 +92,6 @@ shorts_spaceless : (ns : List ℕ) → AreShort ns → Every (λ t. list_all (is
 shorts_spaceless [] h = tt
 shorts_spaceless (n ∷ ns) h = (number_spaceless n h.0, shorts_spaceless ns h.1)
 
-numbers_line : (ns : List ℕ) → AreUnbroken (map decimal ns)
-numbers_line [] = tt
-numbers_line (n ∷ ns) = (unbroken.number n, numbers_line ns)
-
 each_number_told : (ms ns : List ℕ) → AreShort ms → AreShort ns → map decimal ms ≡ map decimal ns → ms ≡ ns
 each_number_told [] [] h k e = refl
 each_number_told [] (n ∷ ns) h k e = absurd (cc)
@@ -139,7 +135,7 @@ blocks_spaceless (n ∷ ns) h = subst LacksSpace (sym (blocks_shown n ns)) (join
 
 blocks_line : (ns : List ℕ) → Unbroken (blocks_text ns)
 blocks_line [] = subst Unbroken (sym no_blocks) (record { bytes = refl })
-blocks_line (n ∷ ns) = subst Unbroken (sym (blocks_shown n ns)) (unbroken.joined 44 (map decimal (n ∷ ns)) refl (numbers_line (n ∷ ns)))
+blocks_line (n ∷ ns) = subst Unbroken (sym (blocks_shown n ns)) (unbroken.joined 44 (map decimal (n ∷ ns)) refl (unbroken.number_list (n ∷ ns)))
 
 -- ---- lines
 

@@ -3,7 +3,7 @@ use Rattle.std.proofs.Common.{◌≡◌, ℕ, zero, suc, ◌+◌, ◌%◌, ◌^�
 use Rattle.std.specs.List.{list_all}
 use Rattle.std.specs.Fmt.{decimal}
 use Rattle.std.specs.Str.Parse.{digits_value}
-use Rattle.std.proofs.lemmas.Bool.{and_from, le-leb, lt-ltb, eq-eqb, cond-true}
+use Rattle.std.proofs.lemmas.Bool.{and_from, le-leb, lt-ltb, eq-eqb, cond-true, or_right}
 use Rattle.std.proofs.lemmas.Fmt.{decimal_by_steps, decimal_digit, decimal_is_IsNumeral, decimal_nonempty, first_decimal}
 use Rattle.std.proofs.lemmas.List.Folds.{list_all-append}
 use Rattle.tcmu_model.specs.Fields.{is_digit, is_number, number_of}
@@ -29,10 +29,6 @@ all_digits n lt = decimal_by_steps (λ k ds. list_all is_digit ds ≡ true) one 
 or_left : (a b : Bool) → a ≡ true → (a || b) ≡ true
 or_left true b e = refl
 or_left false b e = absurd (cc)
-
-or_right : (a b : Bool) → b ≡ true → (a || b) ≡ true
-or_right true b e = refl
-or_right false b e = e
 
 no_zero_first : (n : ℕ) → n < 2 ^ 64 → (nat_eq (length (decimal n)) 1 || nat_lt 48 (get_or (decimal n) 0 0)) ≡ true
 no_zero_first zero lt = or_left _ _ (eq-eqb _ _ (ap length (decimal_digit 0 (omega arith))))

@@ -28,6 +28,7 @@ use Rattle.tcmu_model.proofs.Written.{lengths as writes, length-le, length-zeros
 use Rattle.text_laws.specs.Dumps.{IsItemValue, IsHeldValue, PicturesWhole}
 use Rattle.text_laws.specs.Values.{IsNumber}
 use Rattle.text_laws.proofs.Devices.{blocks_few}
+use Rattle.tcmu_model.proofs.PartLengths.{length-merged, length-iovs, length-sense}
 
 -- ---- how many bytes are written
 
@@ -54,20 +55,6 @@ iovs_most (iov ∷ iovs) =
     let all : length (iovs_bytes (iov ∷ iovs)) ≡ length (le 8 iov.base ++ le 8 iov.len) + length (iovs_bytes iovs) = length-append (le 8 iov.base ++ le 8 iov.len) (iovs_bytes iovs) in
     omega (arith, iovs_most iovs, one, all, length-le 8 iov.base, length-le 8 iov.len)
 
-merged_most : (e : Iov) (es : List Iov) → length (merged e es) ≤ length es + 1
-unfolding merged
-merged_most e [] = omega arith
-merged_most e (f ∷ fs) = go (nat_eq (e.base + e.len) f.base)
-  where
-    go : (b : Bool) → length (cond b (joined e f ∷ fs) (e ∷ f ∷ fs)) ≤ suc (length fs) + 1
-    go true = omega arith
-    go false = omega arith
-
-along_most : (start size : ℕ) (bs : List ℕ) (n : ℕ) → length (iovs_along start size bs n) ≤ length bs
-unfolding iovs_along
-along_most start size [] n = omega arith
-along_most start size (b ∷ bs) n = omega (arith, merged_most (piece start size b n) (iovs_along start size bs (n - size)), along_most start size bs (n - size))
-
 command_most : (at id slots : ℕ) (iovs : List Iov) (cdb : List ℕ) → length (command_bytes at id slots iovs cdb) ≤ cdb_place slots + 48 + 16 * length iovs + round_up (length cdb) + length cdb
 unfolding command_bytes
 command_most at id slots iovs cdb =
@@ -89,14 +76,10 @@ tmr_most kind ids =
     let first : length h ≡ 32 = omega (writes, length-entry_header 2 (tmr_length (length ids)) 0) in
     omega (arith, first, length-append h (ids_bytes ids), ids_most ids, padded_most (tmr_length (length ids)) (h ++ ids_bytes ids))
 
-sense_most : (s : Option SenseData) → length (sense_buffer s) ≤ 96
-sense_most None = omega arith
-sense_most (Some s) = let k : ◌≡◌ {A = ℕ} (length (fixed_sense s)) 18 = refl in omega (arith, k)
-
 response_most : (reply : ReplyData) (n : Option ℕ) → length (response_bytes reply n) ≤ 105
 unfolding answer_bytes
 response_most reply n =
-    let s : length (padded 96 (sense_buffer reply.sense)) ≡ 96 = length-padded 96 (sense_buffer reply.sense) (sense_most reply.sense) in
+    let s : length (padded 96 (sense_buffer reply.sense)) ≡ 96 = length-padded 96 (sense_buffer reply.sense) (length-sense reply.sense) in
     omega (writes, s)
 
 -- an entry with an answer, or without one
@@ -121,7 +104,7 @@ item_few : (d : DeviceState) (lists : List Taken) (i n : ℕ) (l : Laid) → IsS
 item_few d lists i n Pad sound owned behind found is = omega (arith, pad_most n, is.whole, sound.settings.ring_high)
 item_few d lists i n (Cmd s c) sound owned behind found is =
     let iovs = command_iovs d.settings (list_of lists s) c in
-    let few = along_most (data_start d.settings.ring) (block_size d.settings.pages) (list_of lists s) (payload_length c) in
+    let few = length-iovs (data_start d.settings.ring) (block_size d.settings.pages) (list_of lists s) (payload_length c) in
     let slots = owned.spans i n s c behind found in
     let entry = command_most (place_of d.ring i) 0 (blocks_of d.settings.pages c) iovs c.cdb in
     let whole = entry_most d 0 (request_of d.settings (list_of lists s) (place_of d.ring i) 0 c) (answer_at d i) in

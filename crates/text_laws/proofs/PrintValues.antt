@@ -4,13 +4,13 @@ use Rattle.std.specs.List.{filter}
 use Rattle.tcmu_model.specs.Device.{Device}
 use Rattle.tcmu_model.specs.ScenarioData.{DeviceLineData}
 use Rattle.tcmu_model.specs.Sound.{Every}
-use Rattle.tcmu_model.specs.Steps.{HandlerRelation}
+use Rattle.tcmu_model.specs.Steps.{HandlerRelation, accepted_by}
 use Rattle.tcmu_model.proofs.Everies.{every-filter}
 use Rattle.text_laws.specs.Devices.{IsSpelledDevice}
 use Rattle.text_laws.specs.Dumps.{IsDumpValue}
 use Rattle.text_laws.specs.Printed.{Printed, AnEntry, ADump, device_of, is_about, HasEventValue, IsValue, AreValues, RunPrints, IsPrintOf}
 use Rattle.text_laws.specs.Values.{IsNumber}
-use Rattle.text_laws.proofs.Accepted.{accepted_by, accepts_one}
+use Rattle.text_laws.proofs.Accepted.{accepts_one}
 use Rattle.text_laws.proofs.Asked.{HasAccepted, more_accepted, step_accepts}
 use Rattle.text_laws.proofs.Legal.{each_of}
 use Rattle.text_laws.proofs.Pictured.{picture_value}

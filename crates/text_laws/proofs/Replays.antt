@@ -20,7 +20,7 @@ use Rattle.tcmu_model.specs.Several.{Journaled, is_of, RunLogs, IsLegalEach, Dra
 use Rattle.tcmu_model.specs.Journals.{Has, WasAccepted}
 use Rattle.tcmu_model.specs.Sound.{Every}
 use Rattle.tcmu_model.proofs.Everies.{every-weaker, every-mapped}
-use Rattle.tcmu_model.proofs.Journals.{run_senders}
+use Rattle.tcmu_model.proofs.Journals.{run_senders, HasSender}
 use Rattle.tcmu_model.proofs.SoundEvents.{sound_opening}
 use Rattle.tcmu_model.proofs.ScenarioLaws.{scenario_is}
 use Rattle.text_laws.specs.Carried.{IsCarriedWhat}
@@ -53,9 +53,6 @@ accepted_command : (R : HandlerRelation) (d d' : Device) (es : List EntryData) (
 accepted_command R d d' es s c r h =
     ⊎_elim (λ (x : Has es (ev.Submit c) (ev.Submitted (submit.Queued s))). has_command R d d' es c (submit.Queued s) r x)
     (λ (x : Has es (ev.Submit c) (ev.Submitted (submit.Delayed s))). has_command R d d' es c (submit.Delayed s) r x) h
-
-abbrev HasSender : List EntryData → DoneData → Type 0
-HasSender es e = (c : CommandData) × WasAccepted es e.serial c × (e.init ≡ c.init) × (e.tag ≡ c.tag)
 
 log_named : (R : HandlerRelation) (s : SettingsData) (name : List ℕ) (medium : MediumState) (es : List EntryData) (d : Device) → Run R (opening s name medium) es d → Every Named d.state.log
 log_named R s name medium es d r = every-weaker (HasSender es) Named d.state.log named (run_senders R s name medium es d r)

@@ -105,7 +105,7 @@ unfolding sense_text
 sense None = record { bytes = refl }
 sense (Some s) = joins (hex_byte s.key ++ 47 ∷ hex_byte s.asc) (47 ∷ hex_byte s.ascq) (joins (hex_byte s.key) (47 ∷ hex_byte s.asc) (pair s.key) (begins 47 _ refl (pair s.asc))) (begins 47 _ refl (pair s.ascq))
 
-number_list : (ns : List ℕ) → AreUnbroken (map decimal ns)
+pub number_list : (ns : List ℕ) → AreUnbroken (map decimal ns)
 number_list [] = tt
 number_list (n ∷ ns) = (number n, number_list ns)
 

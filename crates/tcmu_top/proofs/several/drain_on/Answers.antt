@@ -5,18 +5,18 @@ use Rattle.tcmu_model.specs.Device.{Device}
 use Rattle.tcmu_model.specs.Drain.{Drains}
 use Rattle.tcmu_model.specs.Sound.{IsSound}
 use Rattle.tcmu_top.specs.Playing.{states_of}
-use Rattle.tcmu_top.proofs.Places.{every_get}
 use Rattle.tcmu_top.proofs.Sets.{states_get, wrote_on, wrote_on_front}
 use Rattle.tcmu_top.proofs.several.drain_on.Goals as goal
+use Rattle.tcmu_model.proofs.Indexed.{every_at}
 
 pub drain-requires-clause-few : goal.drain-requires-clause-few
 drain-requires-clause-few g c =
-    every_get (λ (d : Device). d.state.accepted < 2 ^ 63) (states_of g.P.Path.device c.args.set.now) c.args.at (g.P.Path.device c.get_mut.result.now) c.requires.few
+    every_at (λ (d : Device). d.state.accepted < 2 ^ 63) (states_of g.P.Path.device c.args.set.now) c.args.at (g.P.Path.device c.get_mut.result.now) c.requires.few
     (states_get g.P.Path.device c.args.set.now c.args.at c.get_mut.result.now c.get_mut.ensures.value)
 
 pub drain-requires-clause-sound : goal.drain-requires-clause-sound
 drain-requires-clause-sound g c =
-    every_get (λ (d : Device). IsSound d.state) (states_of g.P.Path.device c.args.set.now) c.args.at (g.P.Path.device c.get_mut.result.now) c.requires.sound
+    every_at (λ (d : Device). IsSound d.state) (states_of g.P.Path.device c.args.set.now) c.args.at (g.P.Path.device c.get_mut.result.now) c.requires.sound
     (states_get g.P.Path.device c.args.set.now c.args.at c.get_mut.result.now c.get_mut.ensures.value)
 
 pub returns-clause-ok : goal.returns-clause-ok

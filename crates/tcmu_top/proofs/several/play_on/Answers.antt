@@ -7,18 +7,18 @@ use Rattle.tcmu_model.specs.ScenarioData.{LineData}
 use Rattle.tcmu_model.specs.Sound.{IsSound}
 use Rattle.device_set.specs.Sets.{with_device}
 use Rattle.tcmu_top.specs.Playing.{states_of, WroteOn, WroteOnFront}
-use Rattle.tcmu_top.proofs.Places.{every_get}
 use Rattle.tcmu_top.proofs.Sets.{states_get, wrote_on, wrote_on_front}
 use Rattle.tcmu_top.proofs.several.play_on.Goals as goal
+use Rattle.tcmu_model.proofs.Indexed.{every_at}
 
 pub play_line-requires-clause-few : goal.play_line-requires-clause-few
 play_line-requires-clause-few g c =
-    every_get (λ (d : Device). d.state.accepted < 2 ^ 63) (states_of g.P.Path.device c.args.set.now) c.line.inside.device (g.P.Path.device c.get_mut.result.now) c.requires.few
+    every_at (λ (d : Device). d.state.accepted < 2 ^ 63) (states_of g.P.Path.device c.args.set.now) c.line.inside.device (g.P.Path.device c.get_mut.result.now) c.requires.few
     (states_get g.P.Path.device c.args.set.now c.line.inside.device c.get_mut.result.now c.get_mut.ensures.value)
 
 pub play_line-requires-clause-sound : goal.play_line-requires-clause-sound
 play_line-requires-clause-sound g c =
-    every_get (λ (d : Device). IsSound d.state) (states_of g.P.Path.device c.args.set.now) c.line.inside.device (g.P.Path.device c.get_mut.result.now) c.requires.sound
+    every_at (λ (d : Device). IsSound d.state) (states_of g.P.Path.device c.args.set.now) c.line.inside.device (g.P.Path.device c.get_mut.result.now) c.requires.sound
     (states_get g.P.Path.device c.args.set.now c.line.inside.device c.get_mut.result.now c.get_mut.ensures.value)
 
 pub returns-clause-ok : goal.returns-clause-ok

@@ -8,10 +8,11 @@ use Rattle.tcmu_model.proofs.Everies.{every-weaker}
 use Rattle.tcmu_path.specs.Tasks.{IsFitFor}
 use Rattle.tcmu_top.specs.Playing.{states_of}
 use Rattle.tcmu_top.proofs.Each.{sofar_then, sofar_then_front}
-use Rattle.tcmu_top.proofs.Going.{PlaysLine, line_at, every_turned, count_kept, played_more, played_stopped}
+use Rattle.tcmu_top.proofs.Going.{PlaysLine, every_turned, count_kept, played_more, played_stopped}
 use Rattle.tcmu_top.proofs.Sets.{states_count}
 use Rattle.tcmu_top.proofs.Telling.{on_err}
 use Rattle.tcmu_top.proofs.several.replay_lines.Goals as goal
+use Rattle.load_run.proofs.Tallying.{line_at}
 
 pub play_on-requires-clause-few : goal.play_on-requires-clause-few
 play_on-requires-clause-few g c =

@@ -4,20 +4,20 @@ use Rattle.tcmu_model.specs.Device.{Device}
 use Rattle.tcmu_model.specs.Sound.{IsSound}
 use Rattle.tcmu_model.specs.Several.{ends_text}
 use Rattle.tcmu_top.specs.Playing.{states_of}
-use Rattle.tcmu_top.proofs.Places.{every_get}
 use Rattle.tcmu_top.proofs.Sets.{states_get}
 use Rattle.tcmu_top.proofs.Telling.{on_err, front_more, gained_more, gained_as}
 use Rattle.tcmu_top.proofs.Whole.{last_text, ends_more, ends_at}
 use Rattle.tcmu_top.proofs.several.write_ends.Goals as goal
+use Rattle.tcmu_model.proofs.Indexed.{every_at}
 
 pub open_count-count-requires-clause-sound : goal.open_count-count-requires-clause-sound
 open_count-count-requires-clause-sound g c =
-    every_get (λ (d : Device). IsSound d.state) (states_of g.P.Path.device c.args.set.now) c.loop-at.at (g.P.Path.device c.get.result.now) c.requires.sound
+    every_at (λ (d : Device). IsSound d.state) (states_of g.P.Path.device c.args.set.now) c.loop-at.at (g.P.Path.device c.get.result.now) c.requires.sound
     (states_get g.P.Path.device c.args.set.now c.loop-at.at c.get.result.now c.get.ensures)
 
 pub open_count-count-requires-clause-few : goal.open_count-count-requires-clause-few
 open_count-count-requires-clause-few g c =
-    every_get (λ (d : Device). d.state.accepted < 2 ^ 63) (states_of g.P.Path.device c.args.set.now) c.loop-at.at (g.P.Path.device c.get.result.now) c.requires.few
+    every_at (λ (d : Device). d.state.accepted < 2 ^ 63) (states_of g.P.Path.device c.args.set.now) c.loop-at.at (g.P.Path.device c.get.result.now) c.requires.few
     (states_get g.P.Path.device c.args.set.now c.loop-at.at c.get.result.now c.get.ensures)
 
 pub returns-in_err-write_end-clause-err : goal.returns-in_err-write_end-clause-err

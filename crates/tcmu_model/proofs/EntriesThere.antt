@@ -14,11 +14,16 @@ use Rattle.tcmu_model.specs.declared.entry.EntryRef.TheVariants.{Pad, Cmd, Tmr}
 use Rattle.tcmu_model.specs.UserNext.{iovs_in, tmr_ids_in}
 use Rattle.tcmu_model.specs.Represents.{ids_in}
 use Rattle.tcmu_model.proofs.Written.{lengths, length-entry_header, length-command_head, length-padded, field-in, field-front, field-rest}
-use Rattle.ring_laws.proofs.Layouts.{length-iovs_bytes}
-use Rattle.ring_laws.proofs.Completing.{field_behind}
-use Rattle.ring_laws.proofs.NoteBytes.{length-ids}
+use Rattle.tcmu_model.specs.EntryWriting.{AreInside, IsRequest}
+use Rattle.tcmu_model.proofs.PartLengths.{length-iovs_bytes, length-ids_bytes}
+use Rattle.byteorder.specs.Endian.{little_number}
 
 ruleset sizes = (lengths, length-entry_header, length-command_head)
+
+-- a field behind a place is one of what stands there
+pub field_behind : (n b k : ℕ) (xs : List ℕ) → field n (b + k) xs ≡ field n k (drop b xs)
+unfolding field
+field_behind n b k xs = ap (λ ys. little_number n ys) (sym (drop-drop k b xs))
 
 -- these bytes stand from a place on
 abbrev pub IsThere : List ℕ → ℕ → List ℕ → Type 0
@@ -73,20 +78,6 @@ pad_there g area m at len least aligned fits most there =
     ∙ sized_ok g area m at 0 len least most
 
 -- ==== commands
-
--- iovecs whose numbers have their places, each inside the bytes from low up to high
-abbrev pub AreInside : ℕ → ℕ → List Iov → Type 0
-AreInside low high [] = Unit {0}
-AreInside low high (iov ∷ iovs) = (iov.base < 2 ^ 64) × (iov.len < 2 ^ 64) × (lies_inside low high iov ≡ true) × AreInside low high iovs
-
--- a request of which no fault holds
-pub record IsRequest (m : Mailbox) (area at id slots : ℕ) (iovs : List Iov) (cdb : List ℕ) : Type 0 where
-  pub id_fits : id < 2 ^ 16
-  pub few : length iovs ≤ slots
-  pub cdb_is : IsCdb cdb
-  pub inside : AreInside (4096 + m.cmdr_size) (4096 + m.cmdr_size + area) iovs
-  pub limit : command_length slots (length cdb) ≤ limit_of m at
-  pub fits : 128 + at + command_length slots (length cdb) + 8 < 2 ^ 32
 
 -- the slots read as the iovecs that were written
 iovs_again : (g : List ℕ) (b i : ℕ) (iovs : List Iov) (low high : ℕ)
@@ -250,7 +241,7 @@ note_there g area m at kind ids fits most place =
     let head : List ℕ = (((entry_header 2 len 0 ++ le 1 kind) ++ zeros 3) ++ le 4 count) ++ zeros 16 in
     let slots : List ℕ = ids_bytes ids in
     let text : List ℕ = tmr_bytes kind ids in
-    let size_slots : length slots ≡ 2 * count = length-ids ids in
+    let size_slots : length slots ≡ 2 * count = length-ids_bytes ids in
     let size_head : length head ≡ 32 = omega lengths in
     let size_both : length (head ++ slots) ≡ 32 + 2 * count = length-append head slots ∙ omega arith in
     let size : length text ≡ len = length-padded len (head ++ slots) (omega arith) in
