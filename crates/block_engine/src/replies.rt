@@ -1,4 +1,4 @@
-//! Replies.
+//! The replies that an engine gives: GOOD with a payload, and CHECK CONDITION with sense data.
 ghost use Rattle.std.specs.Prelude.{◌≡◌, is_err, if◌then◌else◌, IfOk, take};
 ghost use Rattle.tcmu_model.specs.Scsi.{good, refused, cut};
 

@@ -4,7 +4,7 @@ ghost use Rattle.byteorder.specs.Endian.{big_from};
 
 use byteorder::{BigEndian, ByteOrder};
 
-/// The number in the two bytes from `at` on.
+/// The number in the two bytes from `at` on, the highest byte first.
 pub fn u16_at(bytes: &[u8], at: usize) -> u16
     requires { at + 2 ≤ length bytes.now }
     ensures { result ≡ big_from at 2 bytes.now }
@@ -12,7 +12,7 @@ pub fn u16_at(bytes: &[u8], at: usize) -> u16
     BigEndian::read_u16(&bytes[at..])
 }
 
-/// The number in the four bytes from `at` on.
+/// The number in the four bytes from `at` on, the highest byte first.
 pub fn u32_at(bytes: &[u8], at: usize) -> u32
     requires { at + 4 ≤ length bytes.now }
     ensures { result ≡ big_from at 4 bytes.now }
@@ -20,7 +20,7 @@ pub fn u32_at(bytes: &[u8], at: usize) -> u32
     BigEndian::read_u32(&bytes[at..])
 }
 
-/// The number in the eight bytes from `at` on.
+/// The number in the eight bytes from `at` on, the highest byte first.
 pub fn u64_at(bytes: &[u8], at: usize) -> u64
     requires { at + 8 ≤ length bytes.now }
     ensures { result ≡ big_from at 8 bytes.now }

@@ -15,7 +15,7 @@ fn place_of(bytes: &[u8], at: u8) -> Option<usize>
     bytes.iter().position(|b| *b == at)
 }
 
-/// What stands before and behind the first such byte.
+/// What stands before and behind the first such byte; None where there is none.
 #[tactic(auto, unfolding(tcmu_model::specs::Fields::cut_at))]
 pub fn cut(bytes: &[u8], at: u8) -> Option<(&[u8], &[u8])>
     ensures value { option_map (λ p. (p.0.now, p.1.now)) result ≡ cut_at at bytes.now }
@@ -36,7 +36,7 @@ pub fn is_text(text: &[u8], wanted: &[u8]) -> bool
     text == wanted
 }
 
-/// What follows a word at the front of a text.
+/// What follows a word at the front of a text; None where the text does not begin with it.
 pub fn after_word<'a>(word: &[u8], text: &'a [u8]) -> Option<&'a [u8]>
     ensures { option_map (λ x. x.now) result ≡ after_word word.now text.now }
 {
@@ -78,7 +78,7 @@ fn is_number(text: &[u8]) -> bool
     text.len() == 1 || b'0' < text[0]
 }
 
-/// The number that a text spells, within its limits.
+/// The number from `low` to `high` that decimal digits spell without a zero in front; None where the text is none.
 pub fn number_of(low: u64, high: u64, text: &[u8]) -> Option<u64>
     ensures value { result ≡ number_of low high text.now }
     ensures least { IfSome result (λ n. low ≤ n) }
@@ -135,7 +135,7 @@ fn is_rising(numbers: &[u64]) -> bool
     true
 }
 
-/// 1 to 64 rising numbers, with such a byte between them.
+/// 1 to 64 rising numbers from 1 to `high`, with such a byte between them; None where the text is none.
 #[tactic(auto, unfolding(tcmu_model::specs::Fields::rising_of))]
 pub fn rising_of(alloc: Global, at: u8, high: u64, text: &[u8]) -> Result<Option<Serials>, NoMemory>
     requires { high < 2 ^ 60 }
@@ -235,7 +235,7 @@ fn push_run(out: &mut Vec<u8>, text: &[u8]) -> Result<bool, NoMemory>
     Ok(true)
 }
 
-/// Runs joined by commas, at most 1,048,576 bytes in all.
+/// The bytes of runs joined by commas, at most 1,048,576; None where the text is none.
 pub fn runs_of(alloc: Global, text: &[u8]) -> Result<Option<Bytes>, NoMemory>
     ensures value { IfOk result (λ o. option_map (λ b. b.items) o ≡ runs_of text.now) }
     ensures most { IfOk result (λ o. IfSome o (λ b. length b.items ≤ 1048576)) }
@@ -306,7 +306,7 @@ fn with_flags(text: &[u8]) -> Option<Flags>
     with_flag(flags, rest)
 }
 
-/// `none`, or the flags' words, each once.
+/// `none`, or the flags' words with commas between them, each once; None where the text is none.
 #[tactic(auto, unfolding(tcmu_model::specs::Fields::flags_of))]
 pub fn flags_of(text: &[u8]) -> Option<Flags>
     ensures { result ≡ flags_of text.now }
@@ -321,7 +321,7 @@ pub fn flags_of(text: &[u8]) -> Option<Flags>
     with_flags(text)
 }
 
-/// `none`, or rising serials.
+/// `none`, or rising serials with commas between them; None where the text is none.
 #[tactic(auto, unfolding(tcmu_model::specs::Fields::serials_of))]
 pub fn serials_of(alloc: Global, text: &[u8]) -> Result<Option<Serials>, NoMemory>
     ensures { IfOk result (λ o. option_map (λ s. s.items) o ≡ serials_of text.now) }

@@ -37,7 +37,7 @@ impl<P> DeviceSet<P> {
         }
     }
 
-    /// Adds a device behind the others and answers its number.
+    /// Adds a device of a new name behind the others and answers its number. NoMemory leaves the set as it was, and the device is dropped.
     pub fn add(&mut self, name: Name, device: P) -> Result<u32, NoMemory>
     where
         P: Drop,
@@ -52,7 +52,7 @@ impl<P> DeviceSet<P> {
         Ok(at)
     }
 
-    /// The number of the device of this name.
+    /// The number of the device of this name; None exactly where no device has it.
     pub fn position(&self, name: &Name) -> Option<u32>
         ensures { result ≡ number_of name.now self.now }
     {

@@ -2,10 +2,11 @@
 use Rattle.std.specs.Prelude.{ℕ, None}
 use Rattle.edge.specs.Stores.{StoreState}
 
--- its length in bytes, the calls made, and the faults
+-- its length in bytes, the calls made, how many were syncs, and the faults
 pub record StoreOfHost : Type 0 where
   pub size : ℕ
   pub calls : ℕ
+  pub syncs : ℕ
   pub faults : ℕ
 
 -- a store of the host tells neither its bytes nor which calls fail

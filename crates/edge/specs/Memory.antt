@@ -17,11 +17,12 @@ pub record ToMemory : Type 0 where
   pub calls : ℕ
   pub faults : ℕ
 
--- the bytes of a store, the numbers of the calls that fail, the calls made, and the faults
+-- the bytes of a store, the numbers of the calls that fail, the calls made, how many were syncs, and the faults
 pub record StoreInMemory : Type 0 where
   pub bytes : List ℕ
   pub fails : List ℕ
   pub calls : ℕ
+  pub syncs : ℕ
   pub faults : ℕ
 
 -- what the store of a file in memory tells

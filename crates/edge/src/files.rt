@@ -1,7 +1,8 @@
 //! Files by name, of which media are made.
-ghost use Rattle.std.specs.Prelude.{◌≡◌, true, Option, ℕ, IfOk, IfSome, OnErr};
+ghost use Rattle.std.specs.Prelude.{◌≡◌, true, Option, ℕ, is_err, IfOk, IfSome, OnErr};
 ghost use Rattle.std.specs.Option.{option_map};
 ghost use Rattle.tcmu_types.specs.Numbered.{HasCause};
+ghost use Rattle.edge.specs.Outside.{CountsFailed};
 ghost use Rattle.edge.specs.declared.files.FetchOk.TheVariants.{File, NoMemory};
 ghost use Rattle.edge.specs.Stores.{FilesState, Content, store_of, Opened, fetch_fails, one_more_fetch, after_keep, is_medium_size};
 
@@ -33,7 +34,8 @@ pub trait Files {
         ensures fetched { IfOk result (λ given. elim given [ File f ↦ Opened name.now (Self.File.state f) (state self.old) (state self.new) | NoMemory ↦ state self.new ≡ state self.old ]) }
         ensures failed { OnErr result (IfSome (state self.old) (λ f. fetch_fails name.now f ≡ true)) }
         ensures counted { OnErr result (state self.new ≡ option_map one_more_fetch (state self.old)) }
-        ensures cause { HasCause (faults self.old) (faults self.new) result };
+        ensures cause { HasCause (faults self.old) (faults self.new) result }
+        ensures count { CountsFailed (faults self.old) (is_err result) (faults self.new) };
 
     /// Gives a file back that `fetch` took out: from now on its name stands for what the store tells. At a name that is not out the file is
     /// dropped, and nothing changes.

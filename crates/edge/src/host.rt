@@ -1,6 +1,7 @@
 //! Files of the host by their names, as stores. They tell no content: what a file holds is not known.
 ghost use Rattle.std.specs.Prelude.{◌≡◌, ◌≤◌, ◌%◌, ◌^◌, ◌+◌, None, length, is_err, IfOk, OnErr};
 ghost use Rattle.tcmu_types.specs.Numbered.{HasCause, next_call};
+ghost use Rattle.edge.specs.Outside.{CountsFailed};
 
 use crate::files::has_medium_size;
 use crate::{Failed, FetchOk, Files, Store};
@@ -17,6 +18,7 @@ pub struct HostStore {
     file: File,
     length: u64,
     calls: u64,
+    syncs: u64,
     faults: u64,
 }
 
@@ -25,7 +27,7 @@ impl Model for HostStore {
 
     ghost Value = { StoreOfHost };
 
-    ghost view = { λ s. record { size = s.length; calls = s.calls; faults = s.faults } };
+    ghost view = { λ s. record { size = s.length; calls = s.calls; syncs = s.syncs; faults = s.faults } };
 }
 
 impl HostStore {
@@ -33,6 +35,7 @@ impl HostStore {
     fn count(&mut self, outcome: io::Result<()>) -> Result<(), Failed>
         ensures kept { self.new ≡ record self.old { calls = next_call self.old.calls; faults = self.new.faults } }
         ensures cause { HasCause self.old.faults self.new.faults result }
+        ensures count { CountsFailed self.old.faults (is_err result) self.new.faults }
     {
         self.calls = self.calls.saturating_add(1);
         match outcome {
@@ -52,6 +55,8 @@ impl Store for HostStore {
 
     ghost faults = { λ s. s.faults };
 
+    ghost syncs = { λ s. s.syncs };
+
     ghost sized = { λ s. tt };
 
     fn length(&self) -> u64 {
@@ -69,13 +74,14 @@ impl Store for HostStore {
     }
 
     fn sync(&mut self) -> Result<(), Failed> {
+        self.syncs = self.syncs.saturating_add(1);
         let outcome = self.file.sync_all();
         self.count(outcome)
     }
 }
 
 /// The host's files by their names, which contracts see as the count of faults. A directory and a file without the right to read
-/// or to write are faults like a missing one.
+/// or to write are faults like a missing one. No names are kept, so a file that is out can be fetched once more.
 #[derive(Drop)]
 pub struct HostFiles<R: fs::Files<File = File> + Drop> {
     runtime: R,
@@ -107,7 +113,7 @@ fn open<R: fs::Files<File = File>>(runtime: &R, name: &[u8]) -> Option<(File, u6
 }
 
 impl<R: fs::Files<File = File> + Drop> HostFiles<R> {
-    /// The files below the current folder, of which no fetch has failed.
+    /// The host's files; a name is a path as given, seen from the current folder. No fetch has failed yet.
     pub fn new(runtime: R) -> HostFiles<R>
         ensures { result ≡ 0 }
     {
@@ -128,6 +134,7 @@ impl<R: fs::Files<File = File> + Drop> Files for HostFiles<R> {
                 file,
                 length,
                 calls: 0,
+                syncs: 0,
                 faults: 0,
             })),
             _ => {

@@ -2,7 +2,7 @@
 ghost use Rattle.std.specs.Prelude.{◌≡◌, ℕ, List, [], Option, Some, ◌+◌, ◌-◌, ◌≤◌, ◌<◌, ◌||◌, length, take, drop, min, nat_lt, nat_eq, is_err, IfOk, OnOk, OnErr};
 ghost use Rattle.std.specs.List.{list_any};
 ghost use Rattle.tcmu_types.specs.Numbered.{HasCause, is_listed, next_call};
-ghost use Rattle.edge.specs.Outside.{Tells, Gave, Gained, GainedFront};
+ghost use Rattle.edge.specs.Outside.{Tells, Gave, Gained, GainedFront, CountsFailed};
 
 use crate::{Failed, Sink, Source};
 use std::alloc::Global;
@@ -49,6 +49,7 @@ impl MemSource {
 fn copy_front(from: &[u8], into: &mut [u8]) -> usize
     ensures count { result ≡ min (length from.now) (length into.old) }
     ensures copied { take result into.new ≡ take result from.now }
+    ensures rest { drop result into.new ≡ drop result into.old }
 {
     let count = from.len().min(into.len());
     into[..count].copy_from_slice(&from[..count]);
@@ -72,7 +73,10 @@ impl Source for MemSource {
         ensures end { IfOk result (λ n. n ≡ 0 → 0 < length into.new → Tells (Some self.old.left) []) }
         ensures failed { OnErr result (Some self.new.left ≡ Some self.old.left) }
         ensures cause { HasCause self.old.faults self.new.faults result }
-        // The listed calls fail, and no other.
+        ensures count { CountsFailed self.old.faults (is_err result) self.new.faults }
+        // As much as fits comes, and the rest of `into` stays. The listed calls fail, and no other.
+        ensures most { IfOk result (λ n. n ≡ min (length self.old.left) (length into.old)) }
+        ensures rest { IfOk result (λ n. drop n into.new ≡ drop n into.old) }
         ensures exact { is_err result ≡ is_listed self.old.fails self.old.calls }
         ensures calls { self.new.calls ≡ next_call self.old.calls }
         ensures fails { self.new.fails ≡ self.old.fails }
@@ -133,7 +137,7 @@ impl MemSink {
         self.bytes.as_slice()
     }
 
-    /// How many calls were made.
+    /// How many calls of `write` were made, failed ones too.
     pub fn calls(&self) -> u64
         ensures { result ≡ self.now.calls }
     {
@@ -150,6 +154,7 @@ impl Sink for MemSink {
         ensures ok { OnOk result (Gained (Some self.old.written) piece.now (Some self.new.written)) }
         ensures err { OnErr result (GainedFront (Some self.old.written) piece.now (Some self.new.written)) }
         ensures cause { HasCause self.old.faults self.new.faults result }
+        ensures count { CountsFailed self.old.faults (is_err result) self.new.faults }
         // The listed calls fail, and those that are longer than the room left. Such a call appends nothing.
         ensures exact { is_err result ≡ (is_listed self.old.fails self.old.calls || nat_lt self.old.room (length piece.now)) }
         ensures nothing { OnErr result (self.new.written ≡ self.old.written) }

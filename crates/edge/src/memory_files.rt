@@ -3,6 +3,7 @@ ghost use Rattle.std.specs.Prelude.{◌≡◌, List, ℕ, Some, None, [], IfOk, 
 ghost use Rattle.std.specs.List.{position};
 ghost use Rattle.std.specs.Option.{option_map};
 ghost use Rattle.tcmu_types.specs.Numbered.{HasCause};
+ghost use Rattle.edge.specs.Outside.{CountsFailed};
 ghost use Rattle.edge.specs.declared.files.FetchOk.TheVariants.{File};
 ghost use Rattle.edge.specs.Stores.{missing, out, can_open, fetch_fails, one_more_fetch, given_back, with_place, store_of, at_home, Opened};
 ghost use Rattle.edge.specs.Memory.{files_state, after_add, content_at, content_of, place_of, place_in};
@@ -146,7 +147,7 @@ impl MemFiles {
         Ok(())
     }
 
-    /// The store of a file that is at home.
+    /// The store of the file of this name; None where there is none, or its file is out.
     pub fn get(&self, name: &[u8]) -> Option<&MemStore>
         ensures { option_map (λ s. content_of s.now) result ≡ content_at ((files_state self.now).places name.now) }
     {
@@ -167,6 +168,7 @@ impl Files for MemFiles {
         ensures exact { is_err result ≡ fetch_fails name.now (files_state self.old) }
         ensures counted { OnErr result (files_state self.new ≡ one_more_fetch (files_state self.old)) }
         ensures cause { HasCause self.old.faults self.new.faults result }
+        ensures count { CountsFailed self.old.faults (is_err result) self.new.faults }
     {
         self.fetches = self.fetches.saturating_add(1);
         if !contains(self.fails.as_slice(), self.fetches) {

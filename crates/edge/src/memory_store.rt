@@ -1,6 +1,7 @@
 //! A store in memory, of which the listed calls fail.
 ghost use Rattle.std.specs.Prelude.{◌≡◌, ◌+◌, ◌≤◌, Some, length, is_err, OnOk, OnErr};
 ghost use Rattle.tcmu_types.specs.Numbered.{HasCause, is_listed, next_call};
+ghost use Rattle.edge.specs.Outside.{CountsFailed};
 ghost use Rattle.edge.specs.Stores.{Shows, Puts, Spoils};
 
 use crate::memory::contains;
@@ -14,6 +15,7 @@ pub struct MemStore {
     bytes: Vec<u8>,
     fails: Serials,
     calls: u64,
+    syncs: u64,
     faults: u64,
 }
 
@@ -22,18 +24,19 @@ impl Model for MemStore {
 
     ghost Value = { StoreInMemory };
 
-    ghost view = { λ s. record { bytes = s.bytes.items; fails = s.fails.items; calls = s.calls; faults = s.faults } };
+    ghost view = { λ s. record { bytes = s.bytes.items; fails = s.fails.items; calls = s.calls; syncs = s.syncs; faults = s.faults } };
 }
 
 impl MemStore {
     /// A store of these bytes; its calls are numbered from 1, and those that are listed fail.
     pub fn new(bytes: Bytes, fails: Serials) -> MemStore
-        ensures { result ≡ record { bytes = bytes.items; fails = fails.items; calls = 0; faults = 0 } }
+        ensures { result ≡ record { bytes = bytes.items; fails = fails.items; calls = 0; syncs = 0; faults = 0 } }
     {
         MemStore {
             bytes: bytes.into_vec(),
             fails,
             calls: 0,
+            syncs: 0,
             faults: 0,
         }
     }
@@ -50,6 +53,7 @@ impl MemStore {
         ensures exact { is_err result ≡ is_listed self.old.fails self.old.calls }
         ensures kept { self.new ≡ record self.old { calls = next_call self.old.calls; faults = self.new.faults } }
         ensures cause { HasCause self.old.faults self.new.faults result }
+        ensures count { CountsFailed self.old.faults (is_err result) self.new.faults }
     {
         self.calls = self.calls.saturating_add(1);
         if contains(self.fails.as_slice(), self.calls) {
@@ -69,6 +73,8 @@ impl Store for MemStore {
 
     ghost faults = { λ s. s.faults };
 
+    ghost syncs = { λ s. s.syncs };
+
     ghost sized = { λ s. refl };
 
     fn length(&self) -> u64
@@ -84,6 +90,7 @@ impl Store for MemStore {
         ensures exact { is_err result ≡ is_listed self.old.fails self.old.calls }
         ensures kept { self.new ≡ record self.old { calls = next_call self.old.calls; faults = self.new.faults } }
         ensures cause { HasCause self.old.faults self.new.faults result }
+        ensures count { CountsFailed self.old.faults (is_err result) self.new.faults }
     {
         self.call()?;
         copy_out(&self.bytes, at as usize, into);
@@ -99,6 +106,7 @@ impl Store for MemStore {
         ensures exact { is_err result ≡ is_listed self.old.fails self.old.calls }
         ensures kept { self.new ≡ record self.old { bytes = self.new.bytes; calls = next_call self.old.calls; faults = self.new.faults } }
         ensures cause { HasCause self.old.faults self.new.faults result }
+        ensures count { CountsFailed self.old.faults (is_err result) self.new.faults }
     {
         self.call()?;
         overwrite(&mut self.bytes, at as usize, piece);
@@ -107,9 +115,11 @@ impl Store for MemStore {
 
     fn sync(&mut self) -> Result<(), Failed>
         ensures exact { is_err result ≡ is_listed self.old.fails self.old.calls }
-        ensures kept { self.new ≡ record self.old { calls = next_call self.old.calls; faults = self.new.faults } }
+        ensures kept { self.new ≡ record self.old { calls = next_call self.old.calls; syncs = next_call self.old.syncs; faults = self.new.faults } }
         ensures cause { HasCause self.old.faults self.new.faults result }
+        ensures count { CountsFailed self.old.faults (is_err result) self.new.faults }
     {
+        self.syncs = self.syncs.saturating_add(1);
         self.call()
     }
 }

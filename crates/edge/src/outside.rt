@@ -1,7 +1,7 @@
 //! A source and a sink of bytes, each with a count of faults.
-ghost use Rattle.std.specs.Prelude.{◌≡◌, ◌≤◌, ◌<◌, ℕ, List, [], Option, length, take, IfOk, OnOk, OnErr};
+ghost use Rattle.std.specs.Prelude.{◌≡◌, ◌≤◌, ◌<◌, ℕ, List, [], Option, length, take, is_err, IfOk, OnOk, OnErr};
 ghost use Rattle.tcmu_types.specs.Numbered.{HasCause};
-ghost use Rattle.edge.specs.Outside.{Tells, Gave, Gained, GainedFront};
+ghost use Rattle.edge.specs.Outside.{Tells, Gave, Gained, GainedFront, CountsFailed};
 
 use thiserror::Error;
 
@@ -25,7 +25,8 @@ pub trait Source {
         ensures takes { IfOk result (λ n. Gave (left self.old) (take n into.new) (left self.new)) }
         ensures end { IfOk result (λ n. n ≡ 0 → 0 < length into.new → Tells (left self.old) []) }
         ensures failed { OnErr result (left self.new ≡ left self.old) }
-        ensures cause { HasCause (faults self.old) (faults self.new) result };
+        ensures cause { HasCause (faults self.old) (faults self.new) result }
+        ensures count { CountsFailed (faults self.old) (is_err result) (faults self.new) };
 }
 
 /// Where bytes go.
@@ -40,5 +41,6 @@ pub trait Sink {
     fn write(&mut self, piece: &[u8]) -> Result<(), Failed>
         ensures ok { OnOk result (Gained (written self.old) piece.now (written self.new)) }
         ensures err { OnErr result (GainedFront (written self.old) piece.now (written self.new)) }
-        ensures cause { HasCause (faults self.old) (faults self.new) result };
+        ensures cause { HasCause (faults self.old) (faults self.new) result }
+        ensures count { CountsFailed (faults self.old) (is_err result) (faults self.new) };
 }

@@ -1,8 +1,9 @@
 //! A source and a sink over std's readers and writers. What a file or a terminal gives is not known, so as a source and a sink they tell
 //! no content; what they take from a reader and hand to a writer is told of those that tell it.
-ghost use Rattle.std.specs.Prelude.{◌≡◌, ◌≤◌, ◌<◌, None, length, IfOk, OnOk, OnErr};
+ghost use Rattle.std.specs.Prelude.{◌≡◌, ◌≤◌, ◌<◌, None, length, is_err, IfOk, OnOk, OnErr};
 ghost use Rattle.std.specs.Io.KnownBytes.{Appends, ReadConsumes};
 ghost use Rattle.tcmu_types.specs.Numbered.{HasCause};
+ghost use Rattle.edge.specs.Outside.{CountsFailed};
 ghost use Rattle.edge.specs.Standard.{AppendsFront};
 
 use crate::{Failed, Sink, Source};
@@ -43,6 +44,7 @@ impl<R: Read> Source for StdSource<R> {
     fn read(&mut self, into: &mut [u8]) -> Result<usize, Failed>
         ensures within { IfOk result (λ n. n ≤ length into.new) }
         ensures cause { HasCause self.old.faults self.new.faults result }
+        ensures count { CountsFailed self.old.faults (is_err result) self.new.faults }
         ensures bytes { ReadConsumes (R.remaining self.old.inner) (R.remaining self.new.inner) result into.new }
     {
         match self.reader.read(into) {
@@ -89,6 +91,7 @@ impl<W: Write> Sink for StdSink<W> {
     /// call by a front of it.
     fn write(&mut self, piece: &[u8]) -> Result<(), Failed>
         ensures cause { HasCause self.old.faults self.new.faults result }
+        ensures count { CountsFailed self.old.faults (is_err result) self.new.faults }
         ensures whole { OnOk result (Appends (W.contents self.old.inner) (W.contents self.new.inner) piece.now) }
         ensures front { OnErr result (AppendsFront (W.contents self.old.inner) (W.contents self.new.inner) piece.now) }
     {

@@ -1,5 +1,5 @@
 //! What a handler serves its device's bytes from.
-ghost use Rattle.std.specs.Prelude.{◌≡◌, ℕ, ◌+◌, ◌*◌, ◌%◌, ◌^◌, ◌<◌, ◌≤◌, length, is_err};
+ghost use Rattle.std.specs.Prelude.{◌≡◌, ℕ, ◌+◌, ◌*◌, ◌%◌, ◌^◌, ◌<◌, ◌≤◌, length, is_err, OnOk};
 ghost use Rattle.tcmu_types.specs.Numbered.{HasCause};
 ghost use Rattle.tcmu_model.specs.MediumState.{MediumState};
 ghost use Rattle.tcmu_model.specs.Medium.{Reads, Writes, Fills, Syncs};
@@ -13,6 +13,9 @@ pub trait Medium {
     /// How many calls have failed; the count stops at 2^64 - 1.
     ghost faults: { Self → ℕ };
 
+    /// What stands between a medium and itself behind a sync that did not fail: what is below was asked for one more sync.
+    ghost synced: { Self → Self → Type 0 };
+
     /// How many logical blocks there are.
     fn blocks(&self) -> u64
         ensures value { result ≡ (state self.now).blocks }
@@ -23,7 +26,7 @@ pub trait Medium {
     fn protected(&self) -> bool
         ensures { result ≡ (state self.now).protected };
 
-    /// Fills `into` with the bytes from `at` on; what a failed call leaves in `into` is not said.
+    /// Fills `into` with the bytes from `at` on, which lie in the medium; what a failed call leaves in `into` is not said.
     fn read(&mut self, at: u64, into: &mut [u8]) -> Result<(), Failed>
         requires { at + length into.old ≤ 512 * (state self.old).blocks }
         ensures reads { Reads at into.new (state self.old) (is_err result) (state self.new) }
@@ -31,7 +34,7 @@ pub trait Medium {
         ensures protected { (state self.new).protected ≡ (state self.old).protected }
         ensures cause { HasCause (faults self.old) (faults self.new) result };
 
-    /// Writes whole blocks from `at` on. After a failed call only bytes of this range may differ.
+    /// Writes whole blocks, at least one, from a block's start on. After a failed call only bytes of this range may differ.
     fn write(&mut self, at: u64, bytes: &[u8]) -> Result<(), Failed>
         requires inside { at + length bytes.now ≤ 512 * (state self.old).blocks }
         requires start { at % 512 ≡ 0 }
@@ -42,7 +45,7 @@ pub trait Medium {
         ensures protected { (state self.new).protected ≡ (state self.old).protected }
         ensures cause { HasCause (faults self.old) (faults self.new) result };
 
-    /// Writes `count` copies of a block from `at` on. After a failed call only bytes of this range may differ.
+    /// Writes `count` copies of a block, at least one, from a block's start on. After a failed call only bytes of this range may differ.
     fn fill(&mut self, at: u64, block: &[u8; 512], count: u64) -> Result<(), Failed>
         requires inside { at + 512 * count ≤ 512 * (state self.old).blocks }
         requires start { at % 512 ≡ 0 }
@@ -55,6 +58,7 @@ pub trait Medium {
     /// Brings all that was written before to what is below (SYNCHRONIZE CACHE). The bytes of the medium stay as they are.
     fn sync(&mut self) -> Result<(), Failed>
         ensures syncs { Syncs (state self.old) (is_err result) (state self.new) }
+        ensures reached { OnOk result (synced self.old self.new) }
         ensures blocks { (state self.new).blocks ≡ (state self.old).blocks }
         ensures protected { (state self.new).protected ≡ (state self.old).protected }
         ensures cause { HasCause (faults self.old) (faults self.new) result };

@@ -7,7 +7,7 @@ use byteorder::{BigEndian, ByteOrder};
 use std::alloc::Global;
 use tcmu_types::{Bytes, Name, NoMemory};
 
-/// Standard INQUIRY data (SPC-4).
+/// Standard INQUIRY data, 36 bytes (SPC-4): a direct access block device, with VERSION 05h (SPC-3).
 #[tactic(auto, unfolding(tcmu_model::specs::Pages::standard_inquiry))]
 pub fn standard_inquiry() -> [u8; 36]
     ensures { result ≡ standard_inquiry }
@@ -54,7 +54,7 @@ fn block_limits() -> [u8; 60]
     limits
 }
 
-/// A page of vital product data (SPC-4, and SBC-3 for the block limits) of the device of this name.
+/// The page of vital product data 00h, 80h or 83h (SPC-4) or B0h (SBC-3) of the device of this name, with its header.
 #[tactic(auto, unfolding(tcmu_model::specs::Pages::vpd_page))]
 pub fn vpd_page(alloc: Global, name: &Name, page: u8) -> Result<Bytes, NoMemory>
     requires { IsTrue (is_vpd_page page) }

@@ -29,7 +29,7 @@ fn with_header(
     Ok(Bytes::from_vec(bytes))
 }
 
-/// MODE SENSE(6) data (SPC-4): the caching page (SBC-3), the control page or both, and WP where the medium is protected.
+/// MODE SENSE(6) data (SPC-4) of page 08h (caching, SBC-3), 0Ah (control) or 3Fh (both), with WP where the medium is protected.
 #[tactic(auto, unfolding(tcmu_model::specs::Pages::mode_sense))]
 pub fn mode_sense(alloc: Global, page: u8, protected: bool) -> Result<Bytes, NoMemory>
     requires { IsTrue (is_mode_page page) }

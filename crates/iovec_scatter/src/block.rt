@@ -17,7 +17,7 @@ fn clear_bytes(bytes: &mut [u8], count: usize)
     bytes.fill(0);
 }
 
-/// One data block. It can't be copied.
+/// One data block: the bytes of some pages of 4096, which move between the data area and a job. It is no `Copy` type and has no `clone`.
 #[derive(Drop)]
 pub struct Block {
     bytes: Vec<u8>,
@@ -35,7 +35,7 @@ impl Block {
     ghost use Rattle.std.specs.Borrow.{sem};
     ghost use Rattle.iovec_scatter.specs.Lends.{LendsBytes};
 
-    /// A block of zeros.
+    /// A block of `len` bytes, all zero.
     #[tactic(auto, unfolding(tcmu_model::specs::Layout::zeros))]
     pub fn zeros(alloc: Global, len: usize) -> Result<Block, NoMemory>
         ensures { IfOk result (λ b. b ≡ zeros len) }

@@ -48,7 +48,8 @@ fn load_settings() -> Settings
     }
 }
 
-/// The device of every load.
+/// The device of every load: `d0` over 4096 logical blocks of memory, with a ring of 65,536 bytes and 1024 data blocks of a page, the
+/// flags `ooo` and `len`, and no timeout.
 #[tactic(auto, unfolding(tcmu_model::specs::Load::load_device))]
 pub fn load_device(alloc: Global) -> DeviceLine
     ensures { result ≡ load_device }
@@ -79,7 +80,7 @@ fn push_step(alloc: Global, lines: &mut Vec<Line>, i: u32, x: u64) -> Result<(),
     Ok(())
 }
 
-/// The lines of so many commands.
+/// The lines of the first `count` commands, at most 10,000, that follow from a seed: a submit each, and a drain behind each sixteenth.
 #[tactic(auto, using(crate::proofs::Following::steps))]
 pub fn load_lines(alloc: Global, seed: u64, count: u32) -> Result<Lines, NoMemory>
     requires { count ≤ 10000 }

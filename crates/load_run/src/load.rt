@@ -30,7 +30,8 @@ fn open_over(alloc: Global, device: &DeviceLine, blocks: u32) -> Result<LoadDevi
     Ok(PlainPath::new(alloc, device.settings, engine))
 }
 
-/// The line that sums up the replay of a load, with its line feed.
+/// The line that sums up the replay of a load of at most 10,000 commands, with its line feed: how many were accepted, how many are GOOD,
+/// how many bytes these moved, and how many are open.
 pub fn load_line(alloc: Global, seed: u64, count: u32) -> Result<Vec<u8>, NoMemory>
     requires { count ≤ 10000 }
     ensures { IfOk result (λ text. IsLoadText seed count text.items) }

@@ -19,7 +19,8 @@ pub struct Configured<M: Medium + Drop> {
 impl<M: Medium + Drop> Configured<M> {
     /// The medium below, with this protected bit and these calls that fail.
     pub fn new(below: M, protected: bool, fails: Serials) -> Configured<M>
-        ensures { ⟦<Configured<M> as Medium>⟧.state result ≡ configured protected fails.items 0 (M.state below) }
+        ensures state { ⟦<Configured<M> as Medium>⟧.state result ≡ configured protected fails.items 0 (M.state below) }
+        ensures faults { ⟦<Configured<M> as Medium>⟧.faults result ≡ 0 }
     {
         Configured {
             below,
@@ -45,6 +46,8 @@ impl<M: Medium + Drop> Medium for Configured<M> {
     ghost state = { λ m. configured m.protected m.own.fails.items m.own.made (M.state m.below) };
 
     ghost faults = { λ m. m.own.faults };
+
+    ghost synced = { λ m n. M.synced m.below n.below };
 
     fn blocks(&self) -> u64 {
         self.below.blocks()

@@ -56,6 +56,7 @@ pub fn make_medium<F: Files>(
     ensures opened { IfOk result (λ m. Opens config.now (F.state files.old) (F.state files.new) (⟦<Media<F::File> as Medium>⟧.state m)) }
     ensures refused { IfErr result (λ e. Refuses e config.now (F.state files.old) (F.state files.new) (F.faults files.old) (F.faults files.new)) }
     ensures faults { F.faults files.old ≤ F.faults files.new }
+    ensures unfailed { IfOk result (λ m. ⟦<Media<F::File> as Medium>⟧.faults m ≡ 0) }
 {
     let fails = Serials::from_slice(alloc, config.fails.as_slice())?;
     match &config.kind {

@@ -71,6 +71,9 @@ impl Medium for MemMedium {
 
     ghost faults = { λ _. 0 };
 
+    // There is nothing below that could be synced.
+    ghost synced = { λ m n. Unit {0} };
+
     fn blocks(&self) -> u64 {
         self.blocks
     }

@@ -25,6 +25,7 @@ impl OwnCalls {
     pub(crate) fn new(fails: Serials) -> OwnCalls
         ensures fails { result.fails ≡ fails }
         ensures made { result.made ≡ 0 }
+        ensures faults { result.faults ≡ 0 }
     {
         OwnCalls {
             fails,

@@ -1,9 +1,9 @@
 //! A medium over a store, with the range of the bytes that failed calls may have spoiled.
-ghost use Rattle.std.specs.Prelude.{◌≡◌, ◌+◌, ◌*◌, ◌/◌, ◌%◌, ◌^◌, ◌<◌, ◌≤◌, length, is_err, OnOk};
+ghost use Rattle.std.specs.Prelude.{◌≡◌, ◌+◌, ◌*◌, ◌/◌, ◌%◌, ◌^◌, ◌<◌, ◌≤◌, length, is_err, OnOk, OnErr};
 ghost use Rattle.std.specs.Option.{option_map};
-ghost use Rattle.tcmu_types.specs.Numbered.{HasCause};
-ghost use Rattle.tcmu_model.specs.Medium.{Reads, narrowed, widened, span_of, empty_span, blanked};
-ghost use Rattle.edge.specs.Stores.{Shows};
+ghost use Rattle.tcmu_types.specs.Numbered.{HasCause, next_call};
+ghost use Rattle.tcmu_model.specs.Medium.{Reads, Writes, Fills, repeated, narrowed, widened, span_of, empty_span, blanked};
+ghost use Rattle.edge.specs.Stores.{Shows, Puts, Spoils};
 ghost use Rattle.medium_file.specs.FileState.{file_state, lost_span, IsFile};
 
 use crate::filling::fill_store;
@@ -96,6 +96,8 @@ impl<S: Store + Drop> Medium for FileMedium<S> {
 
     ghost faults = { λ f. S.faults f.store };
 
+    ghost synced = { λ f g. S.syncs g.store ≡ next_call (S.syncs f.store) };
+
     fn blocks(&self) -> u64 {
         self.blocks
     }
@@ -110,14 +112,27 @@ impl<S: Store + Drop> Medium for FileMedium<S> {
             (file_state self.new.blocks (S.state self.new.store) (lost_span self.new.lost) self.new.calls) }
         ensures blocks { self.new.blocks ≡ self.old.blocks }
         ensures cause { HasCause (S.faults self.old.store) (S.faults self.new.store) result }
-        // What the store tells, in the lost range too.
+        // What the store tells, in the lost range too, and no byte changes.
         ensures exact { OnOk result (Shows (S.state self.old.store).bytes at into.new) }
+        ensures kept { (S.state self.new.store).bytes ≡ (S.state self.old.store).bytes }
     {
         self.calls = self.calls.saturating_add(1);
         self.store.read_at(at, into)
     }
 
-    fn write(&mut self, at: u64, bytes: &[u8]) -> Result<(), Failed> {
+    fn write(&mut self, at: u64, bytes: &[u8]) -> Result<(), Failed>
+        requires inside { at + length bytes.now ≤ 512 * self.old.blocks }
+        requires start { at % 512 ≡ 0 }
+        requires some { 0 < length bytes.now }
+        requires whole { length bytes.now % 512 ≡ 0 }
+        ensures writes { Writes at bytes.now (file_state self.old.blocks (S.state self.old.store) (lost_span self.old.lost) self.old.calls) (is_err result)
+            (file_state self.new.blocks (S.state self.new.store) (lost_span self.new.lost) self.new.calls) }
+        ensures blocks { self.new.blocks ≡ self.old.blocks }
+        ensures cause { HasCause (S.faults self.old.store) (S.faults self.new.store) result }
+        // Of the store's own bytes, in the lost range too, only those of this range change.
+        ensures put { OnOk result (Puts at bytes.now (S.state self.old.store).bytes (S.state self.new.store).bytes) }
+        ensures spoiled { OnErr result (Spoils at (length bytes.now) (S.state self.old.store).bytes (S.state self.new.store).bytes) }
+    {
         self.calls = self.calls.saturating_add(1);
         let n = bytes.len() as u64;
         match self.store.write_at(at, bytes) {
@@ -132,7 +147,17 @@ impl<S: Store + Drop> Medium for FileMedium<S> {
         }
     }
 
-    fn fill(&mut self, at: u64, block: &[u8; 512], count: u64) -> Result<(), Failed> {
+    fn fill(&mut self, at: u64, block: &[u8; 512], count: u64) -> Result<(), Failed>
+        requires inside { at + 512 * count ≤ 512 * self.old.blocks }
+        requires start { at % 512 ≡ 0 }
+        requires some { 0 < count }
+        ensures fills { Fills at block.now count (file_state self.old.blocks (S.state self.old.store) (lost_span self.old.lost) self.old.calls) (is_err result)
+            (file_state self.new.blocks (S.state self.new.store) (lost_span self.new.lost) self.new.calls) }
+        ensures blocks { self.new.blocks ≡ self.old.blocks }
+        ensures cause { HasCause (S.faults self.old.store) (S.faults self.new.store) result }
+        ensures put { OnOk result (Puts at (repeated count block.now) (S.state self.old.store).bytes (S.state self.new.store).bytes) }
+        ensures spoiled { OnErr result (Spoils at (512 * count) (S.state self.old.store).bytes (S.state self.new.store).bytes) }
+    {
         self.calls = self.calls.saturating_add(1);
         match fill_store(&mut self.store, at, block, count) {
             Ok(()) => {

@@ -28,7 +28,7 @@ pub const USUAL: [Example; 8] = [
         &HARD_RESET,
         &HARD_RESET_LOG,
     ),
-    ("a daemon that is gone answers nothing", &DETACHED, &[]),
+    ("a user side that is gone answers nothing", &DETACHED, &[]),
     ("notes are off", &NO_NOTES, &[]),
     (
         "a command has no more blocks than there are",
@@ -134,7 +134,7 @@ pub const TEST_UNIT_READY: Sent = Sent {
     in_len: 0,
 };
 
-/// The numbers of a device that is new, but that no daemon is at.
+/// The numbers of a device that is new, but that no user side is at.
 pub const ZEROS: Stat = Stat {
     now: 0,
     blocked: false,
@@ -455,7 +455,7 @@ pub const HARD_RESET_LOG: [Finished; 2] = [
     },
 ];
 
-/// Where no daemon is attached nothing is dispatched, handled, answered or published.
+/// Where no user side is attached nothing is dispatched, handled, answered or published.
 pub const DETACHED: [(Call, Told); 9] = [
     (Call::Submit(READ_ONE), Told::Submit(Submit::Queued(1))),
     (Call::Dispatch, Told::Job(1)),

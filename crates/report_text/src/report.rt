@@ -111,7 +111,8 @@ pub fn device_text(alloc: Global, device: &DeviceLine, into: &mut Bytes) -> Resu
     append(into, &text)
 }
 
-/// Appends the line of an event and its answer. NoMemory changes nothing.
+/// Appends the line of an event of the device of this name, with its answer; on a device with a `qfull` above 0 a stat shows its delayed
+/// commands. NoMemory changes nothing.
 pub fn event_line(
     alloc: Global,
     name: &Name,
@@ -143,7 +144,8 @@ pub fn completion_line(
     append(into, &text)
 }
 
-/// Appends the line of an entry and those of its completions. NoMemory changes nothing.
+/// Appends the line of an entry and those of the completions that it logged, as `event_line` and `completion_line` do. NoMemory changes
+/// nothing.
 pub fn entry_text(
     alloc: Global,
     name: &Name,
@@ -160,7 +162,7 @@ pub fn entry_text(
     append(into, &text)
 }
 
-/// Appends a device's last line. NoMemory changes nothing.
+/// Appends a device's last line: `# open`, and how many accepted commands have no completion. NoMemory changes nothing.
 pub fn end_text(alloc: Global, name: &Name, count: u64, into: &mut Bytes) -> Result<(), NoMemory>
     ensures ok { OnOk result (into.new.items ≡ into.old.items ++ end_spelling name.now count) }
     ensures err { OnErr result (into.new.items ≡ into.old.items) }
@@ -170,7 +172,7 @@ pub fn end_text(alloc: Global, name: &Name, count: u64, into: &mut Bytes) -> Res
     append(into, &text)
 }
 
-/// Appends a dump. NoMemory changes nothing.
+/// Appends the lines of a dump: the mailbox, each item, and what each command holds. NoMemory changes nothing.
 pub fn dump_text(alloc: Global, name: &Name, dump: &Dump, into: &mut Bytes) -> Result<(), NoMemory>
     ensures ok { OnOk result (into.new.items ≡ into.old.items ++ dump_spelling name.now dump.now) }
     ensures err { OnErr result (into.new.items ≡ into.old.items) }

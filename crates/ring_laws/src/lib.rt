@@ -1,5 +1,5 @@
-//! The laws of a region that represents a device: what each event of the device keeps of it. They are about definitions alone, and
-//! the contracts of the two sides and of the ring path cite both. Those definitions stand in tcmu_model; in specs/ here is what laws rest on.
+//! What each event of a device keeps of the region that represents it, point by point, and what each side keeps over any bytes: laws over
+//! definitions of tcmu_model, for the contracts of the target, the user side and the ring path, which are to come.
 //! The clauses of a law come in one order: the answer; what stands, point by point (ring, ids, notes, blocks, jobs, target, side); the block
 //! lists, the pages and the sizes of blocks; then what is the event's own.
 #![tactic(auto)]
@@ -31,7 +31,8 @@ mod ticking;
 
 pub use answering::answering_law;
 pub use any_bytes::{
-    any_clean_law, any_reset_law, area_law, calls_law, commands_law, held_law, serials_law,
+    any_clean_law, any_reset_law, any_ring_law, area_law, calls_law, commands_law, held_law,
+    serials_law,
 };
 pub use any_region::{any_publish_law, any_respond_law, attach_law, next_law, reattach_law};
 pub use attaching::attaching_law;

@@ -1,4 +1,4 @@
-//! What a restart keeps: every job goes back, and the daemon is gone.
+//! What a restart keeps: every job goes back, and the user side is gone.
 ghost use Rattle.std.specs.Prelude.{◌≡◌, ℕ, List, [], Option};
 ghost use Rattle.tcmu_model.specs.Device.{DeviceState};
 ghost use Rattle.tcmu_model.specs.Events.{after_restart, restart_answer};

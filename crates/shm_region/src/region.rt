@@ -144,7 +144,7 @@ impl Region {
         self.front.as_mut_slice()
     }
 
-    /// The byte at which the data area begins. Every region keeps its limits.
+    /// The byte of the region at which the data area begins. The clause `limits` is the invariant of every region.
     pub fn data_off(&self) -> u64
         ensures value { result ≡ length self.now.front }
         ensures limits { IsRegion self.now.front self.now.blocks self.now.pages }
@@ -184,21 +184,21 @@ impl Region {
         u32_at(&self.front, 12)
     }
 
-    /// The tail that stands in the mailbox, whoever wrote it.
+    /// The tail that stands in the mailbox, whoever wrote it: a byte offset in the ring, if it is sound.
     pub fn tail(&self) -> u32
         ensures { result ≡ field 4 tail_place self.now.front }
     {
         u32_at(&self.front, 64)
     }
 
-    /// Writes the head of the mailbox, and no other byte.
+    /// Writes the head of the mailbox, a byte offset in the ring that is not judged here, and no other byte.
     pub fn set_head(&mut self, at: u32)
         ensures { self.new ≡ record self.old { front = put self.old.front head_place (le 4 at) } }
     {
         put_u32(&mut self.front, 12, at);
     }
 
-    /// Writes the tail of the mailbox, and no other byte.
+    /// Writes the tail of the mailbox, a byte offset in the ring that is not judged here, and no other byte.
     pub fn set_tail(&mut self, at: u32)
         ensures { self.new ≡ record self.old { front = put self.old.front tail_place (le 4 at) } }
     {

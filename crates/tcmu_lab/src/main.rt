@@ -1,5 +1,5 @@
-//! The program: a scenario comes from standard input, its journal goes to standard output, a fault line to standard error, and the
-//! status is the exit status. Files are opened by their names as given, from the current folder.
+//! The program: its words ask for a replay (a scenario from standard input, its journal to standard output) or for a load (one line). A
+//! fault line goes to standard error, and the status is the exit status. Files are opened as named, from the current folder.
 #![tactic(auto)]
 
 use edge::{HostFiles, StdSink, StdSource};

@@ -69,7 +69,7 @@ answered_fits true false false Lost true e h = (refl, refl)
 answered_fits true false false Lost false e h = absurd (false≢true h)
 answered_fits false p q t r e h = absurd (false≢true e)
 
--- a command whose answer is placed is Placed, or Lost with its reply where the daemon went before it was published
+-- a command whose answer is placed is Placed, or Lost with its reply where the user side went before it was published
 pub answered_rows : (d : DeviceState) → IsSound d → Every (λ u. is_among d.placed u.serial ≡ true → (u.state ≡ (if d.attached || is_among (answered d) u.serial then Placed else Lost)) × (is_some u.reply ≡ true)) d.unfinished
 answered_rows d h =
     every-weaker (λ u. is_right d u ≡ true) (λ u. is_among d.placed u.serial ≡ true → (u.state ≡ (if d.attached || is_among (answered d) u.serial then Placed else Lost)) × (is_some u.reply ≡ true)) d.unfinished

@@ -349,7 +349,7 @@ after_block d b = record d { blocked = b }
 
 -- ==== reset
 
--- its handler, or the daemon that waits with its answer, has it
+-- its handler, or the user side that waits with its answer, has it
 abbrev pub is_in_hand : Unfinished → Bool
 is_in_hand u = has_state Out u || has_state Handled u || has_state Parked u
 

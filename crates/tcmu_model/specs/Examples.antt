@@ -222,7 +222,7 @@ ResetStatus = (device_with dev reset_row).log ≡ record { serial = 1; init = 97
 unfoldable pub lost_row : List Ask
 lost_row = submits (read_one 1) ∷ submits (read_one 2) ∷ does ev.Dispatch ∷ does ev.Dispatch ∷ replies 2 good ∷ does (ev.Respond 2) ∷ does ev.Publish ∷ does ev.Restart ∷ does ev.Block ∷ []
 
--- an answer that was published before the daemon went is cleaned first
+-- an answer that was published before the user side went is cleaned first
 abbrev pub LostReset : Type 0
 LostReset = answers (opening_state dev) lost_row ≡ ev.Submitted (submit.Queued 1) ∷ ev.Submitted (submit.Queued 2) ∷ ev.Dispatched (Job 1) ∷ ev.Dispatched (Job 2) ∷ ev.Answered (handle.Done good) ∷ ev.Responded respond.Placed ∷ ev.Published (publish.Moved 1 1) ∷ ev.Lost 1 ∷ ev.Changed true ∷ []
 
@@ -253,7 +253,7 @@ note_front = submits (read_one 1) ∷ does ev.Dispatch ∷ replies 1 good ∷ do
 unfoldable pub note_row : List Ask
 note_row = does (ev.Tmr 1 (1 ∷ [])) ∷ submits (read_one 2) ∷ does ev.Dispatch ∷ replies 2 good ∷ does (ev.Respond 2) ∷ does (ev.Tmr 1 (2 ∷ [])) ∷ does ev.Dispatch ∷ []
 
--- a note names unfinished commands alone, and tells the daemon of those that run
+-- a note names unfinished commands alone, and tells the user side of those that run
 abbrev pub Notes : Type 0
 Notes = answers (device_with (record dev { flags = record { ooo = true; read_len = false; tmr = true } }) note_front) note_row ≡ ev.Noted (tmr.Unknown 1) ∷ ev.Submitted (submit.Queued 2) ∷ ev.Dispatched (Job 2) ∷ ev.Answered (handle.Done good) ∷ ev.Responded respond.Placed ∷ ev.Noted tmr.Noted ∷ ev.Dispatched (Note 1 []) ∷ []
 

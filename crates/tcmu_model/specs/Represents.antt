@@ -154,7 +154,7 @@ AreGiven s rows lists [] [] = Unit {0}
 AreGiven s rows lists (g ∷ gs) (u ∷ us) = IsGiven s rows lists g u × AreGiven s rows lists gs us
 AreGiven s rows lists _ _ = ⊥
 
--- the handler, or the daemon with its reply, has it
+-- the handler, or the user side with its reply, has it
 abbrev pub is_out : Unfinished → Bool
 is_out u = if has_state Out u then true else has_state Handled u
 

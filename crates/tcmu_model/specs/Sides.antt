@@ -85,7 +85,7 @@ pub record UserState : Type 0 where
 
 -- ==== jobs in hand
 
--- a job that its handler has, or, with a reply, the daemon
+-- a job that its handler has, or, with a reply, the user side
 pub record InHand : Type 0 where
   pub serial : ℕ
   pub job : JobState

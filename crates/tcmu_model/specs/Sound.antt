@@ -114,7 +114,7 @@ abbrev pub dispatched_serials : RingState → List ℕ
 dispatched_serials r = serials_in (take r.dispatched r.laid)
 
 -- The state of an unfinished command, and whether it has a reply, by whether it is dispatched, whether its answer is placed,
--- whether that answer is published, and whether the daemon is attached.
+-- whether that answer is published, and whether the user side is attached.
 abbrev pub state_fits : Bool → Bool → Bool → Bool → CommandState → Bool → Bool
 state_fits dispatched placed published attached Waiting has_reply = not dispatched && not has_reply
 state_fits dispatched placed published attached Out has_reply = dispatched && not placed && attached && not has_reply

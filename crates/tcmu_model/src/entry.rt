@@ -2,7 +2,8 @@
 use tcmu_types::Cdb;
 use thiserror::Error;
 
-/// What an entry reads as (the kernel's tcmu-design, "The Command Ring"). `len` is its length in bytes, a multiple of 8.
+/// What an entry reads as (the kernel's tcmu-design, "The Command Ring"): padding, a command with the number of its iovecs, or task
+/// management of a type with the number of its ids. `len` is its length in bytes, a multiple of 8.
 #[derive(Debug, Drop)]
 pub enum EntryRef {
     Pad {
@@ -47,8 +48,8 @@ pub enum EntryFault {
     IovOutside(u32),
 }
 
-/// The bytes of a response in an entry: the command's id, flags and status of the user side, the length of what was read, and the
-/// sense buffer.
+/// A response in a command's entry (the kernel's `struct tcmu_cmd_entry`): the command's id, the flags (1 for an unknown operation, 2
+/// where `read_len` is set), the status (SAM-5), how many bytes were read, and the sense buffer.
 #[derive(Clone, Copy, Debug, PartialEq, Eq)]
 pub struct Response {
     pub id: u16,

@@ -19,7 +19,7 @@ pub fn delayed_law()
     ensures { (d : DeviceState) → IsSound d → Every (λ w. Every (λ s. s < w.serial) (serials_in d.ring.laid)) d.delayed }
 {}
 
-/// How many accepted commands have no completion.
+/// The completions that are logged and the commands that are open are together as many as were accepted.
 pub fn open_law()
     ensures { (d : DeviceState) → IsSound d → length d.log + open_count d ≡ d.accepted }
 {}

@@ -27,7 +27,7 @@ pub fn entry_length(command: &Command, pages: u32) -> u32
     fixed + cdb.div_ceil(8) * 8
 }
 
-/// How long a task management entry of so many serials is, in bytes.
+/// How long a task management entry that names `count` commands by their ids is, in bytes: a multiple of 8.
 pub fn tmr_length(count: u32) -> u32
     requires { count < 2 ^ 30 }
     ensures { result ≡ tmr_length count }

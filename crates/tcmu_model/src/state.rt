@@ -15,7 +15,7 @@ pub enum CommandState {
     Parked,
     /// Its answer stands in the ring.
     Placed,
-    /// The daemon that had it is gone.
+    /// The user side that had it is gone.
     Lost,
 }
 

@@ -30,7 +30,7 @@ pub fn expiry_examples()
     ensures never_due { NeverDue }
 {}
 
-/// A reset wants a blocked device with nothing in hand; a restart loses what the daemon had.
+/// A reset wants a blocked device with nothing in hand; a restart loses what the user side had.
 pub fn reset_examples()
     ensures resets { Resets }
     ensures reset_status { ResetStatus }
@@ -41,7 +41,7 @@ pub fn reset_examples()
     ensures detached { DoesNothingDetached }
 {}
 
-/// A note names unfinished commands, and tells the daemon of those that run.
+/// A note names unfinished commands, and tells the user side of those that run.
 pub fn note_examples()
     ensures notes { Notes }
     ensures notes_pass { NotesPass }

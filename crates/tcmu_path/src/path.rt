@@ -17,7 +17,7 @@ use tcmu_types::{
     Submit, Tmr, Todo,
 };
 
-/// A device of the target: what its initiators, its daemon and its administrator may ask of it, one event a call. After want of
+/// A device of the target: what its initiators, its user side and its administrator may ask of it, one event a call. After want of
 /// memory the device is as it was. The calls that answer no `Result` take no memory.
 pub trait Path {
     /// The device, with its handler's name and medium.
@@ -40,7 +40,7 @@ pub trait Path {
         ensures accepts { Accepts 1 (device self.old) (device self.new) };
 
     /// The user side takes the next item of the ring: a job, or a note on task management. `Nothing` where all are taken, `Detached`
-    /// where no daemon is attached.
+    /// where no user side is attached.
     fn dispatch(&mut self, alloc: Global) -> Result<Dispatch, NoMemory>
         ensures step { IfOk result (λ a. Dispatches (device self.old) (dispatch_data a) (device self.new)) }
         ensures lists { IfOk result (λ a. GoesOn (lists self.old) (device self.old) ev.Dispatch (ev.Dispatched (dispatch_data a)) (device self.new) (lists self.new)) }
@@ -61,7 +61,7 @@ pub trait Path {
         ensures lists { GoesOn (lists self.old) (device self.old) (ev.Respond serial) (ev.Responded result) (device self.new) (lists self.new) }
         ensures accepts { Accepts 0 (device self.old) (device self.new) };
 
-    /// The user side moves the mailbox's tail past what is answered; `Detached` where no daemon is attached.
+    /// The user side moves the mailbox's tail past what is answered; `Detached` where no user side is attached.
     fn publish(&mut self) -> Publish
         ensures step { Publishes (device self.old) result (device self.new) }
         ensures lists { GoesOn (lists self.old) (device self.old) ev.Publish (ev.Published result) (device self.new) (lists self.new) }
@@ -92,7 +92,7 @@ pub trait Path {
         ensures lists { GoesOn (lists self.old) (device self.old) ev.Unblock (ev.Changed result) (device self.new) (lists self.new) }
         ensures accepts { Accepts 0 (device self.old) (device self.new) };
 
-    /// The ring is reset: what is open is logged, BUSY at level 1 and an internal target failure at level 2, and a daemon is attached.
+    /// The ring is reset: what is open is logged, BUSY at level 1 and an internal target failure at level 2, and a user side is attached.
     /// `NotBlocked` on a device that is not blocked, `HandlersOut` where handlers still have commands.
     fn reset(&mut self, level: u8) -> Reset
         requires low { 1 ≤ level }
@@ -101,7 +101,7 @@ pub trait Path {
         ensures lists { GoesOn (lists self.old) (device self.old) (ev.Reset level) (ev.WasReset result) (device self.new) (lists self.new) }
         ensures accepts { Accepts 0 (device self.old) (device self.new) };
 
-    /// The daemon is gone, and with it what it had; the answer is how many commands turned Lost.
+    /// The user side is gone, and with it what it had; the answer is how many commands turned Lost.
     fn restart(&mut self) -> u64
         ensures step { Restarts (device self.old) result (device self.new) }
         ensures lists { GoesOn (lists self.old) (device self.old) ev.Restart (ev.Lost result) (device self.new) (lists self.new) }

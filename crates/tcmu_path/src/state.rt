@@ -203,7 +203,7 @@ impl State {
         (self.log.len() - before) as u64
     }
 
-    /// Gives the daemon up and starts another; the answer counts the commands that are lost with it.
+    /// The user side is gone; the answer counts the commands that are lost with it.
     #[tactic(auto, unfolding(tcmu_model::specs::Events::restart_answer, tcmu_model::specs::Events::after_restart))]
     pub fn restart(&mut self) -> u64
         requires { IsSound self.old }
@@ -255,7 +255,7 @@ impl State {
         }
     }
 
-    /// Hands the next item of the ring to the daemon.
+    /// Hands the next item of the ring to the user side.
     #[tactic(auto, unfolding(tcmu_model::specs::Events::dispatch_answer, tcmu_model::specs::Events::after_dispatch))]
     pub fn dispatch(&mut self) -> Result<Dispatch, NoMemory>
         ensures answer { IfOk result (λ a. dispatch_data a ≡ dispatch_answer self.old) }

@@ -1,4 +1,4 @@
-//! A load: what it comes to, in one line.
+//! A load: its scenario is replayed, and the line that sums it up is written.
 ghost use Rattle.std.specs.Prelude.{◌≡◌, ◌≤◌};
 ghost use Rattle.tcmu_top.specs.Loads.{LoadEnds};
 

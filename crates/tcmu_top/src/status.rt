@@ -7,13 +7,13 @@ use tcmu_model::Why;
 /// How a run ends.
 #[derive(Clone, Copy, Debug, PartialEq, Eq)]
 pub enum Status {
-    /// The whole text is written.
+    /// The whole journal, or the line of a load, is written.
     Ok,
     /// The source failed; nothing is written.
     ReadFault,
-    /// The sink failed; a front of the text is written.
+    /// The sink failed; nothing, or a front of the text, is written.
     WriteFault,
-    /// Memory was wanting; a front of the text is written.
+    /// Memory was wanting; nothing, or a front of the text, is written.
     NoMemory,
     /// The bytes are no scenario: the first bad line, counted from 1, and the first rule that it breaks. Line 0 where they are too long.
     BadScenario { line: u32, why: Why },

@@ -14,7 +14,7 @@ pub enum Answer {
     /// Of a block or an unblock: whether the device was not so before.
     Changed(bool),
     Reset(Reset),
-    /// Of a restart: how many commands lost the daemon that had them, or an answer of theirs that was not published.
+    /// Of a restart: how many commands lost the user side that had them, or an answer of theirs that was not published.
     Lost(u64),
     Tmr(Tmr),
     Stat(Stat),
@@ -23,6 +23,7 @@ pub enum Answer {
 
 /// `Queued` and `Delayed` give the serial of a command that is accepted: it stands in the ring, or it waits for room. `Busy` comes from a
 /// blocked device. `TooBig` names the entry's length and half the ring (bytes), or the data blocks and the device's limit.
+/// `FullRing` (bytes) and `FullBlocks` (data blocks) come where room lacks now and no command waits for room.
 #[derive(Clone, Copy, Debug, Drop, PartialEq, Eq)]
 pub enum Submit {
     Queued(u64),
@@ -42,7 +43,7 @@ pub enum Dispatch {
     Note { kind: u8, serials: Serials },
     /// All items are dispatched.
     Nothing,
-    /// No daemon is attached.
+    /// No user side is attached.
     Detached,
 }
 
@@ -66,7 +67,8 @@ pub enum Respond {
     NotHandled(u64),
 }
 
-/// `Moved` counts the ring items that became published, pads too, and the command items among them. `Detached`: no daemon is attached.
+/// `Moved` counts the ring items that became published, pads too, and the command items among them. `Detached`: no user side is
+/// attached.
 #[derive(Clone, Copy, Debug, Drop, PartialEq, Eq)]
 pub enum Publish {
     Moved { items: u64, commands: u64 },

@@ -2,7 +2,7 @@
 use crate::{BlockList, Bytes, Listed};
 use std::marker::Model;
 
-/// The kind of a ring item.
+/// The kind of a ring item: padding, a command, or task management (the kernel's `TCMU_OP_*`).
 #[derive(Clone, Copy, Debug, Drop, PartialEq, Eq)]
 pub enum ItemKind {
     Pad,

@@ -3,7 +3,7 @@ use crate::answer::Answer;
 use crate::{Command, Serials};
 use std::marker::Model;
 
-/// An event of a device. Serials number the accepted commands of a device from 1.
+/// An event of a device, which the call of `Path` with its name makes. Serials number the accepted commands of a device from 1.
 #[derive(Debug, Drop)]
 pub enum Event {
     Submit(Command),
@@ -14,13 +14,13 @@ pub enum Event {
     Respond(u64),
     Publish,
     Clean,
-    /// So many moments pass.
+    /// So many ticks pass.
     Tick(u32),
     Block,
     Unblock,
     /// With the level 1 (what is open ends with BUSY) or 2 (with HARDWARE ERROR).
     Reset(u8),
-    /// The daemon is gone.
+    /// The user side is gone.
     Restart,
     /// A task management function of a type (of the kernel's `TCMU_TMR_*`), with the commands that it names.
     Tmr { kind: u8, serials: Serials },

@@ -56,7 +56,7 @@ pub type BlockList = Listed<u32>;
 pub type Words = Listed<Bytes>;
 
 impl<T> Listed<T> {
-    /// No items, and no room.
+    /// No items.
     pub fn new(alloc: Global) -> Self
         ensures { result.items ≡ [] }
     {

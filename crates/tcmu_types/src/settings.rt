@@ -10,8 +10,9 @@ pub struct Flags {
     pub tmr: bool,
 }
 
-/// The settings of a device: the ring's size in bytes, the most data blocks, the flags, the command timeout and the time that a
-/// command waits for room (in ticks, 0 for never), and the pages of 4096 bytes of a data block.
+/// The settings of a device: the ring's size in bytes, the most data blocks, the flags, the ticks until a command expires (0 where none
+/// does), the ticks that a command waits for room (0 where it is refused at once), and the pages of 4096 bytes of a data block. Its
+/// limits are the invariant.
 #[derive(Clone, Copy, Debug, PartialEq, Eq)]
 pub struct Settings {
     pub ring: u32,

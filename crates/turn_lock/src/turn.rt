@@ -84,7 +84,7 @@ impl<K: Stepped> Model for Pass<K> {
 }
 
 impl<K: Stepped> Turn<K> {
-    /// Puts the value behind a turn. The pass has all parts and no receipt. Where there is no memory the value is dropped.
+    /// Puts the value behind a turn. The pass can be split into as many as `parts`, and has no receipt. Where there is no memory the value is dropped.
     pub fn start(alloc: Global, value: K, parts: u32) -> Result<(Turn<K>, Pass<K>), NoMemory>
         requires { 1 ≤ parts }
         ensures turn { IfOk result (λ r. r.0 ≡ record {
@@ -169,7 +169,7 @@ impl<K: Stepped> Turn<K> {
         serve(desk, seat, ask)
     }
 
-    /// The value itself, at the end.
+    /// Ends the turn and gives the value back, for a pass that has all parts, so that no other pass is out. All its receipts fit the history.
     pub fn close(self, pass: Pass<K>) -> K
         requires own { pass.turn ≡ self.turn }
         requires all { pass.parts ≡ self.parts }
