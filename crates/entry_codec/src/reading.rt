@@ -9,7 +9,7 @@ use tcmu_model::{EntryFault, EntryRef, Mailbox, Response};
 use tcmu_types::{Cdb, Iov, group_length};
 
 /// Where the ring begins in the front.
-const RING_START: usize = 128;
+pub(crate) const RING_START: usize = 128;
 
 /// The iovec of this number, from 0, of the command's entry at ring offset `at`, whatever its bytes say.
 #[tactic(auto, unfolding(tcmu_model::specs::EntryReading::iov_at))]

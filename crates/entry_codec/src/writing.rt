@@ -4,11 +4,9 @@ ghost use Rattle.std.specs.Prelude.{◌≡◌, ℕ, ◌+◌, ◌-◌, ◌*◌, �
 ghost use Rattle.tcmu_model.specs.Lengths.{round_up, tmr_length};
 ghost use Rattle.tcmu_model.specs.Layout.{ring_start, put, padded, zeros, entry_header, pad_bytes, tmr_bytes, command_bytes, command_head, command_length, cdb_place, answer_bytes, iovs_bytes, ids_bytes, with_response};
 
+use crate::reading::RING_START;
 use mailbox_bytes::fields::{put_bytes, put_u8, put_u16, put_u32, put_u64, put_zeros};
 use tcmu_types::{Cdb, Ids, Iovs, Reply, sense_bytes};
-
-/// Where the ring begins in the front.
-const RING_START: usize = 128;
 
 /// The header of an entry: its length with the opcode, and its id.
 fn put_header(front: &mut [u8], start: usize, op: u32, len: u32, id: u16)
