@@ -13,6 +13,7 @@ use Rattle.tcmu_model.specs.declared.entry.EntryRef.TheVariants.{Pad, Cmd, Tmr, 
 use Rattle.tcmu_model.specs.declared.entry.EntryFault.{EntryFault}
 use Rattle.tcmu_model.specs.declared.entry.EntryFault.TheVariants.{BadLength, PastEnd, BadCount, CdbOutside, IovOutside}
 use Rattle.tcmu_model.proofs.Guards.{differs, is_same, is_below, not_below, is_most, not_most}
+use Rattle.mailbox_bytes.proofs.Exact.{kept, past}
 
 -- ==== the search for an iovec that lies outside
 
@@ -147,9 +148,6 @@ record Kept (front : List ℕ) (area : ℕ) (m : Mailbox) (at n : ℕ) : Type 0 
   iovs : 4 < n → op_at front (128 + at) ≡ 1 → (k : ℕ) → k < iov_cnt_at front (128 + at)
       → LiesInside (data_start m.cmdr_size) (data_start m.cmdr_size + area) (iov_at front (128 + at) k)
 
-kept : (k n : ℕ) → (k < n → ⊥) → n ≤ k
-kept k n never = ⊎_elim (λ (before : k < n). absurd (never before)) (λ (le : n ≤ k). le) (cases_lt k n)
-
 counts_kept : (front : List ℕ) (b n : ℕ)
     → (48 + 16 * iov_cnt_at front b < len_at front b) × (bidi_cnt_at front b ≡ 0) × (dif_cnt_at front b ≡ 0) → BreaksCounts front b n → ⊥
 counts_kept front b n k broken =
@@ -204,9 +202,6 @@ read front area m at entry says k =
     let none : SaysEntry front (128 + at) entry × ((fault : EntryFault) → BreaksEntry front area m at fault → ⊥) =
     (says, λ fault h. rank_small fault (later front area m at 5 k fault h)) in
     none
-
-past : {A : Type 0} (k n : ℕ) → n ≤ k → k < n → A
-past k n le before = absurd (omega (arith, le, before))
 
 -- ==== the chain of tests
 

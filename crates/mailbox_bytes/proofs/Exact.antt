@@ -10,7 +10,7 @@ use Rattle.tcmu_model.specs.declared.mailbox.MailboxFault.TheVariants.{Short, Ve
 use Rattle.tcmu_model.specs.MailboxReading.{mailbox_in, mailbox_read, judged, is_ring_size, IsRingSize, HeadElseTail, BreaksMailbox, mailbox_rank, IsFirstMailboxFault, ReadsMailbox, IsMailbox}
 
 -- a rule that is kept, where it stands before place n, is not the one broken
-kept : (k n : ℕ) → (k < n → ⊥) → n ≤ k
+pub kept : (k n : ℕ) → (k < n → ⊥) → n ≤ k
 kept k n never = ⊎_elim (λ (before : k < n). absurd (never before)) (λ (le : n ≤ k). le) (cases_lt k n)
 
 neither : (P : ℕ → Type 0) (m : Mailbox) (n : ℕ) → P m.head → P m.tail → HeadElseTail P m n → ⊥
@@ -37,7 +37,7 @@ later xs n k (Unaligned u) h = kept 4 n (λ before. neither (λ (j : ℕ). j % 8
 later xs n k (OutOfRing u) h = kept 5 n (λ before. neither (λ (j : ℕ). j < (mailbox_in xs).cmdr_size) (mailbox_in xs) u (k.inside before).0 (k.inside before).1 h)
 
 -- a place that is not before n
-past : {A : Type 0} (k n : ℕ) → n ≤ k → k < n → A
+pub past : {A : Type 0} (k n : ℕ) → n ≤ k → k < n → A
 past k n le before = absurd (omega arith)
 
 kept_0 : (xs : List ℕ) → Kept xs 0

@@ -1,5 +1,5 @@
 -- What it says of the log that each accepted serial stands in one place.
-use Rattle.std.proofs.Common.{◌≡◌, ℕ, ◌+◌, ◌<◌, ◌≤◌, Bool, true, false, cond, ◌&&◌, eqb, ltb, leb, List, [], ◌∷◌, ◌++◌, map, refl, arith}
+use Rattle.std.proofs.Common.{◌≡◌, ℕ, ◌+◌, ◌<◌, ◌≤◌, true, false, cond, eqb, ltb, leb, List, [], ◌∷◌, ◌++◌, map, refl, arith}
 use Rattle.std.proofs.lemmas.Bool.{and_parts, ltb-true, leb-true, le-leb, ne_eqb}
 use Rattle.std.proofs.lemmas.List.Sums.{sum_by-cons}
 use Rattle.tcmu_types.specs.Data.{DoneData}
@@ -10,6 +10,7 @@ use Rattle.tcmu_model.proofs.Everies.{every-weaker, every-both, every-mapped, ev
 use Rattle.tcmu_model.proofs.Rises.{rise_within}
 use Rattle.ring_laws.specs.Calls.{is_pending_at, times_pending, times_delayed, is_given, TargetSound}
 use Rattle.tcmu_model.proofs.Accounts.{once_differ, some_logged, at_most_one, some_one}
+use Rattle.ring_laws.proofs.CountedSerials.{never}
 
 -- no serial stands twice in the log
 pub logged_once : (t : TargetState) → TargetSound t → Differ (map (λ (e : DoneData). e.serial) t.log)
@@ -34,10 +35,6 @@ cons_pending e rows k = sum_by-cons (λ (v : PendingRow). cond {A = ℕ} (is_pen
 
 cons_delayed : (w : Delayed) (ws : List Delayed) (k : ℕ) → times_delayed (w ∷ ws) k ≡ cond (eqb w.serial k) 1 0 + times_delayed ws k
 cons_delayed w ws k = sum_by-cons (λ (v : Delayed). cond {A = ℕ} (is_delayed_at k v) 1 0) w ws
-
-never : (b : Bool) → cond {A = ℕ} (b && false) 1 0 ≡ 0
-never true = refl
-never false = refl
 
 above_not : (low n k : ℕ) → low < n → k ≤ low → eqb n k ≡ false
 above_not low n k l m = ne_eqb n k (λ q. apart q)

@@ -22,7 +22,7 @@ use Rattle.tcmu_model.proofs.SoundEvents.{left_delayed, rise_behind, delayed_ris
 use Rattle.ring_laws.specs.Calls.{is_pending_at, times_pending, times_delayed, SerialsSound}
 use Rattle.ring_laws.proofs.PendingRows.{only_expires}
 
-never : (b : Bool) → cond {A = ℕ} (b && false) 1 0 ≡ 0
+pub never : (b : Bool) → cond {A = ℕ} (b && false) 1 0 ≡ 0
 never true = refl
 never false = refl
 
