@@ -12,8 +12,8 @@ use Rattle.tcmu_model.specs.Pending.{PendingData}
 use Rattle.target_table.specs.declared.table.Ranked.{Ranked}
 use Rattle.target_table.specs.Rows.{Row, TableData, has_id, is_waiting, id_of, pending_of, with_expired, AllPrecede, IdsDiffer, IsTable, ExpiredFirst, without, without_found}
 use Rattle.target_table.specs.Kept.{place_of, at_id, or_none, row_at, rows_of, Stands, AllStand, is_ranked, IsFree, IsDistinct, IsKept}
-use Rattle.target_table.proofs.Ordered.{order-added, ids-added, differ-added, expired-added, order-without, ids-without, differ-without, length-without, some-expired, expired-without, waiting-without, order-expired, ids-expired, differ-expired, length-expired, expired-more, expired-most, first-any}
-use Rattle.target_table.proofs.Places.{row_of, row-found, any-row, there, length-rows, false-true, eqb-not, eqb-self, or-true, at-one, rank-of, none-id}
+use Rattle.target_table.proofs.Ordered.{order-added, ids-added, differ-added, expired-added, order-without, ids-without, differ-without, length-without, some-expired, expired-without, waiting-without, order-expired, ids-expired, differ-expired, length-expired, expired-more, expired-most, first-any, or-true, eqb-not}
+use Rattle.target_table.proofs.Places.{row_of, row-found, any-row, there, length-rows, false-true, eqb-self, at-one, rank-of, none-id}
 use Rattle.tcmu_model.proofs.Rises.{among-append}
 
 pub none-some : {p : PendingData} → ◌≡◌ {A = Option PendingData} None (Some p) → ⊥

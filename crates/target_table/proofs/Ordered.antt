@@ -5,13 +5,19 @@ use Rattle.std.proofs.lemmas.Bool.{cases_Bool, eqb-false, or_parts}
 use Rattle.tcmu_model.specs.Lists.{first_of, without_first, with_first}
 use Rattle.tcmu_model.specs.Pending.{PendingData}
 use Rattle.target_table.specs.Rows.{Row, has_id, is_waiting, is_due, has_passed, with_expired, NotAfter, Precedes, AllPrecede, PrecedesAll, AreInOrder, IdsDiffer, AreIds, ExpiredFirst}
-use Rattle.target_table.proofs.Places.{or-true, eqb-not}
 
 no-row : {r : Row} → ◌≡◌ {A = Option Row} None (Some r) → ⊥
 no-row h = cc
 
 true-false : true ≡ false → ⊥
 true-false h = cc
+
+pub eqb-not : (a b : ℕ) → a ≢ b → (a == b) ≡ false
+eqb-not a b d = grind arith
+
+pub or-true : (b : Bool) → (b || true) ≡ true
+or-true true = refl
+or-true false = refl
 
 eqb-yes : (a b : ℕ) → a ≡ b → (a == b) ≡ true
 eqb-yes a b d = grind arith

@@ -1,5 +1,5 @@
 -- Places of commands, and the rows that they make.
-use Rattle.std.proofs.Common.{◌≡◌, ◌≢◌, ℕ, ◌-◌, ◌≤◌, ◌<◌, ⊎_elim, Bool, true, false, ◌||◌, ◌==◌, List, [], ◌∷◌, ◌++◌, length, take, drop, slice_get, slice_set, slice_index_or, nat_le, nat_lt, Option, Some, None, refl, sym, ap, subst, ◌∙◌, arith, suc, zero}
+use Rattle.std.proofs.Common.{◌≡◌, ◌≢◌, ℕ, ◌-◌, ◌≤◌, ◌<◌, ⊎_elim, true, false, ◌||◌, ◌==◌, List, [], ◌∷◌, ◌++◌, length, take, drop, slice_get, slice_set, slice_index_or, nat_le, nat_lt, Option, Some, None, refl, sym, ap, subst, ◌∙◌, arith, suc, zero}
 use Rattle.std.specs.List.{list_any}
 use Rattle.std.specs.Option.{option_map, IfNone}
 use Rattle.std.proofs.lemmas.List.{get_or_past, set-get_or}
@@ -9,7 +9,7 @@ use Rattle.tcmu_model.specs.Pending.{PendingData}
 use Rattle.target_table.specs.declared.table.Ranked.{Ranked}
 use Rattle.std.specs.List.Sorted.{IsNonDecreasingBy, IsPartitionPoint}
 use Rattle.target_table.specs.Rows.{Row, has_id, has_passed, is_due, is_behind, id_of, pending_of, PrecedesAll, AreInOrder, ExpiredFirst}
-use Rattle.target_table.proofs.Ordered.{due-none, due-some, due-later}
+use Rattle.target_table.proofs.Ordered.{due-none, due-some, due-later, or-true, eqb-not}
 use Rattle.target_table.specs.Kept.{place_of, at_id, or_none, row_at, rows_of, Stands, AllStand, is_ranked}
 
 pub false-true : false ≡ true → ⊥
@@ -22,15 +22,8 @@ none-or : (p : Option PendingData) → ((q : PendingData) → p ≡ Some q → �
 none-or None h = refl
 none-or (Some q) h = absurd (h q refl)
 
-pub eqb-not : (a b : ℕ) → a ≢ b → (a == b) ≡ false
-eqb-not a b d = grind arith
-
 pub eqb-self : (n : ℕ) → (n == n) ≡ true
 eqb-self n = grind arith
-
-pub or-true : (b : Bool) → (b || true) ≡ true
-or-true true = refl
-or-true false = refl
 
 -- ==== the row of an id
 
