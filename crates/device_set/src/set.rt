@@ -1,11 +1,11 @@
 //! Devices by name.
-ghost use Rattle.std.specs.Prelude.{◌≡◌, ◌<◌, ◌-◌, ◌++◌, ◌∷◌, [], Some, None, IfOk, OnOk, OnErr, length, slice_get, take};
+ghost use Rattle.std.specs.Prelude.{◌≡◌, ◌<◌, ◌-◌, ◌++◌, ◌∷◌, [], Some, None, IfOk, IfErr, OnOk, OnErr, length, slice_get, take};
 ghost use Rattle.device_set.specs.Sets.{names, devices, number_of};
 
 use indexmap::IndexMap;
-use std::alloc::Global;
+use std::alloc::{AllocFailed, Global};
 use std::marker::Model;
-use tcmu_types::{Name, NoMemory};
+use tcmu_types::Name;
 
 /// Devices, each under a name of its own and a number: 0, 1, 2 and so on in the order in which they were added.
 #[derive(Drop)]
@@ -37,8 +37,9 @@ impl<P> DeviceSet<P> {
         }
     }
 
-    /// Adds a device of a new name behind the others and answers its number. NoMemory leaves the set as it was, and the device is dropped.
-    pub fn add(&mut self, name: Name, device: P) -> Result<u32, NoMemory>
+    /// Adds a device of a new name behind the others and answers its number. Where memory is wanting the set stays as it was, and the
+    /// error has the device.
+    pub fn add(&mut self, name: Name, device: P) -> Result<u32, AllocFailed<P>>
     where
         P: Drop,
         requires new { number_of name self.old ≡ None }
@@ -46,10 +47,15 @@ impl<P> DeviceSet<P> {
         ensures added { OnOk result (self.new ≡ self.old ++ (name, device) ∷ []) }
         ensures number { IfOk result (λ at. at ≡ length self.old) }
         ensures refused { OnErr result (self.new ≡ self.old) }
+        ensures given_back { IfErr result (λ e. e.value ≡ device) }
     {
         let at = self.devices.len() as u32;
-        self.devices.insert(name, device)?;
-        Ok(at)
+        match self.devices.insert(name, device) {
+            Ok(_) => Ok(at),
+            Err(refused) => Err(AllocFailed {
+                value: refused.value.1,
+            }),
+        }
     }
 
     /// The number of the device of this name; None exactly where no device has it.
