@@ -1,12 +1,12 @@
 -- The devices of a scenario open one after another, each over the files as those before it left them.
-use Rattle.std.proofs.Common.{◌≡◌, ◌≢◌, ℕ, zero, suc, ◌+◌, ◌<◌, ◌≤◌, Bool, true, false, ◌||◌, List, [], ◌∷◌, ◌++◌, length, map, take, drop, get_or, slice_get, Option, Some, None, IfSome, bytes_eq, refl, sym, ap, ◌∙◌, arith, subst, ⊎_elim}
+use Rattle.std.proofs.Common.{◌≡◌, ◌≢◌, ℕ, zero, suc, ◌+◌, ◌<◌, ◌≤◌, Bool, true, false, ◌||◌, List, [], ◌∷◌, ◌++◌, length, map, take, get_or, slice_get, Option, Some, None, IfSome, bytes_eq, refl, sym, ap, ◌∙◌, arith, subst, ⊎_elim}
 use Rattle.std.specs.List.{AllPairs, list_any, position, position_or_len}
 use Rattle.std.specs.Option.{option_map}
 use Rattle.std.proofs.lemmas.Bool.{cases_Bool, cases_lt, le-ltb, or_parts}
-use Rattle.std.proofs.lemmas.List.{append-nil, map-append, take_more, drop_more, take-append-drop}
+use Rattle.std.proofs.lemmas.List.{append-nil, length-map, length-take-le, map-append, take_more}
 use Rattle.std.proofs.lemmas.Option.{slice_get_within, slice_get_read, get_or_from_slice_get}
 use Rattle.std.proofs.lemmas.Slice.Eq.{bytes_eq-Decides}
-use Rattle.edge.specs.Stores.{StoreState, Content, store_of, out, at_home, FilesState, fetch_fails, one_more_fetch, after_fetch, Opened}
+use Rattle.edge.specs.Stores.{StoreState, Content, store_of, out, at_home, FilesState, fetch_fails, after_fetch, Opened}
 use Rattle.tcmu_model.specs.MediumState.{MediumState}
 use Rattle.tcmu_model.specs.Device.{Device, opening}
 use Rattle.tcmu_model.specs.Config.{ConfigData, MediumData, InMemory, InFile}
@@ -15,11 +15,8 @@ use Rattle.tcmu_model.specs.Said.{same_file}
 use Rattle.tcmu_model.proofs.Readings.{same_bytes, other_bytes}
 use Rattle.device_set.specs.Sets.{names}
 use Rattle.media.specs.Opening as made
-use Rattle.media.specs.declared.make.MakeFault.{MakeFault}
-use Rattle.media.specs.declared.make.MakeFault.TheVariants as fault
 use Rattle.tcmu_top.specs.Playing.{states_of}
-use Rattle.tcmu_top.specs.Opened.{OpensFile, OpensKind, Opens, OpenEach, name_in, file_names, a_fetch_fails, OthersStay, after_fetches, Fetched, AreOpen, Made, Unopened, OwnFiles}
-use Rattle.tcmu_top.proofs.Telling.{rose_later}
+use Rattle.tcmu_top.specs.Opened.{OpensFile, OpensKind, Opens, OpenEach, name_in, file_names, a_fetch_fails, after_fetches, Fetched, AreOpen, Made, OwnFiles}
 
 -- ==== names
 
@@ -54,6 +51,9 @@ pub names_append : (xs ys : List DeviceLineData) → file_names (xs ++ ys) ≡ f
 names_append [] ys = refl
 names_append (x ∷ xs) ys = ap (name_in x.config.kind) (names_append xs ys) ∙ names_in x.config.kind (file_names xs) (file_names ys)
 
+pub names_parts : (all ls rest : List DeviceLineData) (l : DeviceLineData) → all ≡ (ls ++ l ∷ []) ++ rest → file_names all ≡ (file_names ls ++ file_names (l ∷ [])) ++ file_names rest
+names_parts all ls rest l e = ap file_names e ∙ names_append (ls ++ l ∷ []) rest ∙ ap (λ (xs : List (List ℕ)). xs ++ file_names rest) (names_append ls (l ∷ []))
+
 -- ==== fetches
 
 fails_append : (xs ys : List (List ℕ)) (f : FilesState) → a_fetch_fails (xs ++ ys) f ≡ (a_fetch_fails xs f || a_fetch_fails ys (after_fetches xs f))
@@ -64,9 +64,13 @@ fails_append (x ∷ xs) ys f = ap (λ b. fetch_fails x f || b) (fails_append xs 
     regroup true b c = refl
     regroup false b c = refl
 
-fetches_append : (xs ys : List (List ℕ)) (f : FilesState) → after_fetches (xs ++ ys) f ≡ after_fetches ys (after_fetches xs f)
+pub fetches_append : (xs ys : List (List ℕ)) (f : FilesState) → after_fetches (xs ++ ys) f ≡ after_fetches ys (after_fetches xs f)
 fetches_append [] ys f = refl
 fetches_append (x ∷ xs) ys f = fetches_append xs ys (after_fetch x f)
+
+pub fetches_fails : (names : List (List ℕ)) (f : FilesState) → (after_fetches names f).fails ≡ f.fails
+fetches_fails [] f = refl
+fetches_fails (x ∷ xs) f = fetches_fails xs (after_fetch x f)
 
 pub place_free : (names : List (List ℕ)) (f : FilesState) (name : List ℕ) → IsFree names name → (after_fetches names f).places name ≡ f.places name
 place_free [] f name h = refl
@@ -136,34 +140,16 @@ open_more files mid new ls ds l m h own o =
 
 -- ==== where it stops
 
-others_after : (all names : List (List ℕ)) (rest : List (List ℕ)) (f : FilesState) (name : List ℕ) → all ≡ names ++ rest → IsFree all name → (after_fetches names f).places name ≡ f.places name
-others_after all names rest f name e h = place_free names f name (free_append names rest name (subst (λ (xs : List (List ℕ)). IsFree xs name) e h)).0
-
--- files that no device line names stay
-pub others_stay : (all ls rest : List DeviceLineData) (files mid : Option FilesState) → all ≡ ls ++ rest → Fetched (file_names ls) files mid → OthersStay all files mid
-others_stay all ls rest None mid e h = tt
-others_stay all ls rest (Some f) mid e h =
-    (after_fetches (file_names ls) f, h.after, λ name free. others_after (file_names all) (file_names ls) (file_names rest) f name (ap file_names e ∙ names_append ls rest) free)
-
--- and so they do where a fetch failed
-pub others_refused : (all ls rest : List DeviceLineData) (files mid new : Option FilesState) → all ≡ ls ++ rest → Fetched (file_names ls) files mid → new ≡ option_map one_more_fetch mid → OthersStay all files new
-others_refused all ls rest None mid new e h r = tt
-others_refused all ls rest (Some f) mid new e h r = (
-  one_more_fetch (after_fetches (file_names ls) f),
-  r ∙ ap (option_map one_more_fetch) h.after,
-  λ name free. others_after (file_names all) (file_names ls) (file_names rest) f name (ap file_names e ∙ names_append ls rest) free,
-)
-
 -- one of the fetches fails
-pub fetch_lacks : (all ls rest : List DeviceLineData) (l : DeviceLineData) (name : List ℕ) (files mid : Option FilesState) → all ≡ ls ++ l ∷ rest → l.config.kind ≡ InFile name → Fetched (file_names ls) files mid
-    → IfSome mid (λ f. fetch_fails name f ≡ true) → IfSome files (λ f. a_fetch_fails (file_names all) f ≡ true)
-fetch_lacks all ls rest l name None mid e kind h lacks = tt
-fetch_lacks all ls rest l name (Some f) mid e kind h lacks =
-    let here : fetch_fails name (after_fetches (file_names ls) f) ≡ true = subst (λ (x : Option FilesState). IfSome x (λ g. fetch_fails name g ≡ true)) h.after lacks in
-    let names : file_names all ≡ file_names ls ++ (name ∷ file_names rest) = ap file_names e ∙ names_append ls (l ∷ rest) ∙ ap (λ (k : MediumData). file_names ls ++ name_in k (file_names rest)) kind in
-    let rest_fails : a_fetch_fails (name ∷ file_names rest) (after_fetches (file_names ls) f) ≡ true = rw here refl in
-    ap (λ (xs : List (List ℕ)). a_fetch_fails xs f) names ∙ fails_append (file_names ls) (name ∷ file_names rest) f ∙ ap (λ b. a_fetch_fails (file_names ls) f || b) rest_fails
-    ∙ or_true (a_fetch_fails (file_names ls) f)
+pub fetch_lacks : (all ls rest : List DeviceLineData) (l : DeviceLineData) (files mid : Option FilesState) → all ≡ (ls ++ l ∷ []) ++ rest → Fetched (file_names ls) files mid
+    → IfSome mid (λ f. a_fetch_fails (file_names (l ∷ [])) f ≡ true) → IfSome files (λ f. a_fetch_fails (file_names all) f ≡ true)
+fetch_lacks all ls rest l None mid e h lacks = tt
+fetch_lacks all ls rest l (Some f) mid e h lacks =
+    let last = file_names (l ∷ []) in
+    let here : a_fetch_fails last (after_fetches (file_names ls) f) ≡ true = subst (λ (x : Option FilesState). IfSome x (λ g. a_fetch_fails (file_names (l ∷ [])) g ≡ true)) h.after lacks in
+    let front : a_fetch_fails (file_names ls ++ last) f ≡ true = fails_append (file_names ls) last f ∙ ap (λ b. a_fetch_fails (file_names ls) f || b) here ∙ or_true (a_fetch_fails (file_names ls) f) in
+    ap (λ (xs : List (List ℕ)). a_fetch_fails xs f) (names_parts all ls rest l e) ∙ fails_append (file_names ls ++ last) (file_names rest) f
+    ∙ ap (λ b. b || a_fetch_fails (file_names rest) (after_fetches (file_names ls ++ last) f)) front
   where
     or_true : (b : Bool) → (b || true) ≡ true
     or_true true = refl
@@ -245,21 +231,6 @@ names_more ls i l set set' d lt is h added =
     ap names added ∙ map-append (λ (e : List ℕ × Device). e.0) set ((l.name, d) ∷ []) ∙ ap (λ (x : List (List ℕ)). x ++ l.name ∷ []) h
     ∙ sym (ap (map (λ (d : DeviceLineData). d.name)) front ∙ map-append (λ (d : DeviceLineData). d.name) (take i ls) (l ∷ []))
 
--- a device could not be opened
-pub unopened : (e : MakeFault) (files mid new : Option FilesState) (faults f1 f2 : ℕ) (ls : List DeviceLineData) (i : ℕ) (l : DeviceLineData) → i < length ls → l ≡ get_or ls i l → Fetched (file_names (take i ls)) files mid
-    → faults ≤ f1 → f1 ≤ f2 → made.Refuses e l.config mid new f1 f2 → Unopened e ls files new faults f2
-unopened e files mid new faults f1 f2 ls i l lt is h le le' r = by e l.config.kind refl r
-  where
-    parts : ls ≡ take i ls ++ (l ∷ drop (i + 1) ls)
-    parts = sym (take-append-drop i ls) ∙ ap (λ (x : List DeviceLineData). take i ls ++ x) (drop_more ls i l lt ∙ ap (λ (x : DeviceLineData). x ∷ drop (i + 1) ls) (sym is))
-
-    by : (e : MakeFault) (k : MediumData) → l.config.kind ≡ k → made.RefusesKind k e mid new f1 f2 → Unopened e ls files new faults f2
-    by fault.Open (InMemory blocks) kind r = absurd r
-    by fault.Open (InFile name) kind r =
-        record {
-          fails = fetch_lacks ls (take i ls) (drop (i + 1) ls) l name files mid parts kind h r.fails;
-          others = others_refused ls (take i ls) (l ∷ drop (i + 1) ls) files mid new parts h r.files;
-          rose = rose_later faults f1 f2 le le' r.rose;
-        }
-    by fault.NoMemory (InMemory blocks) kind r = subst (OthersStay ls files) (sym r) (others_stay ls (take i ls) (l ∷ drop (i + 1) ls) files mid parts h)
-    by fault.NoMemory (InFile name) kind r = subst (OthersStay ls files) (sym r) (others_stay ls (take i ls) (l ∷ drop (i + 1) ls) files mid parts h)
+pub names_count : (ls : List DeviceLineData) (i : ℕ) (set : List (List ℕ × Device)) → i < length ls → names set ≡ map (λ d. d.name) (take i ls) → length set ≡ i
+names_count ls i set lt h =
+    sym (length-map set (λ (e : List ℕ × Device). e.0)) ∙ ap (λ (x : List (List ℕ)). length x) h ∙ length-map (take i ls) (λ (d : DeviceLineData). d.name) ∙ length-take-le i ls (omega (arith, lt))

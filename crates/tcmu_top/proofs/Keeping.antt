@@ -14,8 +14,8 @@ use Rattle.tcmu_model.specs.ScenarioData.{DeviceLineData}
 use Rattle.media.specs.Stored.{IsStoredIn}
 use Rattle.device_set.specs.Sets.{devices}
 use Rattle.tcmu_top.specs.Playing.{states_of}
-use Rattle.tcmu_top.specs.Opened.{name_in, file_names, is_named, Holds, SameOthers, Kept, OwnFiles, TellFiles, Returns, KeepsEach, after_fetches}
-use Rattle.tcmu_top.proofs.Fetching.{bytes_same, place_free, place_out}
+use Rattle.tcmu_top.specs.Opened.{name_in, file_names, is_named, IsLeftOf, Holds, SameOthers, Kept, OwnFiles, TellFiles, AreOut, Returns, KeepsEach, after_fetches}
+use Rattle.tcmu_top.proofs.Fetching.{bytes_same, place_out}
 use Rattle.tcmu_types.proofs.Places.{get_within}
 
 -- the name of a device line's file is no other name
@@ -48,19 +48,23 @@ pub record Keeping (ls : List DeviceLineData) (ends : List Device) (f g : FilesS
   pub home : (at : ℕ) (l : DeviceLineData) (d : Device) (name : List ℕ) → from ≤ at → slice_get ls at ≡ Some l → slice_get ends at ≡ Some d → l.config.kind ≡ InFile name → Holds d.medium.below (g.places name)
   pub away : (at : ℕ) (l : DeviceLineData) (name : List ℕ) → at < from → slice_get ls at ≡ Some l → l.config.kind ≡ InFile name → g.places name ≡ out
   pub others : SameOthers ls f g
+  pub fails : g.fails ≡ f.fails
+  pub fetches : g.fetches ≡ f.fetches
 
-pub keeping_first : (ls : List DeviceLineData) (ends : List Device) (f : FilesState) (n : ℕ) → ((at : ℕ) (l : DeviceLineData) → slice_get ls at ≡ Some l → at < n) → Keeping ls ends f (after_fetches (file_names ls) f) n
-keeping_first ls ends f n within =
+pub keeping_first : (ls : List DeviceLineData) (ends : List Device) (f : FilesState) (n : ℕ) → AreOut ls f → ((at : ℕ) (l : DeviceLineData) → slice_get ls at ≡ Some l → at < n) → Keeping ls ends f f n
+keeping_first ls ends f n away within =
     record {
       home = λ at l d name le e g k. absurd (let lt = within at l e in omega (arith, lt, le));
-      away = λ at l name lt e k. fetched_out ls f at l name e k;
-      others = λ name free. place_free (file_names ls) f name free;
+      away = λ at l name lt e k. away at l name e k;
+      others = λ name free. refl;
+      fails = refl;
+      fetches = refl;
     }
 
 -- what is given back of a device: nothing of one in memory, and of one in a file what its medium left
 abbrev pub KeepsKind : MediumData → Below → FilesState → FilesState → Type 0
 KeepsKind (InMemory blocks) b g g' = g' ≡ g
-KeepsKind (InFile name) b g g' = (c : Content) × (b.bytes ≡ Some (blanked b.lost c.bytes)) × (g' ≡ after_keep name c g)
+KeepsKind (InFile name) b g g' = (c : Content) × IsLeftOf b c × (g' ≡ after_keep name c g)
 
 pub keeping_more : (ls : List DeviceLineData) (ends : List Device) (f g g' : FilesState) (n : ℕ) (l : DeviceLineData) (d : Device) → OwnFiles ls → slice_get ls n ≡ Some l → slice_get ends n ≡ Some d
     → Keeping ls ends f g (n + 1) → KeepsKind l.config.kind d.medium.below g g' → Keeping ls ends f g' n
@@ -76,6 +80,8 @@ keeping_more ls ends f g g' n l d own at_ls at_ends h k = by l.config.kind refl 
               (cases_eq at n);
           away = λ at x name lt e k. h.away at x name (omega (arith, lt)) e k;
           others = h.others;
+          fails = h.fails;
+          fetches = h.fetches;
         } in
         subst (λ (z : FilesState). Keeping ls ends f z n) (sym same) all
       where
@@ -103,14 +109,16 @@ keeping_more ls ends f g g' n l d own at_ls at_ends h k = by l.config.kind refl 
               (cases_eq at n);
           away = λ at x other lt e k. elsewhere other (own at n x l other name e at_ls k kind (λ eq. omega (arith, eq, lt))) ∙ h.away at x other (omega (arith, lt)) e k;
           others = λ other free. elsewhere other (named_differs ls n l name other at_ls kind free) ∙ h.others other free;
+          fails = h.fails;
+          fetches = h.fetches;
         } in
         subst (λ (z : FilesState). Keeping ls ends f z n) (sym kept.2) all
       where
         file_same : (a b : List ℕ) → InFile a ≡ InFile b → a ≡ b
         file_same a b e = cc
 
-pub keeping_done : (ls : List DeviceLineData) (ends : List Device) (f g : FilesState) → Keeping ls ends f g 0 → Kept ls ends f g
-keeping_done ls ends f g h = record { named = λ at l d name e z k. h.home at l d name (omega arith) e z k; others = h.others }
+pub keeping_done : (ls : List DeviceLineData) (ends : List Device) (f g : FilesState) → Keeping ls ends f g 0 → Kept ls ends f.fetches f g
+keeping_done ls ends f g h = record { named = λ at l d name e z k. h.home at l d name (omega arith) e z k; others = h.others; fails = h.fails; fetches = h.fetches }
 
 -- ==== from what the calls say
 
@@ -123,12 +131,12 @@ pub returned_file : (name : List ℕ) (s : StoreState) (m : MediumState) (old ne
     → ((c : Content) → s ≡ store_of c → new ≡ option_map (after_keep name c) old) → Returns (InFile name) m old new
 returned_file name s m old new sized stored kept layer told = by s.bytes refl
   where
-    by : (o : Option (List ℕ)) → s.bytes ≡ o → (c : Content) × (m.below.bytes ≡ Some (blanked m.below.lost c.bytes)) × (new ≡ option_map (after_keep name c) old)
+    by : (o : Option (List ℕ)) → s.bytes ≡ o → (c : Content) × IsLeftOf m.below c × (new ≡ option_map (after_keep name c) old)
     by None e = let none : is_some m.below.bytes ≡ false = ap (λ (o : Option (List ℕ)). is_some o) (stored.bytes ∙ ap (option_map (blanked m.below.lost)) e) in absurd (false≢true (sym none ∙ told))
     by (Some bs) e =
         let long = subst (λ (o : Option (List ℕ)). IfSome o (λ bs. length bs ≡ s.size)) e sized in
         let c : Content = record { bytes = bs; calls = s.calls } in
-        (c, stored.bytes ∙ ap (option_map (blanked m.below.lost)) e, kept c (file_of s bs e long))
+        (c, record { bytes = stored.bytes ∙ ap (option_map (blanked m.below.lost)) e; calls = sym stored.calls }, kept c (file_of s bs e long))
 
 abbrev is_memory : Layer → Bool
 is_memory memory = true
@@ -144,17 +152,17 @@ returned_none (InFile name) m old e = λ layer told. absurd (false≢true (ap is
 -- the files behind the devices that were given back so far
 abbrev pub KeptFrom : List DeviceLineData → List Device → Option FilesState → Option FilesState → ℕ → Type 0
 KeptFrom ls ends old mid n =
-    OwnFiles ls → TellFiles ls ends → (f : FilesState) → old ≡ Some (after_fetches (file_names ls) f) → (g : FilesState) × (mid ≡ Some g) × Keeping ls ends f g n
+    OwnFiles ls → TellFiles ls ends → (f : FilesState) → old ≡ Some f → AreOut ls f → (g : FilesState) × (mid ≡ Some g) × Keeping ls ends f g n
 
 pub kept_first : (ls : List DeviceLineData) (ends : List Device) (old : Option FilesState) (n : ℕ) → length ls ≤ n → KeptFrom ls ends old old n
-kept_first ls ends old n le own tell f e = (after_fetches (file_names ls) f, e, keeping_first ls ends f n (λ at l g. let lt = slice_get_within ls at l g in omega (arith, lt, le)))
+kept_first ls ends old n le own tell f e away = (f, e, keeping_first ls ends f n away (λ at l g. let lt = slice_get_within ls at l g in omega (arith, lt, le)))
 
 pub kept_more : (ls : List DeviceLineData) (ends : List Device) (old mid new : Option FilesState) (n : ℕ) (l : DeviceLineData) (d : Device) → slice_get ls n ≡ Some l → slice_get ends n ≡ Some d
     → KeptFrom ls ends old mid (n + 1) → Returns l.config.kind d.medium mid new → KeptFrom ls ends old new n
-kept_more ls ends old mid new n l d at_ls at_ends h r own tell f e = by l.config.kind refl r
+kept_more ls ends old mid new n l d at_ls at_ends h r own tell f e away = by l.config.kind refl r
   where
     before : (g : FilesState) × (mid ≡ Some g) × Keeping ls ends f g (n + 1)
-    before = h own tell f e
+    before = h own tell f e away
 
     by : (k : MediumData) → l.config.kind ≡ k → Returns k d.medium mid new → (g : FilesState) × (new ≡ Some g) × Keeping ls ends f g n
     by (InMemory blocks) kind same =
@@ -166,13 +174,17 @@ kept_more ls ends old mid new n l d at_ls at_ends h r own tell f e = by l.config
         (g', x.2 ∙ ap (option_map (after_keep name x.0)) before.1, keeping_more ls ends f before.0 g' n l d own at_ls at_ends before.2 (subst (λ (k : MediumData). KeepsKind k d.medium.below before.0 g') (sym kind) (x.0, x.1, refl)))
 
 pub kept_done : (ls : List DeviceLineData) (ends : List Device) (old new : Option FilesState) → KeptFrom ls ends old new 0 → KeepsEach ls ends old new
-kept_done ls ends old new h own tell f e = let x = h own tell f e in (x.0, x.1, keeping_done ls ends f x.0 x.2)
+kept_done ls ends old new h own tell f e away = let x = h own tell f e away in (x.0, x.1, keeping_done ls ends f x.0 x.2)
 
-get_taken : (xs : List Device) (n k : ℕ) (y : Device) → slice_get (take n xs) k ≡ Some y → slice_get xs k ≡ Some y
+pub get_taken : {X : Type 0} (xs : List X) (n k : ℕ) (y : X) → slice_get (take n xs) k ≡ Some y → slice_get xs k ≡ Some y
 get_taken xs zero k y e = absurd (cc)
 get_taken [] (suc n) k y e = absurd (cc)
 get_taken (x ∷ xs) (suc n) zero y e = e
 get_taken (x ∷ xs) (suc n) (suc k) y e = get_taken xs n k y e
+
+-- one device is given back alone
+pub keeps_one : (l : DeviceLineData) (d : Device) (old new : Option FilesState) → Returns l.config.kind d.medium old new → KeepsEach (l ∷ []) (d ∷ []) old new
+keeps_one l d old new r = kept_done (l ∷ []) (d ∷ []) old new (kept_more (l ∷ []) (d ∷ []) old old new 0 l d refl refl (kept_first (l ∷ []) (d ∷ []) old 1 (omega arith)) r)
 
 -- the last of the first so many devices of a set
 pub popped : (set rest all : List (List ℕ × Device)) (d : Device) → set ≡ take (length set) all → rest ≡ take (length set - 1) set → slice_get (devices set) (length set - 1) ≡ Some d

@@ -12,5 +12,6 @@ pub mod Whole
 pub mod Fetching
 pub mod FileRuns
 pub mod Keeping
+pub mod GivenBack
 pub mod Scenarios
 pub mod Agreed

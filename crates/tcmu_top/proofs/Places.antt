@@ -1,6 +1,5 @@
 -- One place of a list, read and written.
-use Rattle.std.proofs.Common.{◌≡◌, ℕ, zero, suc, ◌<◌, List, [], ◌∷◌, length, take, drop, slice_get, slice_set, Some, refl, ap, ◌∙◌, arith, subst}
-use Rattle.std.proofs.lemmas.Option.{same_Some}
+use Rattle.std.proofs.Common.{◌≡◌, ℕ, zero, suc, List, [], ◌∷◌, take, drop, slice_get, slice_set, Some, refl, ap, ◌∙◌}
 use Rattle.tcmu_model.specs.Sound.{Every}
 
 pub get_set_same : {X : Type 0} (xs : List X) (i : ℕ) (x y : X) → slice_get xs i ≡ Some x → slice_get (slice_set xs i y) i ≡ Some y

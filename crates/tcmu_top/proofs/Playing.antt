@@ -1,24 +1,19 @@
 -- A drain and a replay, as far as they have come.
-use Rattle.std.proofs.Common.{◌&&◌, nat_lt, Bool, true, false, ⊎_elim, ◌≡◌, ℕ, ◌+◌, ◌<◌, ◌≤◌, List, [], ◌∷◌, ◌++◌, length, drop, Option, Some, None, refl, sym, ap, ◌∙◌, arith, subst, length-append, inl, inr}
-use Rattle.std.specs.Option.{option_map}
-use Rattle.std.proofs.lemmas.Bool.{cases_Bool, ltb-true}
+use Rattle.std.proofs.Common.{Bool, true, false, ⊎_elim, ◌≡◌, ℕ, ◌+◌, ◌<◌, ◌≤◌, List, [], ◌∷◌, ◌++◌, length, drop, Option, Some, None, refl, sym, ap, ◌∙◌, arith, subst, length-append, inl, inr}
+use Rattle.std.proofs.lemmas.Bool.{cases_Bool}
 use Rattle.std.proofs.lemmas.List.{append-nil}
 use Rattle.tcmu_types.specs.Data.{DoneData}
 use Rattle.tcmu_types.specs.Rules.{IsCommand}
 use Rattle.tcmu_types.specs.Events.{EventData, AnswerData, EntryData}
 use Rattle.tcmu_types.specs.Events as ev
-use Rattle.tcmu_types.specs.Views.{event_data}
-use Rattle.tcmu_types.specs.declared.event.Event.{Event}
-use Rattle.tcmu_types.specs.declared.stat.Todo.{Todo}
 use Rattle.edge.specs.Outside.{Gained, GainedFront}
 use Rattle.tcmu_types.specs.declared.answer.Handle.TheVariants as handle
 use Rattle.tcmu_model.specs.declared.state.CommandState.TheVariants.{Out}
-use Rattle.tcmu_model.specs.Lists.{first_of, RisesAbove, IsRising}
-use Rattle.tcmu_model.specs.Fields.{is_rising}
-use Rattle.tcmu_model.specs.Device.{Unfinished, Device, DeviceState, is_at}
+use Rattle.tcmu_model.specs.Lists.{first_of}
+use Rattle.tcmu_model.specs.Device.{Unfinished, Device, is_at}
 use Rattle.tcmu_model.specs.Events.{submit_answer, after_submit, enter_answer, after_enter, dispatch_answer, after_dispatch, command_out, after_handle, respond_answer, after_respond, publish_answer, after_publish, clean_answer, after_clean, tick_answer, after_tick, block_answer, after_block, reset_answer, after_reset, restart_answer, after_restart, tmr_answer, after_tmr, stat_answer}
 use Rattle.tcmu_model.specs.Steps.{HandlerRelation, Step, Run, Makes, asked, moved}
-use Rattle.tcmu_model.specs.Drain.{Drains, drain_event, todo_of, chosen}
+use Rattle.tcmu_model.specs.Drain.{Drains, drain_event}
 use Rattle.tcmu_model.specs.Sound.{IsSound, Every}
 use Rattle.tcmu_model.specs.Work.{Outcome, HasOutcomes, GoesOn, work}
 use Rattle.tcmu_model.specs.ScenarioData.{DeviceLineData, LineWhat, LineData}
@@ -30,7 +25,7 @@ use Rattle.tcmu_model.proofs.GoesOn.{goes_on_first, goes_on_more, drains_run}
 use Rattle.tcmu_model.proofs.Logs.{makes_grows}
 use Rattle.tcmu_top.specs.Playing.{event_lines, run_text, MadeEvent, Told, Stopped, Wrote, WroteFront}
 use Rattle.tcmu_model.specs.ScenarioRules.{IsEvent}
-use Rattle.tcmu_path.specs.Tasks.{IsFit, CanBeMade}
+use Rattle.tcmu_path.specs.Tasks.{IsFit}
 use Rattle.tcmu_top.proofs.Telling.{gained_none, gained_more, gained_as, front_none, front_whole, front_behind}
 use Rattle.tcmu_top.proofs.RunTexts.{run_append, text_more, text_one, drop_front}
 use Rattle.tcmu_model.proofs.Runs.{sound_step}

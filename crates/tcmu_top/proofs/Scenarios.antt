@@ -1,31 +1,26 @@
 -- How the replay of a scenario ends, from what its parts say.
-use Rattle.std.proofs.Common.{◌≡◌, ◌⊎◌, ℕ, zero, suc, ◌<◌, ◌/◌, true, false, List, [], ◌∷◌, length, slice_get, Option, Some, None, Ok, Err, IfSome, is_some, refl, sym, ap, ◌∙◌, subst, inl, inr}
+use Rattle.std.proofs.Common.{◌≡◌, ◌⊎◌, ℕ, ◌<◌, false, List, [], ◌∷◌, length, Option, Some, None, Ok, Err, IfSome, refl, sym, ap, ◌∙◌, subst, inl, inr}
 use Rattle.std.specs.List.{AllPairs}
 use Rattle.std.proofs.lemmas.Bool.{lt-ltb}
-use Rattle.std.proofs.lemmas.Option.{same_Some}
 use Rattle.tcmu_types.specs.Numbered.{Rose}
-use Rattle.edge.specs.Stores.{StoreState, FilesState}
+use Rattle.edge.specs.Stores.{FilesState}
 use Rattle.edge.specs.Outside.{Tells}
-use Rattle.tcmu_model.specs.MediumState.{MediumState, file}
-use Rattle.tcmu_model.specs.Medium.{opened_medium, file_below}
 use Rattle.tcmu_model.specs.Scsi.{Serves}
 use Rattle.tcmu_model.specs.Device.{Device}
 use Rattle.tcmu_model.specs.Said.{same_file}
-use Rattle.tcmu_model.specs.Config.{MediumData, InFile}
 use Rattle.tcmu_model.specs.ScenarioData.{DeviceLineData, ScenarioData}
 use Rattle.tcmu_model.specs.Scenario.{Bad, scenario_of}
 use Rattle.tcmu_model.specs.ScenarioRules.{IsScenario}
-use Rattle.tcmu_model.specs.Several.{Journaled, is_of, IsLegalEach}
+use Rattle.tcmu_model.specs.Several.{Journaled, IsLegalEach}
 use Rattle.tcmu_model.specs.declared.faults.Why.TheVariants as why
 use Rattle.tcmu_top.specs.declared.status.Status.{Status}
 use Rattle.tcmu_top.specs.declared.status.Status.TheVariants as status
 use Rattle.tcmu_top.specs.Playing.{AreOpened}
-use Rattle.tcmu_top.specs.Opened.{OpensFile, OpensKind, Opens, OpenEach, file_names, OthersStay, KeptFiles, Fetched, AreOpen, AFileLacks, TellFiles, KeepsEach}
-use Rattle.tcmu_top.specs.Top.{Replayed, ReplayedInPart, TextWritten, TextWrittenInPart, CutShort, Wanting, LacksFile, Untouched, Had, too_long, ScenarioEnds, BytesEnd, Ends}
-use Rattle.tcmu_top.proofs.Fetching.{others_stay, own_files}
-use Rattle.tcmu_top.proofs.FileRuns.{run_stays}
-use Rattle.std.proofs.lemmas.List.{append-nil}
-use Rattle.std.specs.List.{filter}
+use Rattle.tcmu_top.specs.Opened.{OpenEach, file_names, AsTheyWere, KeptFiles, after_fetches, AreOpen, AFileLacks, KeepsEach}
+use Rattle.tcmu_top.specs.Top.{Replayed, ReplayedInPart, TextWritten, CutShort, Wanting, LacksFile, Untouched, Had, too_long, ScenarioEnds, BytesEnd, Ends}
+use Rattle.tcmu_top.proofs.Fetching.{place_free, fetches_fails, own_files}
+use Rattle.tcmu_top.proofs.Keeping.{fetched_out}
+use Rattle.tcmu_top.proofs.GivenBack.{tell_files}
 
 -- ==== devices as they open
 
@@ -35,37 +30,22 @@ open_opened files [] (d ∷ ds) h = absurd h
 open_opened files (l ∷ ls) [] h = absurd h
 open_opened files (l ∷ ls) (d ∷ ds) h = (ap (λ (x : Device). x.name) h.0.2, ap (λ (x : Device). x.state) h.0.2, open_opened files ls ds h.1)
 
-open_at : (files : Option FilesState) (ls : List DeviceLineData) (ds : List Device) (at : ℕ) (l : DeviceLineData) → OpenEach files ls ds → slice_get ls at ≡ Some l → (d : Device) × (slice_get ds at ≡ Some d) × Opens files l d
-open_at files [] ds at l h e = absurd (cc)
-open_at files (k ∷ ls) [] at l h e = absurd h
-open_at files (k ∷ ls) (d ∷ ds) zero l h e = (d, refl, subst (λ (x : DeviceLineData). Opens files x d) (same_Some k l e) h.0)
-open_at files (k ∷ ls) (d ∷ ds) (suc at) l h e = open_at files ls ds at l h.1 e
-
--- a device over a file that is told is told as it opens
-opens_told : (f : FilesState) (l : DeviceLineData) (d : Device) (name : List ℕ) → Opens (Some f) l d → l.config.kind ≡ InFile name → (d.medium.below.layer ≡ file) × (is_some d.medium.below.bytes ≡ true)
-opens_told f l d name o kind =
-    let x : OpensFile name (Some f) l.config o.0 = subst (λ (k : MediumData). OpensKind k (Some f) l.config o.0) kind o.1 in
-    let medium_is : d.medium ≡ opened_medium (x.store.size / 512) l.config.protected l.config.fails (file_below x.store.bytes x.store.calls) = ap (λ (y : Device). y.medium) o.2 ∙ x.medium in
-    let bytes_are : x.store.bytes ≡ Some x.told.0.bytes = ap (λ (s : StoreState). s.bytes) x.told.2 in
-    (ap (λ (m : MediumState). m.below.layer) medium_is, ap (λ (m : MediumState). is_some m.below.bytes) medium_is ∙ ap (λ (o : Option (List ℕ)). is_some o) bytes_are)
-
-pub tell_files : (f : FilesState) (ls : List DeviceLineData) (ds ends : List Device) (js : List Journaled) → OpenEach (Some f) ls ds → IsLegalEach Serves ds js ends → TellFiles ls ends
-tell_files f ls ds ends js opens legal at l d' name e g kind =
-    let x = open_at (Some f) ls ds at l opens e in
-    let first = opens_told f l x.0 name x.2 kind in
-    let run = run_stays x.0 d' (filter (is_of at) js) first.0 (legal at x.0 d' x.1 g) in
-    (run.layer, run.bytes ∙ first.1)
-
 -- ==== the scenario
-
--- the files behind all fetches
-all_fetched : (files files' : Option FilesState) (ls : List DeviceLineData) → Fetched (file_names ls) files files' → OthersStay ls files files'
-all_fetched files files' ls h = others_stay ls ls [] files files' (sym (append-nil ls)) h
 
 kept_files : (files mid files' : Option FilesState) (ls : List DeviceLineData) (ds ends : List Device) (js : List Journaled) → AllPairs (λ d e. same_file d.config.kind e.config.kind ≡ false) ls
     → AreOpen files mid ls ds → IsLegalEach Serves ds js ends → KeepsEach ls ends mid files' → KeptFiles ls ends files files'
 kept_files None mid files' ls ds ends js own h legal k = tt
-kept_files (Some f) mid files' ls ds ends js own h legal k = k (own_files ls own) (tell_files f ls ds ends js h.opens legal) f h.fetched.after
+kept_files (Some f) mid files' ls ds ends js own h legal k =
+    let x = k (own_files ls own) (tell_files f ls ds ends js h.opens legal) (after_fetches (file_names ls) f) h.fetched.after (λ at l name e kind. fetched_out ls f at l name e kind) in (
+      x.0,
+      x.1,
+      record {
+        named = x.2.named;
+        others = λ name free. x.2.others name free ∙ place_free (file_names ls) f name free;
+        fails = x.2.fails ∙ fetches_fails (file_names ls) f;
+        fetches = x.2.fetches;
+      },
+    )
 
 pub text_written : (s : ScenarioData) (files mid files' : Option FilesState) (ds ends : List Device) (old new : Option (List ℕ)) → IsScenario s → AreOpen files mid s.devices ds
     → Replayed Serves s.devices ds s.lines ends old new → KeepsEach s.devices ends mid files' → TextWritten files files' s old new
@@ -78,23 +58,16 @@ text_written s files mid files' ds ends old new rules h r k =
       kept = kept_files files mid files' s.devices ds r.is.ends r.is.journal rules.files h r.is.legal (subst (λ (x : List Device). KeepsEach s.devices x mid files') (sym r.ends) k);
     }
 
-text_in_part : (s : ScenarioData) (files mid : Option FilesState) (ds ends : List Device) (old new : Option (List ℕ)) → AreOpen files mid s.devices ds → ReplayedInPart Serves s.devices ds s.lines ends old new
-    → TextWrittenInPart files s old new
-text_in_part s files mid ds ends old new h r = record { text = r.text; is = record { opened = ds; opens = h.opens; replay = r.is }; gained = r.gained }
+pub cut_short : (s : ScenarioData) (files mid files' : Option FilesState) (ds ends : List Device) (old new : Option (List ℕ)) → IsScenario s → AreOpen files mid s.devices ds
+    → ReplayedInPart Serves s.devices ds s.lines ends old new → KeepsEach s.devices ends mid files' → CutShort files files' s old new
+cut_short s files mid files' ds ends old new rules h r k =
+    record { opened = ds; opens = h.opens; ends = ends; replay = r; fetched = h.fetched.none; kept = kept_files files mid files' s.devices ds ends r.made rules.files h r.legal k }
 
-pub cut_short : (s : ScenarioData) (files mid : Option FilesState) (ds ends : List Device) (old new : Option (List ℕ)) → AreOpen files mid s.devices ds → ReplayedInPart Serves s.devices ds s.lines ends old new
-    → CutShort files mid s old new
-cut_short s files mid ds ends old new h r = record { wrote = text_in_part s files mid ds ends old new h r; fetched = h.fetched.none; others = all_fetched files mid s.devices h.fetched }
-
-pub wanting : (s : ScenarioData) (files mid : Option FilesState) (ds ends : List Device) (old new : Option (List ℕ)) → AreOpen files mid s.devices ds → ReplayedInPart Serves s.devices ds s.lines ends old new
-    → Wanting files mid s old new
-wanting s files mid ds ends old new h r = record { wrote = inr (text_in_part s files mid ds ends old new h r); others = all_fetched files mid s.devices h.fetched }
-
-pub wanting_early : (s : ScenarioData) (files files' : Option FilesState) (old : Option (List ℕ)) → OthersStay s.devices files files' → Wanting files files' s old old
-wanting_early s files files' old others = record { wrote = inl refl; others = others }
+pub wanting_early : (s : ScenarioData) (files files' : Option FilesState) (old : Option (List ℕ)) → AsTheyWere s.devices files files' → Wanting files files' s old old
+wanting_early s files files' old same = inl (record { nothing = refl; same = same })
 
 pub lacks_file : (s : ScenarioData) (files files' : Option FilesState) (faults faults' : ℕ) (old : Option (List ℕ)) → AFileLacks s.devices files files' faults faults' → Rose faults faults' × LacksFile files files' s old old
-lacks_file s files files' faults faults' old h = (h.rose, record { fails = h.fails; nothing = refl; others = h.others })
+lacks_file s files files' faults faults' old h = (h.rose, record { fails = h.fails; nothing = refl; same = h.same })
 
 -- ==== a fault
 

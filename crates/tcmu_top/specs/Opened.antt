@@ -1,9 +1,9 @@
 -- The devices of a scenario as they open over files, and the files as the devices leave them.
-use Rattle.std.specs.Prelude.{◌≡◌, ℕ, ◌/◌, ◌%◌, ◌^◌, ◌≤◌, Bool, true, false, ◌||◌, List, [], ◌∷◌, Option, Some, IfSome, is_some, slice_get, bytes_eq}
+use Rattle.std.specs.Prelude.{◌≡◌, ℕ, ◌/◌, ◌%◌, ◌^◌, ◌≤◌, Bool, true, false, ◌||◌, List, [], ◌∷◌, ◌++◌, Option, Some, IfSome, is_some, slice_get, bytes_eq}
 use Rattle.std.specs.List.{list_any}
 use Rattle.std.specs.Option.{option_map}
 use Rattle.tcmu_types.specs.Numbered.{Rose}
-use Rattle.edge.specs.Stores.{StoreState, Content, store_of, Place, at_home, FilesState, fetch_fails, after_fetch, after_keep}
+use Rattle.edge.specs.Stores.{StoreState, Content, store_of, Place, out, at_home, FilesState, fetch_fails, after_fetch, after_keep}
 use Rattle.media.specs.Opening as medium
 use Rattle.media.specs.declared.make.MakeFault.{MakeFault}
 use Rattle.media.specs.declared.make.MakeFault.TheVariants as fault
@@ -58,30 +58,53 @@ abbrev pub a_fetch_fails : List (List ℕ) → FilesState → Bool
 a_fetch_fails [] f = false
 a_fetch_fails (name ∷ names) f = fetch_fails name f || a_fetch_fails names (after_fetch name f)
 
+-- the files behind the fetches of these names, in order
+abbrev pub after_fetches : List (List ℕ) → FilesState → FilesState
+after_fetches [] f = f
+after_fetches (name ∷ names) f = after_fetches names (after_fetch name f)
+
 -- ==== as they are left
 
 abbrev pub is_named : List DeviceLineData → List ℕ → Bool
 is_named ls name = list_any (bytes_eq name) (file_names ls)
 
--- a file stands there with the bytes of what bears a medium, but for the lost range
+-- What a file holds is what bore a medium: the bytes, but for the lost range, and the calls that its store has made.
+pub record IsLeftOf (b : Below) (content : Content) : Type 0 where
+  pub bytes : b.bytes ≡ Some (blanked b.lost content.bytes)
+  pub calls : content.calls ≡ b.store
+
+-- a file stands there that is left of what bore a medium
 abbrev pub Holds : Below → Place → Type 0
-Holds b place = (content : Content) × (place ≡ at_home content) × (b.bytes ≡ Some (blanked b.lost content.bytes))
+Holds b place = (content : Content) × (place ≡ at_home content) × IsLeftOf b content
 
 -- each file that no device line names is as it was
 abbrev pub SameOthers : List DeviceLineData → FilesState → FilesState → Type 0
 SameOthers ls f f' = (name : List ℕ) → is_named ls name ≡ false → f'.places name ≡ f.places name
 
-abbrev pub OthersStay : List DeviceLineData → Option FilesState → Option FilesState → Type 0
-OthersStay ls files files' = IfSome files (λ f. (f' : FilesState) × (files' ≡ Some f') × SameOthers ls f f')
-
--- where the files tell, the file of each device line holds what its device left in it, and each other file is as it was
-pub record Kept (ls : List DeviceLineData) (ends : List Device) (f f' : FilesState) : Type 0 where
+-- The file of each device line holds what its device left in it, and each other file is as it was. So many fetches were made.
+pub record Kept (ls : List DeviceLineData) (ends : List Device) (count : ℕ) (f f' : FilesState) : Type 0 where
   pub named : (at : ℕ) (l : DeviceLineData) (d : Device) (name : List ℕ) → slice_get ls at ≡ Some l → slice_get ends at ≡ Some d → l.config.kind ≡ InFile name
       → Holds d.medium.below (f'.places name)
   pub others : SameOthers ls f f'
+  pub fails : f'.fails ≡ f.fails
+  pub fetches : f'.fetches ≡ count
 
+-- where the files tell: they are kept so, and just the fetches of these device lines were made
 abbrev pub KeptFiles : List DeviceLineData → List Device → Option FilesState → Option FilesState → Type 0
-KeptFiles ls ends files files' = IfSome files (λ f. (f' : FilesState) × (files' ≡ Some f') × Kept ls ends f f')
+KeptFiles ls ends files files' = IfSome files (λ f. (f' : FilesState) × (files' ≡ Some f') × Kept ls ends (after_fetches (file_names ls) f).fetches f f')
+
+-- Each file is as it was, whichever its name. Just a front of the fetches of these names was made.
+pub record SameFiles (names : List (List ℕ)) (f f' : FilesState) : Type 0 where
+  pub places : (name : List ℕ) → f'.places name ≡ f.places name
+  pub fails : f'.fails ≡ f.fails
+  pub tried : List (List ℕ)
+  pub rest : List (List ℕ)
+  pub front : names ≡ tried ++ rest
+  pub fetches : f'.fetches ≡ (after_fetches tried f).fetches
+
+-- where the files tell: each is as it was, and at most the fetches of these device lines were made
+abbrev pub AsTheyWere : List DeviceLineData → Option FilesState → Option FilesState → Type 0
+AsTheyWere ls files files' = IfSome files (λ f. (f' : FilesState) × (files' ≡ Some f') × SameFiles (file_names ls) f f')
 
 -- ==== how they are opened, and given back
 
@@ -89,37 +112,36 @@ KeptFiles ls ends files files' = IfSome files (λ f. (f' : FilesState) × (files
 abbrev pub Made : DeviceLineData → Option FilesState → Option FilesState → Device → Type 0
 Made l old new d = (m : MediumState) × medium.Opens l.config old new m × (d ≡ opening l.settings l.name m)
 
--- the files behind the fetches of these names, in order
-abbrev pub after_fetches : List (List ℕ) → FilesState → FilesState
-after_fetches [] f = f
-after_fetches (name ∷ names) f = after_fetches names (after_fetch name f)
-
 -- these names were fetched: no fetch failed, and the files are as these leave them
 pub record Fetched (names : List (List ℕ)) (files files' : Option FilesState) : Type 0 where
   pub none : IfSome files (λ f. a_fetch_fails names f ≡ false)
   pub after : files' ≡ option_map (after_fetches names) files
+
+-- one device more is open, behind the others
+abbrev pub Adds : DeviceLineData → Option FilesState → Option FilesState → (set set' : List (List ℕ × Device)) → Type 0
+Adds l old new set set' = (d : Device) × Made l old new d × (set' ≡ set ++ (l.name, d) ∷ [])
 
 -- the devices of these device lines are open
 pub record AreOpen (files files' : Option FilesState) (ls : List DeviceLineData) (ds : List Device) : Type 0 where
   pub opens : OpenEach files ls ds
   pub fetched : Fetched (file_names ls) files files'
 
--- a file could not be fetched
+-- a file could not be fetched, and each is as it was
 pub record AFileLacks (ls : List DeviceLineData) (files files' : Option FilesState) (faults faults' : ℕ) : Type 0 where
   pub fails : IfSome files (λ f. a_fetch_fails (file_names ls) f ≡ true)
-  pub others : OthersStay ls files files'
+  pub same : AsTheyWere ls files files'
   pub rose : Rose faults faults'
 
 -- why the devices of these device lines could not be opened
 abbrev pub Unopened : MakeFault → List DeviceLineData → Option FilesState → Option FilesState → ℕ → ℕ → Type 0
 Unopened fault.Open ls files files' faults faults' = AFileLacks ls files files' faults faults'
-Unopened fault.NoMemory ls files files' faults faults' = OthersStay ls files files'
+Unopened fault.NoMemory ls files files' faults faults' = AsTheyWere ls files files'
 
--- What is given back of a device: nothing of one in memory. The file of another, where it tells its bytes, holds those of the medium.
+-- What is given back of a device: nothing of one in memory. The file of another, where it tells its bytes, is what the medium left.
 abbrev pub Returns : MediumData → MediumState → Option FilesState → Option FilesState → Type 0
 Returns (InMemory blocks) m old new = new ≡ old
 Returns (InFile name) m old new =
-    m.below.layer ≡ file → is_some m.below.bytes ≡ true → (c : Content) × (m.below.bytes ≡ Some (blanked m.below.lost c.bytes)) × (new ≡ option_map (after_keep name c) old)
+    m.below.layer ≡ file → is_some m.below.bytes ≡ true → (c : Content) × IsLeftOf m.below c × (new ≡ option_map (after_keep name c) old)
 
 -- no two device lines name one file
 abbrev pub OwnFiles : List DeviceLineData → Type 0
@@ -132,7 +154,11 @@ TellFiles ls ends =
     (at : ℕ) (l : DeviceLineData) (d : Device) (name : List ℕ) → slice_get ls at ≡ Some l → slice_get ends at ≡ Some d → l.config.kind ≡ InFile name
     → (d.medium.below.layer ≡ file) × (is_some d.medium.below.bytes ≡ true)
 
--- the files that were fetched are given back
+-- the file of each device line is out
+abbrev pub AreOut : List DeviceLineData → FilesState → Type 0
+AreOut ls f = (at : ℕ) (l : DeviceLineData) (name : List ℕ) → slice_get ls at ≡ Some l → l.config.kind ≡ InFile name → f.places name ≡ out
+
+-- the files of these device lines, which are out, are given back, and no fetch is made
 abbrev pub KeepsEach : List DeviceLineData → List Device → Option FilesState → Option FilesState → Type 0
 KeepsEach ls ends old new =
-    OwnFiles ls → TellFiles ls ends → (f : FilesState) → old ≡ Some (after_fetches (file_names ls) f) → (f' : FilesState) × (new ≡ Some f') × Kept ls ends f f'
+    OwnFiles ls → TellFiles ls ends → (f : FilesState) → old ≡ Some f → AreOut ls f → (f' : FilesState) × (new ≡ Some f') × Kept ls ends f.fetches f f'

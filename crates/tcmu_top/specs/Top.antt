@@ -15,7 +15,7 @@ use Rattle.tcmu_model.specs.Words.{why_word}
 use Rattle.tcmu_model.specs.Several.{Journaled, IsLegalEach, journaled_text, IsReplayOf}
 use Rattle.tcmu_model.specs.declared.faults.Why.{Why}
 use Rattle.tcmu_model.specs.declared.faults.Why.TheVariants as why
-use Rattle.tcmu_top.specs.Opened.{OpenEach, file_names, a_fetch_fails, KeptFiles, OthersStay}
+use Rattle.tcmu_top.specs.Opened.{OpenEach, file_names, a_fetch_fails, KeptFiles, AsTheyWere}
 use Rattle.tcmu_top.specs.Loads.{LoadEnds}
 use Rattle.tcmu_top.specs.declared.words.Task.{Task}
 use Rattle.tcmu_top.specs.declared.words.Task.TheVariants as task
@@ -51,12 +51,6 @@ pub record IsTextOf (files : Option FilesState) (s : ScenarioData) (text : List 
   pub opens : OpenEach files s.devices opened
   pub replay : IsReplayOf Serves s.devices opened s.lines text
 
--- a front of such a text was written
-pub record TextWrittenInPart (files : Option FilesState) (s : ScenarioData) (old new : Option (List ℕ)) : Type 0 where
-  pub text : List ℕ
-  pub is : IsTextOf files s text
-  pub gained : GainedFront old text new
-
 -- The whole text of a scenario's replay was written: every file could be fetched, and each has what its device left in it.
 pub record TextWritten (files files' : Option FilesState) (s : ScenarioData) (old new : Option (List ℕ)) : Type 0 where
   pub text : List ℕ
@@ -65,22 +59,30 @@ pub record TextWritten (files files' : Option FilesState) (s : ScenarioData) (ol
   pub fetched : IfSome files (λ f. a_fetch_fails (file_names s.devices) f ≡ false)
   pub kept : KeptFiles s.devices is.replay.ends files files'
 
--- the sink stopped it on the way: every file could be fetched
+-- It was stopped on the way: a front of such a text was written. Every file could be fetched, and each has what its device left in it
+-- behind those of its entries that were made.
 pub record CutShort (files files' : Option FilesState) (s : ScenarioData) (old new : Option (List ℕ)) : Type 0 where
-  pub wrote : TextWrittenInPart files s old new
+  pub opened : List Device
+  pub opens : OpenEach files s.devices opened
+  pub ends : List Device
+  pub replay : ReplayedInPart Serves s.devices opened s.lines ends old new
   pub fetched : IfSome files (λ f. a_fetch_fails (file_names s.devices) f ≡ false)
-  pub others : OthersStay s.devices files files'
+  pub kept : KeptFiles s.devices ends files files'
 
--- want of memory stopped it, before or behind its first line
-pub record Wanting (files files' : Option FilesState) (s : ScenarioData) (old new : Option (List ℕ)) : Type 0 where
-  pub wrote : (new ≡ old) ⊎ TextWrittenInPart files s old new
-  pub others : OthersStay s.devices files files'
+-- it did not begin: nothing was written, and each file is as it was
+pub record NotBegun (files files' : Option FilesState) (s : ScenarioData) (old new : Option (List ℕ)) : Type 0 where
+  pub nothing : new ≡ old
+  pub same : AsTheyWere s.devices files files'
 
--- a file could not be fetched, and nothing was written
+-- want of memory stopped it, before it began or on the way
+abbrev pub Wanting : Option FilesState → Option FilesState → ScenarioData → Option (List ℕ) → Option (List ℕ) → Type 0
+Wanting files files' s old new = NotBegun files files' s old new ⊎ CutShort files files' s old new
+
+-- a file could not be fetched: nothing was written, and each file is as it was
 pub record LacksFile (files files' : Option FilesState) (s : ScenarioData) (old new : Option (List ℕ)) : Type 0 where
   pub fails : IfSome files (λ f. a_fetch_fails (file_names s.devices) f ≡ true)
   pub nothing : new ≡ old
-  pub others : OthersStay s.devices files files'
+  pub same : AsTheyWere s.devices files files'
 
 -- ==== what the source had
 

@@ -1,12 +1,13 @@
 //! The devices of a scenario, as they open over files, and what they give back.
-ghost use Rattle.std.specs.Prelude.{◌≡◌, ◌≢◌, ◌≤◌, false, length, IfOk, IfErr};
+ghost use Rattle.std.specs.Prelude.{◌≡◌, ◌≢◌, ◌≤◌, ◌<◌, false, [], ◌∷◌, length, None, IfOk, IfErr, OnOk, OnErr};
 ghost use Rattle.std.specs.List.{All, AllPairs};
 ghost use Rattle.tcmu_model.specs.Said.{same_file};
 ghost use Rattle.tcmu_model.specs.ScenarioRules.{IsConfig, IsDeviceLine};
 ghost use Rattle.device_config.specs.Views.{medium_data};
+ghost use Rattle.device_set.specs.Sets.{number_of};
 ghost use Rattle.media.specs.Opening.{Refuses};
 ghost use Rattle.tcmu_top.specs.Playing.{states_of};
-ghost use Rattle.tcmu_top.specs.Opened.{Made, AreOpen, Unopened, Returns, KeepsEach};
+ghost use Rattle.tcmu_top.specs.Opened.{Made, Adds, AreOpen, Unopened, Returns, KeepsEach};
 
 use block_engine::Engine;
 use device_config::MediumKind;
@@ -36,7 +37,32 @@ fn open_device<F: Files>(
     Ok(PlainPath::new(alloc, device.settings, engine))
 }
 
-/// Opens the devices of a scenario, in order.
+/// Opens the device of a device line behind those that are open. At an `Err` its file is given back as it was.
+fn open_next<F: Files>(
+    alloc: Global,
+    device: &DeviceLine,
+    set: &mut DeviceSet<ServedDevice<F::File>>,
+    files: &mut F,
+) -> Result<(), MakeFault>
+    requires config { IsConfig device.now.config }
+    requires new { number_of device.now.name set.old ≡ None }
+    requires room { length set.old < 16 }
+    ensures opened { OnOk result (Adds device.now (F.state files.old) (F.state files.new) set.old set.new) }
+    ensures refused { IfErr result (λ e. Unopened e (device.now ∷ []) (F.state files.old) (F.state files.new) (F.faults files.old) (F.faults files.new)) }
+    ensures same { OnErr result (set.new ≡ set.old) }
+    ensures faults { F.faults files.old ≤ F.faults files.new }
+{
+    let opened = open_device(alloc, device, files)?;
+    match set.add(device.name.copy(), opened) {
+        Ok(_) => Ok(()),
+        Err(refused) => {
+            keep_file(device, refused.value, files);
+            Err(MakeFault::NoMemory)
+        }
+    }
+}
+
+/// Opens the devices of a scenario, in order. At an `Err` each file is given back as it was.
 pub fn open_devices<F: Files>(
     alloc: Global,
     devices: &[DeviceLine],
@@ -52,8 +78,10 @@ pub fn open_devices<F: Files>(
 {
     let mut set = DeviceSet::new(alloc);
     for device in devices {
-        let opened = open_device(alloc, device, files)?;
-        set.add(device.name.copy(), opened)?;
+        if let Err(fault) = open_next(alloc, device, &mut set, files) {
+            keep_files(&devices[..set.len() as usize], set, files);
+            return Err(fault);
+        }
     }
     Ok(set)
 }

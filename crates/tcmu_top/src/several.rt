@@ -37,6 +37,7 @@ fn drain_on<P: Path, K: Sink>(
     ensures err { OnErr result (WroteOnFront P.relation devices.now at (Drains P.relation at) (states_of P.device set.old) (states_of P.device set.new) (K.written out.old) (K.written out.new)) }
     ensures fault { IsErrOf result Stop.WriteFault → Rose (K.faults out.old) (K.faults out.new) }
     ensures later { K.faults out.old ≤ K.faults out.new }
+    ensures count { length set.new ≡ length set.old }
 {
     drain(alloc, &devices[at as usize], set.get_mut(at), out)
 }
@@ -58,6 +59,7 @@ fn play_on<P: Path, K: Sink>(
     ensures err { OnErr result (WroteOnFront P.relation devices.now line.now.device (λ d es d'. Plays P.relation line.now.device d line.now.what es d') (states_of P.device set.old) (states_of P.device set.new) (K.written out.old) (K.written out.new)) }
     ensures fault { IsErrOf result Stop.WriteFault → Rose (K.faults out.old) (K.faults out.new) }
     ensures later { K.faults out.old ≤ K.faults out.new }
+    ensures count { length set.new ≡ length set.old }
 {
     let at = line.device;
     play_line(alloc, &devices[at as usize], set.get_mut(at), line, out)
@@ -78,7 +80,7 @@ fn drain_each<P: Path, K: Sink>(
     ensures err { OnErr result (WroteEachFront P.relation devices.now (DrainsEach P.relation 0 (states_of P.device set.old)) (states_of P.device set.old) (states_of P.device set.new) (K.written out.old) (K.written out.new)) }
     ensures fault { IsErrOf result Stop.WriteFault → Rose (K.faults out.old) (K.faults out.new) }
     ensures later { K.faults out.old ≤ K.faults out.new }
-    ensures count { OnOk result (length set.new ≡ length set.old) }
+    ensures count { length set.new ≡ length set.old }
     ensures still_sound { OnOk result (Every (λ d. IsSound d.state) (states_of P.device set.new)) }
     ensures still_few { OnOk result (Every (λ d. d.state.accepted < 2 ^ 63) (states_of P.device set.new)) }
 {
@@ -105,7 +107,7 @@ fn replay_lines<P: Path, K: Sink>(
     ensures err { OnErr result (WroteEachFront P.relation devices.now (ReplaysEach P.relation (states_of P.device set.old) lines.now) (states_of P.device set.old) (states_of P.device set.new) (K.written out.old) (K.written out.new)) }
     ensures fault { IsErrOf result Stop.WriteFault → Rose (K.faults out.old) (K.faults out.new) }
     ensures later { K.faults out.old ≤ K.faults out.new }
-    ensures count { OnOk result (length set.new ≡ length set.old) }
+    ensures count { length set.new ≡ length set.old }
     ensures still_sound { OnOk result (Every (λ d. IsSound d.state) (states_of P.device set.new)) }
     ensures still_few { OnOk result (Every (λ d. d.state.accepted < 2 ^ 63) (states_of P.device set.new)) }
 {
@@ -152,7 +154,7 @@ pub fn replay_devices<P: Path, K: Sink>(
     ensures err { OnErr result (ReplayedInPart P.relation scenario.now.devices (states_of P.device set.old) scenario.now.lines (states_of P.device set.new) (K.written out.old) (K.written out.new)) }
     ensures fault { IsErrOf result Stop.WriteFault → Rose (K.faults out.old) (K.faults out.new) }
     ensures later { K.faults out.old ≤ K.faults out.new }
-    ensures count { OnOk result (length set.new ≡ length set.old) }
+    ensures count { length set.new ≡ length set.old }
 {
     let devices = scenario.devices.as_slice();
     write_readies(alloc, devices, out)?;

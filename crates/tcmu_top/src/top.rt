@@ -25,7 +25,7 @@ use std::alloc::Global;
 use tcmu_model::Why;
 use tcmu_types::Words;
 
-/// Replays a scenario's lines on its devices, writes the text, and gives the devices' files back.
+/// Replays a scenario's lines on its devices and writes the text. However that ends, the devices' files are given back.
 fn replay_opened<K: Sink, F: Files>(
     alloc: Global,
     scenario: &Scenario,
@@ -41,11 +41,10 @@ fn replay_opened<K: Sink, F: Files>(
     ensures same { F.faults files.new ≡ F.faults files.old }
     ensures wrote { K.faults out.old ≤ K.faults out.new }
 {
-    match replay_devices(alloc, scenario, &mut set, out) {
-        Ok(()) => {
-            keep_files(scenario.devices.as_slice(), set, files);
-            Status::Ok
-        }
+    let ended = replay_devices(alloc, scenario, &mut set, out);
+    keep_files(scenario.devices.as_slice(), set, files);
+    match ended {
+        Ok(()) => Status::Ok,
         Err(Stop::WriteFault) => Status::WriteFault,
         Err(Stop::NoMemory) => Status::NoMemory,
     }
@@ -91,7 +90,7 @@ fn replay_bytes<K: Sink, F: Files>(
 }
 
 /// Reads a scenario from the source, opens its devices over the files, replays it, and writes its journal to the sink: each line, with
-/// its line feed, by one call. At the end each file has what its device left in it.
+/// its line feed, by one call. However that ends, each file is given back with what its device left in it.
 pub fn run_replay<S: Source, K: Sink, F: Files>(
     alloc: Global,
     src: &mut S,

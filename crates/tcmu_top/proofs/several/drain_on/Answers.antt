@@ -4,6 +4,7 @@ use Rattle.std.proofs.lemmas.Result.{on_ok_weaker, on_err_weaker}
 use Rattle.tcmu_model.specs.Device.{Device}
 use Rattle.tcmu_model.specs.Drain.{Drains}
 use Rattle.tcmu_model.specs.Sound.{IsSound}
+use Rattle.device_set.proofs.Places.{length-with_device}
 use Rattle.tcmu_top.specs.Playing.{states_of}
 use Rattle.tcmu_top.proofs.Sets.{states_get, wrote_on, wrote_on_front}
 use Rattle.tcmu_top.proofs.several.drain_on.Goals as goal
@@ -34,3 +35,6 @@ returns-clause-err g c =
     on_err_weaker c.drain.result
     (λ h. wrote_on_front g.P.Path.device g.P.Path.relation ls c.args.at (Drains g.P.Path.relation c.args.at) c.args.set.now c.index-devices-at.result c.get_mut.result.now c.drain.new.path _ _ named c.get_mut.ensures.value (h c.args.at))
     c.drain.ensures.err
+
+pub returns-clause-count : goal.returns-clause-count
+returns-clause-count g c = length-with_device c.args.set.now c.args.at c.drain.new.path

@@ -6,6 +6,7 @@ use Rattle.tcmu_model.specs.Replay.{Plays}
 use Rattle.tcmu_model.specs.ScenarioData.{LineData}
 use Rattle.tcmu_model.specs.Sound.{IsSound}
 use Rattle.device_set.specs.Sets.{with_device}
+use Rattle.device_set.proofs.Places.{length-with_device}
 use Rattle.tcmu_top.specs.Playing.{states_of, WroteOn, WroteOnFront}
 use Rattle.tcmu_top.proofs.Sets.{states_get, wrote_on, wrote_on_front}
 use Rattle.tcmu_top.proofs.several.play_on.Goals as goal
@@ -48,3 +49,6 @@ returns-clause-err g c =
     (λ h. subst (λ (n : ℕ). WroteOnFront R ls n (λ d es d'. Plays R n d what es d') (states_of g.P.Path.device c.args.set.now) (states_of g.P.Path.device set') (g.K.Sink.written c.args.out.now) (g.K.Sink.written c.play_line.new.out)) is
     (wrote_on_front g.P.Path.device R ls at (λ d es d'. Plays R at d what es d') c.args.set.now c.index-devices-at.result c.get_mut.result.now c.play_line.new.path _ _ named c.get_mut.ensures.value (h at)))
     c.play_line.ensures.err
+
+pub returns-clause-count : goal.returns-clause-count
+returns-clause-count g c = length-with_device c.args.set.now c.line.inside.device c.play_line.new.path

@@ -1,46 +1,55 @@
-use Rattle.std.proofs.Common.{◌∙◌, ap, sym, subst, List, length, Err}
+use Rattle.std.proofs.Common.{◌≡◌, ◌∙◌, ap, sym, subst, List, length, Err, inr}
 use Rattle.tcmu_model.specs.ScenarioData.{ScenarioData, DeviceLineData}
 use Rattle.tcmu_top.specs.Opened.{KeepsEach}
 use Rattle.tcmu_top.specs.Playing.{states_of}
 use Rattle.tcmu_top.specs.declared.writing.Stop.{Stop}
+use Rattle.tcmu_top.specs.declared.writing.Stop.TheVariants as stop
 use Rattle.tcmu_top.proofs.Outcomes.{has_outcomes}
-use Rattle.tcmu_top.proofs.Scenarios.{text_written, cut_short, wanting, scenario_ok, scenario_cut, scenario_wanting}
+use Rattle.tcmu_top.proofs.Scenarios.{text_written, cut_short, scenario_ok, scenario_cut, scenario_wanting}
 use Rattle.tcmu_top.proofs.Sets.{states_count}
 use Rattle.tcmu_top.proofs.Whole.{opened_count}
 use Rattle.tcmu_top.proofs.top.replay_opened.Goals as goal
 
-pub replay_devices-requires-clause-outcomes : goal.replay_devices-requires-clause-outcomes
-replay_devices-requires-clause-outcomes g c = has_outcomes
+pub replay_devices-ended-requires-clause-outcomes : goal.replay_devices-ended-requires-clause-outcomes
+replay_devices-ended-requires-clause-outcomes g c = has_outcomes
 
 pub keep_files-requires-clause-count : goal.keep_files-requires-clause-count
 keep_files-requires-clause-count g c =
     let s = c.args.scenario.now in
     let same = c.as_slice.ensures ∙ ap (λ (x : ScenarioData). x.devices) c.scenario.view_is in
-    λ κs within. ap (λ (l : List DeviceLineData). length l) same ∙ opened_count s.devices (states_of (λ d. d) c.args.set) c.requires.opened ∙ states_count (λ d. d) c.args.set ∙ sym c.in-Ok.ensures.count
+    λ κs within. ap (λ (l : List DeviceLineData). length l) same ∙ opened_count s.devices (states_of (λ d. d) c.args.set) c.requires.opened ∙ states_count (λ d. d) c.args.set ∙ sym c.replay_devices-ended.ensures.count
 
 pub returns-in-Ok-clause-ends : goal.returns-in-Ok-clause-ends
 returns-in-Ok-clause-ends g c entry before after ready =
     let s = c.args.scenario.now in
     let same = c.as_slice.ensures ∙ ap (λ (x : ScenarioData). x.devices) c.scenario.view_is in
     let ds = states_of (λ d. d) c.args.set in
-    let ends = states_of (λ d. d) c.replay_devices.new.set in
+    let ends = states_of (λ d. d) c.replay_devices-ended.new.set in
     let mid = g.F.Files.state c.args.files.now in
     let last = g.F.Files.state c.keep_files.new.files in
-    scenario_ok s entry last before after _ _ _ _
-    (text_written s entry mid last ds ends _ _ c.requires.limits ready c.in-Ok.ensures.ok (subst (λ (l : List DeviceLineData). KeepsEach l ends mid last) same c.keep_files.ensures.kept))
+    let kept = subst (λ (l : List DeviceLineData). KeepsEach l ends mid last) same c.keep_files.ensures.kept in
+    scenario_ok s entry last before after _ _ _ _ (text_written s entry mid last ds ends _ _ c.requires.limits ready c.in-Ok.ensures.ok kept)
 
 pub returns-in-Err-WriteFault-clause-ends : goal.returns-in-Err-WriteFault-clause-ends
 returns-in-Err-WriteFault-clause-ends g c entry before after ready =
     let s = c.args.scenario.now in
+    let same = c.as_slice.ensures ∙ ap (λ (x : ScenarioData). x.devices) c.scenario.view_is in
     let ds = states_of (λ d. d) c.args.set in
-    let ends = states_of (λ d. d) c.replay_devices.new.set in
+    let ends = states_of (λ d. d) c.replay_devices-ended.new.set in
     let mid = g.F.Files.state c.args.files.now in
-    scenario_cut s entry mid before after _ _ _ _ (c.in-Err-WriteFault.ensures.fault (ap (λ (x : Stop). Err x) c.in-Err-WriteFault.field-0-is)) (cut_short s entry mid ds ends _ _ ready c.in-Err-WriteFault.ensures.err)
+    let last = g.F.Files.state c.keep_files.new.files in
+    let kept = subst (λ (l : List DeviceLineData). KeepsEach l ends mid last) same c.keep_files.ensures.kept in
+    let which : c.in-Err-WriteFault.field-0 ≡ stop.WriteFault = rw c.in-Err-WriteFault.is at c.in-Err-WriteFault.field-0-is in
+    scenario_cut s entry last before after _ _ _ _ (c.replay_devices-ended.ensures.fault (c.in-Err-WriteFault.is ∙ ap (λ (x : Stop). Err x) which))
+    (cut_short s entry mid last ds ends _ _ c.requires.limits ready (rw c.in-Err-WriteFault.is at c.replay_devices-ended.ensures.err) kept)
 
-pub returns-clause-ends : goal.returns-clause-ends
-returns-clause-ends g c entry before after ready =
+pub returns-in-Err-NoMemory-clause-ends : goal.returns-in-Err-NoMemory-clause-ends
+returns-in-Err-NoMemory-clause-ends g c entry before after ready =
     let s = c.args.scenario.now in
+    let same = c.as_slice.ensures ∙ ap (λ (x : ScenarioData). x.devices) c.scenario.view_is in
     let ds = states_of (λ d. d) c.args.set in
-    let ends = states_of (λ d. d) c.replay_devices.new.set in
+    let ends = states_of (λ d. d) c.replay_devices-ended.new.set in
     let mid = g.F.Files.state c.args.files.now in
-    scenario_wanting s entry mid before after _ _ _ _ (wanting s entry mid ds ends _ _ ready c.in-Err-NoMemory.ensures.err)
+    let last = g.F.Files.state c.keep_files.new.files in
+    let kept = subst (λ (l : List DeviceLineData). KeepsEach l ends mid last) same c.keep_files.ensures.kept in
+    scenario_wanting s entry last before after _ _ _ _ (inr (cut_short s entry mid last ds ends _ _ c.requires.limits ready (rw c.in-Err-NoMemory.is at c.replay_devices-ended.ensures.err) kept))
