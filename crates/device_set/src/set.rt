@@ -5,7 +5,7 @@ ghost use Rattle.device_set.specs.Sets.{names, devices, number_of};
 use indexmap::IndexMap;
 use std::alloc::{AllocFailed, Global};
 use std::marker::Model;
-use tcmu_types::Name;
+use tcmu_types::{Name, NoMemory};
 
 /// Devices, each under a name of its own and a number: 0, 1, 2 and so on in the order in which they were added.
 #[derive(Drop)]
@@ -39,7 +39,7 @@ impl<P> DeviceSet<P> {
 
     /// Adds a device of a new name behind the others and answers its number. Where memory is wanting the set stays as it was, and the
     /// error has the device.
-    pub fn add(&mut self, name: Name, device: P) -> Result<u32, AllocFailed<P>>
+    pub fn insert(&mut self, name: Name, device: P) -> Result<u32, AllocFailed<P>>
     where
         P: Drop,
         requires new { number_of name self.old ≡ None }
@@ -56,6 +56,19 @@ impl<P> DeviceSet<P> {
                 value: refused.value.1,
             }),
         }
+    }
+
+    /// As `insert`; where memory is wanting the device is dropped.
+    pub fn add(&mut self, name: Name, device: P) -> Result<u32, NoMemory>
+    where
+        P: Drop,
+        requires new { number_of name self.old ≡ None }
+        requires room { length self.old < 4294967295 }
+        ensures added { OnOk result (self.new ≡ self.old ++ (name, device) ∷ []) }
+        ensures number { IfOk result (λ at. at ≡ length self.old) }
+        ensures refused { OnErr result (self.new ≡ self.old) }
+    {
+        Ok(self.insert(name, device)?)
     }
 
     /// The number of the device of this name; None exactly where no device has it.

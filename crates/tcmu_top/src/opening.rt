@@ -53,7 +53,7 @@ fn open_next<F: Files>(
     ensures faults { F.faults files.old ≤ F.faults files.new }
 {
     let opened = open_device(alloc, device, files)?;
-    match set.add(device.name.copy(), opened) {
+    match set.insert(device.name.copy(), opened) {
         Ok(_) => Ok(()),
         Err(refused) => {
             keep_file(device, refused.value, files);

@@ -1,5 +1,5 @@
 //! The worked rows, over a source and a sink in memory.
-use crate::{Status, Why, run_replay, tcmu_top};
+use crate::{Status, Why, run_load, run_replay, tcmu_top};
 use edge::{MemFiles, MemSink, MemSource};
 use std::alloc::Global;
 use std::test::Fail;
@@ -230,6 +230,18 @@ fn loads(rt: HostRuntime) -> Result<(), Fail> {
         let (status, out, _err) = run_words(alloc, &["load", seed, count], b"".as_slice())?;
         assert_eq!(rt; status, want, "at {seed} {count}");
         assert_eq!(rt; out.written(), text.as_bytes(), "at {seed} {count}");
+    }
+    Ok(())
+}
+
+/// A load makes one call of the sink, whether it fails or not.
+#[test]
+fn load_calls(rt: HostRuntime) -> Result<(), Fail> {
+    let alloc = rt.alloc();
+    for (fails, want) in [(0u64, Status::Ok), (1, Status::WriteFault)] {
+        let mut out = MemSink::new(alloc, 64, Serials::from_slice(alloc, &[fails])?)?;
+        assert_eq!(rt; run_load(alloc, 0, 1, &mut out), want, "at {fails}");
+        assert_eq!(rt; out.calls(), 1, "at {fails}");
     }
     Ok(())
 }
