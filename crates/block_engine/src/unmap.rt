@@ -11,7 +11,7 @@ use crate::senses::{
     ADDRESS_OUT_OF_RANGE, INVALID_FIELD_IN_CDB, INVALID_FIELD_IN_LIST, PARAMETER_LIST_LENGTH_ERROR,
     WRITE_ERROR, WRITE_PROTECTED,
 };
-use cdb_decode::{u16_at, u32_at, u64_at};
+use cdb_decode::{be_u16_at, be_u32_at, be_u64_at};
 use edge::Failed;
 use handler_trait::Medium;
 use std::alloc::Global;
@@ -32,8 +32,8 @@ fn extents(alloc: Global, sent: &[u8], n: usize) -> Result<Vec<Extent>, NoMemory
     for k in 0..n {
         let at = HEADER + DESCRIPTOR * k;
         list.push(Extent {
-            lba: u64_at(sent, at),
-            count: u32_at(sent, at + 8),
+            lba: be_u64_at(sent, at),
+            count: be_u32_at(sent, at + 8),
         })?;
     }
     Ok(list)
@@ -64,7 +64,8 @@ fn has_bad_lengths(sent: &[u8]) -> bool
     requires { 8 ≤ length sent.now }
     ensures { result ≡ has_bad_lengths sent.now }
 {
-    usize::from(u16_at(sent, 0)) != sent.len() - 2 || usize::from(u16_at(sent, 2)) != sent.len() - 8
+    usize::from(be_u16_at(sent, 0)) != sent.len() - 2
+        || usize::from(be_u16_at(sent, 2)) != sent.len() - 8
 }
 
 // One fill with zeros, where the range has blocks.

@@ -5,7 +5,7 @@ ghost use Rattle.byteorder.specs.Endian.{big_from};
 use byteorder::{BigEndian, ByteOrder};
 
 /// The number in the two bytes from `at` on, the highest byte first.
-pub fn u16_at(bytes: &[u8], at: usize) -> u16
+pub fn be_u16_at(bytes: &[u8], at: usize) -> u16
     requires { at + 2 ≤ length bytes.now }
     ensures { result ≡ big_from at 2 bytes.now }
 {
@@ -13,7 +13,7 @@ pub fn u16_at(bytes: &[u8], at: usize) -> u16
 }
 
 /// The number in the four bytes from `at` on, the highest byte first.
-pub fn u32_at(bytes: &[u8], at: usize) -> u32
+pub fn be_u32_at(bytes: &[u8], at: usize) -> u32
     requires { at + 4 ≤ length bytes.now }
     ensures { result ≡ big_from at 4 bytes.now }
 {
@@ -21,7 +21,7 @@ pub fn u32_at(bytes: &[u8], at: usize) -> u32
 }
 
 /// The number in the eight bytes from `at` on, the highest byte first.
-pub fn u64_at(bytes: &[u8], at: usize) -> u64
+pub fn be_u64_at(bytes: &[u8], at: usize) -> u64
     requires { at + 8 ≤ length bytes.now }
     ensures { result ≡ big_from at 8 bytes.now }
 {

@@ -6,6 +6,6 @@ mod table;
 #[cfg(test)]
 mod tests;
 
-pub use fields::{u16_at, u32_at, u64_at};
+pub use fields::{be_u16_at, be_u32_at, be_u64_at};
 pub use table::decode;
 pub use tcmu_model::{CdbFault, Op};

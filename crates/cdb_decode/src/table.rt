@@ -4,7 +4,7 @@ ghost use Rattle.byteorder.specs.Endian.{big_from};
 ghost use Rattle.tcmu_model.specs.Decoding.{decoded, ruled, rule, asks_page, asked_page, inquiry_page, is_vpd_page, is_mode_page, no_high_bits, no_low_bit, no_low_bits, same_count, count6, IsDecoded};
 ghost use Rattle.tcmu_model.specs.declared.op.Op.TheVariants.{RequestSense, Inquiry, ModeSense, Capacity16, ReportLuns, Unmap, CompareWrite};
 
-use crate::{u16_at, u32_at, u64_at};
+use crate::{be_u16_at, be_u32_at, be_u64_at};
 use tcmu_model::{CdbFault, Op};
 use tcmu_types::Cdb;
 
@@ -57,8 +57,8 @@ fn ten(bytes: &[u8]) -> Result<Op, CdbFault>
     ensures value { result ≡ decoded bytes.now }
     ensures sound { IfOk result IsDecoded }
 {
-    let lba = u64::from(u32_at(bytes, 2));
-    let count = u32::from(u16_at(bytes, 7));
+    let lba = u64::from(be_u32_at(bytes, 2));
+    let count = u32::from(be_u16_at(bytes, 7));
     match bytes[0] {
         0x25 => Ok(Op::Capacity10),
         0x28 => without_high_bits(bytes, Op::Read { lba, count }),
@@ -78,8 +78,8 @@ fn twelve(bytes: &[u8]) -> Result<Op, CdbFault>
     ensures value { result ≡ decoded bytes.now }
     ensures sound { IfOk result IsDecoded }
 {
-    let lba = u64::from(u32_at(bytes, 2));
-    let count = u32_at(bytes, 6);
+    let lba = u64::from(be_u32_at(bytes, 2));
+    let count = be_u32_at(bytes, 6);
     match bytes[0] {
         0xa0 => report_luns(bytes),
         0xa8 => without_high_bits(bytes, Op::Read { lba, count }),
@@ -96,8 +96,8 @@ fn sixteen(bytes: &[u8]) -> Result<Op, CdbFault>
     ensures value { result ≡ decoded bytes.now }
     ensures sound { IfOk result IsDecoded }
 {
-    let lba = u64_at(bytes, 2);
-    let count = u32_at(bytes, 10);
+    let lba = be_u64_at(bytes, 2);
+    let count = be_u32_at(bytes, 10);
     match bytes[0] {
         0x88 => without_high_bits(bytes, Op::Read { lba, count }),
         0x89 => {
@@ -116,7 +116,7 @@ fn short_lba(bytes: &[u8]) -> u64
     requires { length bytes.now ≡ 6 }
     ensures { result ≡ 65536 * (slice_index bytes.now 1 % 32) + big_from 2 2 bytes.now }
 {
-    65536 * u64::from(bytes[1] % 32) + u64::from(u16_at(bytes, 2))
+    65536 * u64::from(bytes[1] % 32) + u64::from(be_u16_at(bytes, 2))
 }
 
 fn short_count(bytes: &[u8]) -> u32
@@ -164,7 +164,7 @@ fn unmap(bytes: &[u8]) -> Result<Op, CdbFault>
         return Err(CdbFault::Field(1));
     }
     Ok(Op::Unmap {
-        length: u32::from(u16_at(bytes, 7)),
+        length: u32::from(be_u16_at(bytes, 7)),
     })
 }
 
@@ -198,7 +198,7 @@ fn inquiry(bytes: &[u8]) -> Result<Op, CdbFault>
     ensures value { result ≡ ruled (inquiry_page bytes.now ∷ []) (Inquiry (asked_page bytes.now) (big_from 3 2 bytes.now)) }
     ensures sound { IfOk result IsDecoded }
 {
-    let limit = u32::from(u16_at(bytes, 3));
+    let limit = u32::from(be_u16_at(bytes, 3));
     let code = bytes[2];
     if bytes[1] % 2 == 1 {
         if !is_vpd_page(code) {
@@ -241,7 +241,7 @@ fn capacity(bytes: &[u8]) -> Result<Op, CdbFault>
         return Err(CdbFault::Field(1));
     }
     Ok(Op::Capacity16 {
-        limit: u32_at(bytes, 10),
+        limit: be_u32_at(bytes, 10),
     })
 }
 
@@ -255,6 +255,6 @@ fn report_luns(bytes: &[u8]) -> Result<Op, CdbFault>
     }
     Ok(Op::ReportLuns {
         select: bytes[2],
-        limit: u32_at(bytes, 6),
+        limit: be_u32_at(bytes, 6),
     })
 }

@@ -7,7 +7,7 @@ ghost use Rattle.cmd_ring.specs.Calls.{RingCall, AllAllowed, Follows, oldest};
 
 /// The numbers of a `Ring` are those of the ring's state, for every list of calls behind `new` in which each item is laid where
 /// it fits and each clean is given the lengths of the oldest items; and each call's conditions are met on the way.
-pub fn ring_law()
+pub fn places_law()
     ensures room { (r : RingState) (n : ℕ) →
         (free (places_of r) ≡ ring.free r) × (pad (places_of r) n ≡ ring.pad r n) × (need (places_of r) n ≡ ring.need r n) ×
         (fits (places_of r) n ≡ ring.fits r n) }

@@ -6,5 +6,5 @@ mod ring;
 #[cfg(test)]
 mod tests;
 
-pub use laws::ring_law;
+pub use laws::places_law;
 pub use ring::{Place, Ring, Room};

@@ -165,9 +165,8 @@ whole_blocks n e =
 fetchable : (listed : Bool) (p : Place) → listed ≡ false → can_open p ≡ true → (listed || not (can_open p)) ≡ false
 fetchable listed p e t = ap (λ b. b || not (can_open p)) e ∙ ap not t
 
-pub unlisted : (fails items : List ℕ) (call fetches : ℕ) → call ≡ next_call fetches → items ≡ fails → false ≡ list_any (λ k. nat_eq k call) items → is_listed fails fetches ≡ false
-unlisted fails items call fetches c f e =
-    ap (λ (n : ℕ). list_any (λ k. nat_eq k n) fails) (sym c) ∙ ap (λ (xs : List ℕ). list_any (λ k. nat_eq k call) xs) (sym f) ∙ sym e
+pub unlisted : (fails : List ℕ) (call fetches : ℕ) → call ≡ next_call fetches → false ≡ list_any (λ k. nat_eq k call) fails → is_listed fails fetches ≡ false
+unlisted fails call fetches c e = ap (λ (n : ℕ). list_any (λ k. nat_eq k n) fails) (sym c) ∙ sym e
 
 -- behind the fetch of a file that is at home
 pub fetched_state : (old : FilesInMemory) (fetches : ℕ) (files : List NamedStore) (name : List ℕ) (s : StoreInMemory) → fetches ≡ next_call old.fetches

@@ -1,6 +1,5 @@
 //! A source and a sink in memory, of which the listed calls fail.
-ghost use Rattle.std.specs.Prelude.{◌≡◌, ℕ, List, [], Option, Some, ◌+◌, ◌-◌, ◌≤◌, ◌<◌, ◌||◌, length, take, drop, min, nat_lt, nat_eq, is_err, IfOk, OnOk, OnErr};
-ghost use Rattle.std.specs.List.{list_any};
+ghost use Rattle.std.specs.Prelude.{◌≡◌, ℕ, List, [], Option, Some, ◌+◌, ◌-◌, ◌≤◌, ◌<◌, ◌||◌, length, take, drop, min, nat_lt, is_err, IfOk, OnOk, OnErr};
 ghost use Rattle.tcmu_types.specs.Numbered.{HasCause, is_listed, next_call};
 ghost use Rattle.edge.specs.Outside.{Tells, Gave, Gained, GainedFront, CountsFailed};
 
@@ -56,12 +55,6 @@ fn copy_front(from: &[u8], into: &mut [u8]) -> usize
     count
 }
 
-pub(crate) fn contains(fails: &[u64], call: u64) -> bool
-    ensures { result ≡ list_any (λ k. nat_eq k call) fails.now }
-{
-    fails.iter().any(|k| *k == call)
-}
-
 impl Source for MemSource {
     ghost left = { λ s. Some s.left };
 
@@ -82,7 +75,7 @@ impl Source for MemSource {
         ensures fails { self.new.fails ≡ self.old.fails }
     {
         self.calls = self.calls.saturating_add(1);
-        if contains(self.fails.as_slice(), self.calls) {
+        if self.fails.contains(self.calls) {
             self.faults = self.faults.saturating_add(1);
             return Err(Failed);
         }
@@ -164,7 +157,7 @@ impl Sink for MemSink {
         ensures room_kept { OnErr result (self.new.room ≡ self.old.room) }
     {
         self.calls = self.calls.saturating_add(1);
-        if contains(self.fails.as_slice(), self.calls) {
+        if self.fails.contains(self.calls) {
             self.faults = self.faults.saturating_add(1);
             return Err(Failed);
         }

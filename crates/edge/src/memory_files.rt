@@ -9,7 +9,6 @@ ghost use Rattle.edge.specs.Stores.{missing, out, can_open, fetch_fails, one_mor
 ghost use Rattle.edge.specs.Memory.{files_state, after_add, content_at, content_of, place_of, place_in};
 
 use crate::files::has_medium_size;
-use crate::memory::contains;
 use crate::{Failed, FetchOk, Files, MemStore, Store};
 use std::alloc::Global;
 use std::marker::Model;
@@ -171,7 +170,7 @@ impl Files for MemFiles {
         ensures count { CountsFailed self.old.faults (is_err result) self.new.faults }
     {
         self.fetches = self.fetches.saturating_add(1);
-        if !contains(self.fails.as_slice(), self.fetches) {
+        if !self.fails.contains(self.fetches) {
             if let Some(store) = take_out(&mut self.files, name) {
                 return Ok(FetchOk::File(store));
             }

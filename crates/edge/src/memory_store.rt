@@ -4,7 +4,6 @@ ghost use Rattle.tcmu_types.specs.Numbered.{HasCause, is_listed, next_call};
 ghost use Rattle.edge.specs.Outside.{CountsFailed};
 ghost use Rattle.edge.specs.Stores.{Shows, Puts, Spoils};
 
-use crate::memory::contains;
 use crate::{Failed, Store};
 use std::marker::Model;
 use tcmu_types::{Bytes, Serials, copy_out, overwrite};
@@ -56,7 +55,7 @@ impl MemStore {
         ensures count { CountsFailed self.old.faults (is_err result) self.new.faults }
     {
         self.calls = self.calls.saturating_add(1);
-        if contains(self.fails.as_slice(), self.calls) {
+        if self.fails.contains(self.calls) {
             self.faults = self.faults.saturating_add(1);
             return Err(Failed);
         }

@@ -4,7 +4,7 @@ ghost use Rattle.tcmu_model.specs.Layout.{ring_start, data_start};
 ghost use Rattle.tcmu_model.specs.MailboxReading.{IsMailbox};
 ghost use Rattle.tcmu_model.specs.EntryReading.{iov_at, lies_inside, tmr_id_at, first_outside, cdb_at, command_read, tmr_read, limit_of, least_of, kind_read, sized_read, entry_read, response_at, ReadsEntry, KeepsBounds};
 
-use mailbox_bytes::fields::{u8_at, u16_at, u32_at, u64_at};
+use mailbox_bytes::fields::{le_u16_at, le_u32_at, le_u64_at, u8_at};
 use tcmu_model::{EntryFault, EntryRef, Mailbox, Response};
 use tcmu_types::{Cdb, Iov, group_length};
 
@@ -19,8 +19,8 @@ pub fn read_iov(front: &[u8], at: u32, index: u32) -> Iov
 {
     let slot = RING_START + at as usize + 48 + 16 * index as usize;
     Iov {
-        base: u64_at(front, slot),
-        len: u64_at(front, slot + 8),
+        base: le_u64_at(front, slot),
+        len: le_u64_at(front, slot + 8),
     }
 }
 
@@ -30,7 +30,7 @@ pub fn read_tmr_id(front: &[u8], at: u32, index: u32) -> u16
     requires { 128 + at + 34 + 2 * index ≤ length front.now }
     ensures { result ≡ tmr_id_at front.now (128 + at) index }
 {
-    u16_at(front, RING_START + at as usize + 32 + 2 * index as usize)
+    le_u16_at(front, RING_START + at as usize + 32 + 2 * index as usize)
 }
 
 /// Whether an iovec lies inside the `area` bytes from `low` on.
@@ -87,20 +87,20 @@ fn read_cmd(
     ensures { result ≡ command_read front.now area data_off (128 + at) len }
 {
     let start = RING_START + at as usize;
-    let iov_cnt = u32_at(front, start + 8);
+    let iov_cnt = le_u32_at(front, start + 8);
     if len as u64 <= 48 + 16 * iov_cnt as u64 {
         return Err(EntryFault::BadCount(iov_cnt));
     }
-    let bidi = u32_at(front, start + 12);
+    let bidi = le_u32_at(front, start + 12);
     if bidi != 0 {
         return Err(EntryFault::BadCount(bidi));
     }
-    let dif = u32_at(front, start + 16);
+    let dif = le_u32_at(front, start + 16);
     if dif != 0 {
         return Err(EntryFault::BadCount(dif));
     }
-    let off = u64_at(front, start + 24);
-    let id = u16_at(front, start + 4);
+    let off = le_u64_at(front, start + 24);
+    let id = le_u16_at(front, start + 4);
     let low = start as u64 + 48 + 16 * iov_cnt as u64;
     match cdb_at(front, low, start as u64 + len as u64, off) {
         None => Err(EntryFault::CdbOutside(off)),
@@ -123,7 +123,7 @@ fn read_tmr(front: &[u8], at: u32, len: u32) -> Result<EntryRef, EntryFault>
     ensures { result ≡ tmr_read front.now (128 + at) len }
 {
     let start = RING_START + at as usize;
-    let count = u32_at(front, start + 12);
+    let count = le_u32_at(front, start + 12);
     if (len as u64) < 32 + 2 * count as u64 {
         return Err(EntryFault::BadCount(count));
     }
@@ -225,7 +225,7 @@ pub fn read_entry(
     ensures exact { ReadsEntry front.now area mailbox.now at result }
     ensures bounds { IfOk result (λ entry. KeepsBounds front.now area mailbox.now at entry) }
 {
-    let word = u32_at(front, RING_START + at as usize);
+    let word = le_u32_at(front, RING_START + at as usize);
     read_sized(front, area, mailbox, at, (word % 8) as u8, word - word % 8)
 }
 
@@ -239,10 +239,10 @@ pub fn read_response(front: &[u8], at: u32) -> Response
     let mut sense = [0; 96];
     sense.copy_from_slice(&front[start + 16..start + 112]);
     Response {
-        id: u16_at(front, start + 4),
+        id: le_u16_at(front, start + 4),
         uflags: u8_at(front, start + 7),
         status: u8_at(front, start + 8),
-        read_len: u32_at(front, start + 12),
+        read_len: le_u32_at(front, start + 12),
         sense,
     }
 }

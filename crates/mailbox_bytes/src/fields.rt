@@ -54,7 +54,7 @@ pub fn put_bytes(into: &mut [u8], at: usize, bytes: &[u8])
 
 /// The number in the two bytes from `at` on.
 #[tactic(auto, unfolding(tcmu_model::specs::Layout::field))]
-pub fn u16_at(bytes: &[u8], at: usize) -> u16
+pub fn le_u16_at(bytes: &[u8], at: usize) -> u16
     requires { at + 2 ≤ length bytes.now }
     ensures { result ≡ field 2 at bytes.now }
 {
@@ -63,7 +63,7 @@ pub fn u16_at(bytes: &[u8], at: usize) -> u16
 
 /// The number in the four bytes from `at` on.
 #[tactic(auto, unfolding(tcmu_model::specs::Layout::field))]
-pub fn u32_at(bytes: &[u8], at: usize) -> u32
+pub fn le_u32_at(bytes: &[u8], at: usize) -> u32
     requires { at + 4 ≤ length bytes.now }
     ensures { result ≡ field 4 at bytes.now }
 {
@@ -72,7 +72,7 @@ pub fn u32_at(bytes: &[u8], at: usize) -> u32
 
 /// The number in the eight bytes from `at` on.
 #[tactic(auto, unfolding(tcmu_model::specs::Layout::field))]
-pub fn u64_at(bytes: &[u8], at: usize) -> u64
+pub fn le_u64_at(bytes: &[u8], at: usize) -> u64
     requires { at + 8 ≤ length bytes.now }
     ensures { result ≡ field 8 at bytes.now }
 {

@@ -3,7 +3,7 @@ ghost use Rattle.std.specs.Prelude.{◌≡◌, ◌≤◌, length, IfOk};
 ghost use Rattle.tcmu_model.specs.Layout.{put, mailbox_bytes};
 ghost use Rattle.tcmu_model.specs.MailboxReading.{judged, mailbox_read, is_ring_size, ReadsMailbox, IsMailbox};
 
-use crate::fields::{put_u16, put_u32, put_zeros, u16_at, u32_at};
+use crate::fields::{le_u16_at, le_u32_at, put_u16, put_u32, put_zeros};
 use tcmu_model::{Mailbox, MailboxFault};
 
 /// Writes the mailbox over the first 128 bytes; its spare bytes are zero, and the rest stays.
@@ -68,11 +68,11 @@ pub fn read(bytes: &[u8]) -> Result<Mailbox, MailboxFault>
         return Err(MailboxFault::Short(bytes.len() as u64));
     }
     judged(Mailbox {
-        version: u16_at(bytes, 0),
-        flags: u16_at(bytes, 2),
-        cmdr_off: u32_at(bytes, 4),
-        cmdr_size: u32_at(bytes, 8),
-        head: u32_at(bytes, 12),
-        tail: u32_at(bytes, 64),
+        version: le_u16_at(bytes, 0),
+        flags: le_u16_at(bytes, 2),
+        cmdr_off: le_u32_at(bytes, 4),
+        cmdr_size: le_u32_at(bytes, 8),
+        head: le_u32_at(bytes, 12),
+        tail: le_u32_at(bytes, 64),
     })
 }

@@ -1,6 +1,5 @@
 //! The calls that a medium numbers itself, and its count of faults.
-ghost use Rattle.std.specs.Prelude.{◌≡◌, [], nat_eq, is_err, OnOk};
-ghost use Rattle.std.specs.List.{list_any};
+ghost use Rattle.std.specs.Prelude.{◌≡◌, [], is_err, OnOk};
 ghost use Rattle.tcmu_types.specs.Numbered.{HasCause, is_listed, next_call};
 
 use edge::Failed;
@@ -12,12 +11,6 @@ pub(crate) struct OwnCalls {
     fails: Serials,
     made: u64,
     faults: u64,
-}
-
-fn contains(fails: &[u64], call: u64) -> bool
-    ensures { result ≡ list_any (λ k. nat_eq k call) fails.now }
-{
-    fails.iter().any(|k| *k == call)
 }
 
 impl OwnCalls {
@@ -43,7 +36,7 @@ impl OwnCalls {
         ensures cause { HasCause self.old.faults self.new.faults result }
     {
         self.made = self.made.saturating_add(1);
-        if contains(self.fails.as_slice(), self.made) {
+        if self.fails.contains(self.made) {
             self.faults = self.faults.saturating_add(1);
             return Err(Failed);
         }

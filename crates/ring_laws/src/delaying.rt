@@ -13,7 +13,7 @@ ghost use Rattle.tcmu_model.specs.Owned.{ListsSound};
 
 /// A submit that delays its command writes nothing into the region; the target has the command behind those that are delayed, and every
 /// point stands.
-pub fn delayed_law()
+pub fn delaying_law()
     ensures ring { (front : List ℕ) (items : List Recorded) (d : DeviceState) (lists : List Taken) (c : CommandData) (s : ℕ) →
         RingStands front items d lists → RingStands front items (after_submit d c (Delayed s)) lists }
     ensures ids { (front : List ℕ) (rows : List PendingRow) (d : DeviceState) (c : CommandData) (s : ℕ) → IdsStand front rows d → IdsStand front rows (after_submit d c (Delayed s)) }

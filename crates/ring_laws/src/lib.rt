@@ -37,7 +37,7 @@ pub use any_bytes::{
 pub use any_region::{any_publish_law, any_respond_law, attach_law, next_law, reattach_law};
 pub use attaching::attaching_law;
 pub use cleaning::{clean_law, completion_law};
-pub use delaying::delayed_law;
+pub use delaying::delaying_law;
 pub use dispatching::dispatch_law;
 pub use entering::enter_law;
 pub use handling::handle_law;
@@ -48,7 +48,7 @@ pub use noting::tmr_law;
 pub use opening::opening_law;
 pub use parking::parking_law;
 pub use placing::placing_law;
-pub use publishing::publish_law;
+pub use publishing::publishing_law;
 pub use refusing::refused_law;
 pub use resetting::reset_law;
 pub use responding::respond_law;

@@ -12,7 +12,7 @@ ghost use Rattle.tcmu_model.specs.UserSteps.{region_published, user_publish_answ
 
 /// The user side of an attached device moves the tail just as far as the device does, and answers the same. The ring stands with the new
 /// tail in its mailbox; ids, notes, blocks, jobs, both sides' records and the block lists are kept.
-pub fn publish_law()
+pub fn publishing_law()
     ensures answer { (user : UserState) (d : DeviceState) → IsSound d → d.attached ≡ true → UserKeeps user d → user_publish_answer user ≡ publish_answer d }
     ensures ring { (r : RegionState) (user : UserState) (items : List Recorded) (d : DeviceState) (lists : List Taken) →
         IsSound d → d.attached ≡ true → RingStands r.front items d lists → UserKeeps user d → RingStands (region_published r user).front items (after_publish d) lists }

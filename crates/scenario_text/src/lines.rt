@@ -77,58 +77,26 @@ pub fn next_field(text: &[u8]) -> Option<(&[u8], &[u8])>
 pub fn verb_of(word: &[u8]) -> Option<Verb>
     ensures { result ≡ verb_of word.now }
 {
-    if is_text(word, b"device") {
-        return Some(Verb::Device);
+    match word {
+        w if is_text(w, b"device") => Some(Verb::Device),
+        w if is_text(w, b"submit") => Some(Verb::Submit),
+        w if is_text(w, b"dispatch") => Some(Verb::Dispatch),
+        w if is_text(w, b"handle") => Some(Verb::Handle),
+        w if is_text(w, b"respond") => Some(Verb::Respond),
+        w if is_text(w, b"publish") => Some(Verb::Publish),
+        w if is_text(w, b"clean") => Some(Verb::Clean),
+        w if is_text(w, b"enter") => Some(Verb::Enter),
+        w if is_text(w, b"tick") => Some(Verb::Tick),
+        w if is_text(w, b"block") => Some(Verb::Block),
+        w if is_text(w, b"unblock") => Some(Verb::Unblock),
+        w if is_text(w, b"reset") => Some(Verb::Reset),
+        w if is_text(w, b"restart") => Some(Verb::Restart),
+        w if is_text(w, b"tmr") => Some(Verb::Tmr),
+        w if is_text(w, b"stat") => Some(Verb::Stat),
+        w if is_text(w, b"dump") => Some(Verb::Dump),
+        w if is_text(w, b"drain") => Some(Verb::Drain),
+        _ => None,
     }
-    if is_text(word, b"submit") {
-        return Some(Verb::Submit);
-    }
-    if is_text(word, b"dispatch") {
-        return Some(Verb::Dispatch);
-    }
-    if is_text(word, b"handle") {
-        return Some(Verb::Handle);
-    }
-    if is_text(word, b"respond") {
-        return Some(Verb::Respond);
-    }
-    if is_text(word, b"publish") {
-        return Some(Verb::Publish);
-    }
-    if is_text(word, b"clean") {
-        return Some(Verb::Clean);
-    }
-    if is_text(word, b"enter") {
-        return Some(Verb::Enter);
-    }
-    if is_text(word, b"tick") {
-        return Some(Verb::Tick);
-    }
-    if is_text(word, b"block") {
-        return Some(Verb::Block);
-    }
-    if is_text(word, b"unblock") {
-        return Some(Verb::Unblock);
-    }
-    if is_text(word, b"reset") {
-        return Some(Verb::Reset);
-    }
-    if is_text(word, b"restart") {
-        return Some(Verb::Restart);
-    }
-    if is_text(word, b"tmr") {
-        return Some(Verb::Tmr);
-    }
-    if is_text(word, b"stat") {
-        return Some(Verb::Stat);
-    }
-    if is_text(word, b"dump") {
-        return Some(Verb::Dump);
-    }
-    if is_text(word, b"drain") {
-        return Some(Verb::Drain);
-    }
-    None
 }
 
 fn is_over(text: &[u8]) -> bool

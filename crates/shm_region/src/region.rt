@@ -7,7 +7,7 @@ ghost use Rattle.std.specs.Borrow.{sem};
 ghost use Rattle.shm_region.specs.Places.{LendsHome, LendsBytesIn};
 
 use iovec_scatter::Block;
-use mailbox_bytes::fields::{put_bytes, put_u32, u32_at};
+use mailbox_bytes::fields::{le_u32_at, put_bytes, put_u32};
 use mailbox_bytes::{Mailbox, write};
 use std::alloc::Global;
 use std::marker::Model;
@@ -181,14 +181,14 @@ impl Region {
     pub fn head(&self) -> u32
         ensures { result ≡ field 4 head_place self.now.front }
     {
-        u32_at(&self.front, 12)
+        le_u32_at(&self.front, 12)
     }
 
     /// The tail that stands in the mailbox, whoever wrote it: a byte offset in the ring, if it is sound.
     pub fn tail(&self) -> u32
         ensures { result ≡ field 4 tail_place self.now.front }
     {
-        u32_at(&self.front, 64)
+        le_u32_at(&self.front, 64)
     }
 
     /// Writes the head of the mailbox, a byte offset in the ring that is not judged here, and no other byte.

@@ -1,5 +1,6 @@
 //! Lists over vectors, which contracts see as their items and the room that is reserved for more.
-ghost use Rattle.std.specs.Prelude.{◌≡◌, ◌+◌, ◌-◌, ◌≤◌, ◌==◌, [], ◌∷◌, ◌++◌, length, replicate, IfOk, OnOk};
+ghost use Rattle.std.specs.Prelude.{◌≡◌, ◌+◌, ◌-◌, ◌≤◌, ◌==◌, [], ◌∷◌, ◌++◌, length, nat_eq, replicate, IfOk, OnOk};
+ghost use Rattle.std.specs.List.{list_any};
 ghost use Rattle.std.specs.Vec.{vec_len, vec_capacity};
 ghost use Rattle.tcmu_types.specs.Data.{texts_of};
 
@@ -164,6 +165,15 @@ impl<T: Copy> Listed<T> {
     {
         let length = self.items.len() + count;
         let _ = self.items.resize(length, item);
+    }
+}
+
+impl Serials {
+    /// Whether this number stands in the list.
+    pub fn contains(&self, number: u64) -> bool
+        ensures { result ≡ list_any (λ k. nat_eq k number) self.now.items }
+    {
+        self.items.iter().any(|k| *k == number)
     }
 }
 

@@ -85,6 +85,7 @@ fn lists_keep_their_items(rt: HostRuntime) -> Result<(), Fail> {
     serials.extend(&[13, 21]);
     assert_eq!(rt; serials.as_slice(), [3, 5, 8, 13, 21].as_slice());
     assert_eq!(rt; (serials.len(), serials.is_empty()), (5, false));
+    assert!(rt; serials.contains(5) && !serials.contains(4));
     let mut again = Serials::from_vec(serials.into_vec());
     again.clear();
     assert!(rt; again.is_empty());

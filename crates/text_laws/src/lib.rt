@@ -15,7 +15,7 @@ pub use pieces::{
     cdbs_again, flags_again, hex_again, numbers_again, rising_again, runs_again, serials_again,
 };
 pub use replay::{
-    carried_law, journal_law, one_text_law, reading_law, replay_law, scenario_replay_law,
+    carried_law, journal_text_law, one_text_law, reading_law, replay_text_law, scenario_replay_law,
     spelled_law,
 };
 

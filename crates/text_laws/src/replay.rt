@@ -17,12 +17,12 @@ pub fn spelled_law()
 {}
 
 /// The text of a journal of devices that have lines is a scenario where it keeps the limits, that of the journal's events.
-pub fn journal_law<H: Handler>()
+pub fn journal_text_law<H: Handler>()
     ensures { IsReadBack H.relation }
 {}
 
 /// The text of a journal that leaves its devices nothing to do is the text of a replay of its events.
-pub fn replay_law<H: Handler>()
+pub fn replay_text_law<H: Handler>()
     ensures { IsReplayedAgain H.relation }
 {}
 

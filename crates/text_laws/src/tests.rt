@@ -52,8 +52,8 @@ fn lines_are_read_again() {
 
 #[test]
 fn journals_are_read_again() {
-    journal_law::<Wanting>();
-    replay_law::<Wanting>();
+    journal_text_law::<Wanting>();
+    replay_text_law::<Wanting>();
     scenario_replay_law::<Wanting>();
     reading_law::<Wanting, Wanting>();
     one_text_law();

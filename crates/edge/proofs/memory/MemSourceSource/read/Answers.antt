@@ -12,4 +12,4 @@ returns-clause-takes c =
     let xs = c.self.inside.bytes.items in
     let at = c.self.inside.at in
     ap (λ (v : FromMemory). Some v.left) (sym c.self.view_is)
-    ∙ ap (λ (ys : List ℕ). Some ys) (pieced xs _ _ at c.copy_front-count.result (take_rest c.as_slice-2.result.now at ∙ ap (drop at) c.as_slice-2.ensures) c.copy_front-count.ensures.copied)
+    ∙ ap (λ (ys : List ℕ). Some ys) (pieced xs _ _ at c.copy_front-count.result (take_rest c.as_slice.result.now at ∙ ap (drop at) c.as_slice.ensures) c.copy_front-count.ensures.copied)

@@ -18,5 +18,5 @@ returns-in-Some-clause-fetched c =
     let same = ap (λ files. record old { files = files }) c.deref_mut.ensures.value ∙ c.self.view_is in
     subst (λ (m : FilesInMemory). Opened name (store_of (content_of c.in-Some.store)) (Some (files_state m)) (Some (files_state new))) same
     (fetched_state old c.saturating_add-self-inside.result files name c.in-Some.store c.saturating_add-self-inside.ensures
-    (unlisted inside.fails.items c.as_slice.result.now c.saturating_add-self-inside.result inside.fetches c.saturating_add-self-inside.ensures c.as_slice.ensures c.if-not-contains.ensures)
+    (unlisted inside.fails.items c.saturating_add-self-inside.result inside.fetches c.saturating_add-self-inside.ensures c.if-not-contains.ensures)
     (sym opened.exact) opened.store (λ q. ap (λ (fs : List NamedStore). place_in fs q) written ∙ opened.out q))

@@ -1,5 +1,5 @@
 use Rattle.ring_laws.proofs.TailMoved.{publish_same, ring_published, ids_published, notes_published, blocks_published, jobs_published, target_published, side_published, lists_published, pages_published}
-use Rattle.ring_laws.proofs.publishing.publish_law.Goals as goal
+use Rattle.ring_laws.proofs.publishing.publishing_law.Goals as goal
 
 pub returns : goal.returns
 returns c = record { answer = publish_same; ring = ring_published; ids = ids_published; notes = notes_published; blocks = blocks_published; jobs = jobs_published; target = target_published; side = side_published; lists = lists_published; pages = pages_published }

@@ -1,6 +1,6 @@
 use Rattle.cmd_ring.proofs.Laid as laid
 use Rattle.cmd_ring.proofs.Follows as follows
-use Rattle.cmd_ring.proofs.laws.ring_law.Goals as goal
+use Rattle.cmd_ring.proofs.laws.places_law.Goals as goal
 
 pub returns-clause-opening : goal.returns-clause-opening
 returns-clause-opening c = follows.opening
