@@ -104,15 +104,32 @@ device d0 tcm-user/0/d0/file/img ring=4096 blocks=16 flags=ooo timeout=30\n\
 submit d0 a 1 2a000000000000000100 out=11*512\n\
 ";
 
+const OTHER: &str = "\
+device d0 tcm-user/0/d0/file/img ring=4096 blocks=16 flags=ooo timeout=30\n\
+device d1 tcm-user/0/d1/file/none ring=4096 blocks=16 flags=ooo timeout=30\n\
+submit d0 a 1 2a000000000000000100 out=11*512\n\
+";
+
+/// The first block of the file has what was written where the command was handled before a write of the sink failed: the fourth is
+/// that of the handle line. Where another file is missing nothing is handled. The second block stays.
 #[test]
 fn the_file_has_what_was_written(rt: HostRuntime) -> Result<(), Fail> {
     let alloc = rt.alloc();
-    let (code, bytes) = left_in_file(alloc, WRITE)?;
-    assert_eq!(rt; code, 0);
-    let bytes = bytes.as_slice();
-    assert_eq!(rt; bytes.len(), 1024);
-    let (front, back) = bytes.split_at(512);
-    assert!(rt; front.iter().all(|byte| *byte == 0x11));
-    assert!(rt; back.iter().all(|byte| *byte == 0x00));
+    for (input, write, status, byte) in [
+        (WRITE, 0, 0, 0x11u8),
+        (WRITE, 1, 2, 0x77),
+        (WRITE, 3, 2, 0x77),
+        (WRITE, 4, 2, 0x11),
+        (WRITE, 7, 2, 0x11),
+        (OTHER, 0, 6, 0x77),
+    ] {
+        let (code, bytes) = left_in_file(alloc, input, write)?;
+        assert_eq!(rt; code, status, "{input}{write}");
+        let bytes = bytes.as_slice();
+        assert_eq!(rt; bytes.len(), 1024, "{input}{write}");
+        let (front, back) = bytes.split_at(512);
+        assert!(rt; front.iter().all(|b| *b == byte), "{input}{write}");
+        assert!(rt; back.iter().all(|b| *b == 0x77), "{input}{write}");
+    }
     Ok(())
 }

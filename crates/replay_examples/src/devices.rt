@@ -16,7 +16,7 @@ fn the_second_call_of_a_store_fails(rt: HostRuntime) -> Result<(), Fail> {
     let (code, written) = over_file(alloc, TWO_READS, 0, 2)?;
     assert_eq!(rt; code, 0);
     for line in [
-        "# done d0 1 a 1 00 - 00*512",
+        "# done d0 1 a 1 00 - 77*512",
         "# done d0 2 a 2 02 03/11/00 -",
     ] {
         assert!(rt; has_line(written.as_slice(), line), "{line}");
@@ -36,22 +36,22 @@ submit d0 a 4 28000000000000000100 in=512\n\
 const DONE: [(u64, &str, &str); 4] = [
     (
         1,
-        "# done d0 1 a 1 00 - 00*512",
+        "# done d0 1 a 1 00 - 77*512",
         "# done d0 1 a 1 02 03/11/00 -",
     ),
     (
         2,
-        "# done d0 2 a 2 00 - 00*512",
+        "# done d0 2 a 2 00 - 77*512",
         "# done d0 2 a 2 02 03/11/00 -",
     ),
     (
         3,
-        "# done d0 3 a 3 00 - 00*512",
+        "# done d0 3 a 3 00 - 77*512",
         "# done d0 3 a 3 02 03/11/00 -",
     ),
     (
         4,
-        "# done d0 4 a 4 00 - 00*512",
+        "# done d0 4 a 4 00 - 77*512",
         "# done d0 4 a 4 02 03/11/00 -",
     ),
 ];

@@ -15,19 +15,24 @@ pub fn ended(alloc: Global, input: &str, read: u64, write: u64) -> Result<(u8, B
     Ok((code, Bytes::from_slice(alloc, out.written())?))
 }
 
-/// Files with `img` alone, of two blocks of zeros. The fetch of the first number fails, and the store's call of the second.
+/// Files with `img` alone, of two blocks of 77h. The fetch of the first number fails, and the store's call of the second.
 fn files_with(alloc: Global, fetch: u64, call: u64) -> Result<MemFiles, NoMemory> {
-    let zeros = Bytes::from_slice(alloc, &[0; 1024])?;
-    let store = MemStore::new(zeros, Serials::from_slice(alloc, &[call])?);
+    let bytes = Bytes::from_slice(alloc, &[0x77; 1024])?;
+    let store = MemStore::new(bytes, Serials::from_slice(alloc, &[call])?);
     let mut files = MemFiles::new(alloc, Serials::from_slice(alloc, &[fetch])?);
     files.add(alloc, b"img", store)?;
     Ok(files)
 }
 
-fn replay(alloc: Global, input: &str, files: &mut MemFiles) -> Result<(u8, Bytes), NoMemory> {
+fn replay(
+    alloc: Global,
+    input: &str,
+    write: u64,
+    files: &mut MemFiles,
+) -> Result<(u8, Bytes), NoMemory> {
     let bytes = Bytes::from_slice(alloc, input.as_bytes())?;
     let mut src = MemSource::new(bytes, Serials::new(alloc));
-    let mut out = MemSink::new(alloc, 4096, Serials::new(alloc))?;
+    let mut out = MemSink::new(alloc, 4096, Serials::from_slice(alloc, &[write])?)?;
     let code = run_replay(alloc, &mut src, &mut out, files).code();
     Ok((code, Bytes::from_slice(alloc, out.written())?))
 }
@@ -40,13 +45,13 @@ pub fn over_file(
     call: u64,
 ) -> Result<(u8, Bytes), NoMemory> {
     let mut files = files_with(alloc, fetch, call)?;
-    replay(alloc, input, &mut files)
+    replay(alloc, input, 0, &mut files)
 }
 
-/// The exit status of a replay over the file `img`, and what that has behind it.
-pub fn left_in_file(alloc: Global, input: &str) -> Result<(u8, Bytes), Fail> {
+/// The exit status of a replay over the file `img`, and what that has behind it. The sink's write of this number fails.
+pub fn left_in_file(alloc: Global, input: &str, write: u64) -> Result<(u8, Bytes), Fail> {
     let mut files = files_with(alloc, 0, 0)?;
-    let (code, _) = replay(alloc, input, &mut files)?;
+    let (code, _) = replay(alloc, input, write, &mut files)?;
     let store = files.get(b"img").ok_or("the file is at home")?;
     Ok((code, Bytes::from_slice(alloc, store.bytes())?))
 }
