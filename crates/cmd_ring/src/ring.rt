@@ -47,7 +47,7 @@ impl Model for Ring {
 }
 
 impl Ring {
-    /// An empty ring of so many bytes.
+    /// An empty ring of so many bytes: a multiple of 4096, at most 4 MiB.
     pub fn new(size: u32) -> Ring
         requires { IsRingSize size }
         ensures { result ≡ opened size }
@@ -59,7 +59,7 @@ impl Ring {
         }
     }
 
-    /// Whether an item of `len` bytes has room. An empty ring has room for each.
+    /// Whether an item of `len` bytes, a multiple of 8 above 0 and at most half the ring, has room. An empty ring has room for each.
     pub fn room(&self, len: u32) -> Room
         requires { IsItemLength self.now.size len }
         ensures value { result ≡ room_of self.now len }
@@ -78,7 +78,7 @@ impl Ring {
         }
     }
 
-    /// Lays an item of `len` bytes, and padding before it where `room` says so.
+    /// Lays an item of `len` bytes that has room, and padding before it where `room` says so.
     pub fn place(&mut self, len: u32) -> Place
         requires length { IsItemLength self.old.size len }
         requires room { IsTrue (fits self.old len) }
@@ -106,7 +106,7 @@ impl Ring {
         }
     }
 
-    /// Gives the `len` oldest bytes back.
+    /// Gives the `len` oldest bytes in use back, a multiple of 8.
     pub fn advance_clean(&mut self, len: u32)
         requires most { len ≤ self.old.used }
         requires words { len % 8 ≡ 0 }

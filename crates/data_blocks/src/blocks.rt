@@ -45,7 +45,7 @@ impl Model for Blocks {
 }
 
 impl Blocks {
-    /// No block is held, and the data area has none.
+    /// No block is held, and the data area has none. The limit is from 1 to 4096 blocks.
     pub fn new(alloc: Global, limit: u32) -> Result<Blocks, NoMemory>
         requires low { 1 ≤ limit }
         requires high { limit ≤ 4096 }
@@ -91,7 +91,7 @@ impl Blocks {
         number
     }
 
-    /// Takes the `count` least free blocks, and appends their numbers, rising.
+    /// Takes the `count` least free blocks, which are there and have room in `into`, and appends their numbers, rising.
     pub fn take(&mut self, count: u32, into: &mut BlockList)
         requires spare { count ≤ self.old.spare }
         requires room { count ≤ into.old.spare }
@@ -115,7 +115,7 @@ impl Blocks {
         self.held -= 1;
     }
 
-    /// Frees the blocks of a list.
+    /// Frees the blocks of a list, each of which is held, and none stands in it twice.
     pub fn give(&mut self, list: &BlockList)
         requires { AreHeld self.old.held list.now.items }
         ensures { Gave self.old list.now.items self.new }

@@ -37,8 +37,8 @@ impl<P> DeviceSet<P> {
         }
     }
 
-    /// Adds a device of a new name behind the others and answers its number. Where memory is wanting the set stays as it was, and the
-    /// error has the device.
+    /// Adds a device of a new name behind the others, of which there are fewer than 4,294,967,295, and answers its number. Where memory is
+    /// wanting the set stays as it was, and the error has the device.
     pub fn insert(&mut self, name: Name, device: P) -> Result<u32, AllocFailed<P>>
     where
         P: Drop,

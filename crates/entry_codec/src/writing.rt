@@ -19,7 +19,7 @@ fn put_header(front: &mut [u8], start: usize, op: u32, len: u32, id: u16)
     put_zeros(front, start + 6, 2);
 }
 
-/// Writes padding of `len` bytes: its header, then zeros.
+/// Writes padding of `len` bytes, a multiple of 8 and not 0: its header, then zeros. It lies within `front`, as each entry that is written.
 pub fn write_pad(front: &mut [u8], at: u32, len: u32)
     requires least { 8 ≤ len }
     requires aligned { len % 8 ≡ 0 }

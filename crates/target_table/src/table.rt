@@ -83,7 +83,8 @@ impl Table {
         Ok(())
     }
 
-    /// Adds a command behind all others, as one that is not expired, and gives its id.
+    /// Adds a command behind all others in the place that was reserved, as one that is not expired, and gives its id. Its serial is above
+    /// theirs, and its deadline not before theirs.
     pub fn add(&mut self, pending: Pending) -> u16
         requires reserved { 1 ≤ self.old.spare }
         requires last { AllPrecede self.old.rows pending }
@@ -151,7 +152,7 @@ impl Table {
         }
     }
 
-    /// Marks the first command that is not expired as expired.
+    /// Marks the first command that is not expired, which has this id, as expired.
     pub fn expire(&mut self, id: u16)
         requires { id_of (first_of is_waiting self.old.rows) ≡ Some id }
         ensures { self.new ≡ record {

@@ -11,7 +11,8 @@ use crate::Path;
 use std::alloc::Global;
 use tcmu_types::{Answer, Event, NoMemory, Todo};
 
-/// Makes an event on a path, and gives its answer. `NoMemory` leaves the device as it was.
+/// Makes an event on a path, and gives its answer. `NoMemory` leaves the device as it was. A reset has a level, and a note a kind and
+/// rising serials, that the path takes (`CanBeMade`).
 pub fn make_event<P: Path>(alloc: Global, path: &mut P, event: &Event) -> Result<Answer, NoMemory>
     requires few { (P.device path.old).state.accepted < 2 ^ 63 }
     requires can { CanBeMade (event_data event.now) }

@@ -31,7 +31,8 @@ pub trait Path {
 
     /// An initiator sends a command. `Busy` on a blocked device; `TooBig` for an entry over half the ring (bytes) or more blocks than
     /// the device's limit (data blocks); without a queue-full time, `FullRing` or `FullBlocks` where room lacks now; with one, the
-    /// command is `Delayed` where room lacks or another command is; otherwise it is `Queued`.
+    /// command is `Delayed` where room lacks or another command is; otherwise it is `Queued`. A device has accepted fewer than 2^63
+    /// commands before.
     fn submit(&mut self, alloc: Global, command: &Command) -> Result<Submit, NoMemory>
         requires { (device self.old).state.accepted < 2 ^ 63 }
         ensures step { IfOk result (λ a. Submits (device self.old) command.now a (device self.new)) }
@@ -107,7 +108,7 @@ pub trait Path {
         ensures lists { GoesOn (lists self.old) (device self.old) ev.Restart (ev.Lost result) (device self.new) (lists self.new) }
         ensures accepts { Accepts 0 (device self.old) (device self.new) };
 
-    /// A task management note on these serials, of a kind from 1 (ABORT TASK) to 7 (TARGET COLD RESET), is laid in the ring. `Off`
+    /// A task management note on these serials, which rise, of a kind from 1 (ABORT TASK) to 7 (TARGET COLD RESET), is laid in the ring. `Off`
     /// where the device has no such notes, `Busy` on a blocked device, `Unknown` for the first serial that has no command in the
     /// ring, `FullRing` where room lacks.
     fn tmr(&mut self, alloc: Global, kind: u8, serials: &Serials) -> Result<Tmr, NoMemory>

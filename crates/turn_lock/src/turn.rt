@@ -84,7 +84,8 @@ impl<K: Stepped> Model for Pass<K> {
 }
 
 impl<K: Stepped> Turn<K> {
-    /// Puts the value behind a turn. The pass can be split into as many as `parts`, and has no receipt. Where there is no memory the value is dropped.
+    /// Puts the value behind a turn. The pass can be split into as many as `parts`, at least one, and has no receipt. Where there is no
+    /// memory the value is dropped.
     pub fn start(alloc: Global, value: K, parts: u32) -> Result<(Turn<K>, Pass<K>), NoMemory>
         requires { 1 ≤ parts }
         ensures turn { IfOk result (λ r. r.0 ≡ record {
@@ -116,7 +117,7 @@ impl<K: Stepped> Turn<K> {
         }
     }
 
-    /// A new pass with one part of this one and no receipt.
+    /// A new pass with one part of this one, which belongs to this turn and has two or more, and with no receipt.
     pub fn split(&self, pass: &mut Pass<K>) -> Pass<K>
         requires own { pass.old.turn ≡ self.now.turn }
         requires parts { 2 ≤ pass.old.parts }
@@ -127,7 +128,7 @@ impl<K: Stepped> Turn<K> {
         Pass { seat }
     }
 
-    /// Adds the parts and the receipts of another pass to this one.
+    /// Adds the parts and the receipts of another pass of this turn to this one.
     pub fn join(&self, pass: &mut Pass<K>, other: Pass<K>)
         requires own { pass.old.turn ≡ self.now.turn }
         requires other { other.turn ≡ self.now.turn }
