@@ -10,7 +10,7 @@ use Rattle.tcmu_model.proofs.Everies.{every-weaker, every-both, every-mapped, ev
 use Rattle.tcmu_model.proofs.Rises.{rise_within}
 use Rattle.ring_laws.specs.Calls.{is_pending_at, times_pending, times_delayed, is_given, TargetSound}
 use Rattle.tcmu_model.proofs.Accounts.{once_differ, some_logged, at_most_one, some_one}
-use Rattle.ring_laws.proofs.CountedSerials.{never}
+use Rattle.tcmu_model.proofs.Counts.{counts_none}
 
 -- no serial stands twice in the log
 pub logged_once : (t : TargetState) → TargetSound t → Differ (map (λ (e : DoneData). e.serial) t.log)
@@ -67,7 +67,7 @@ expired_closed : (rows : List PendingRow) (ws : List Delayed) (low high : ℕ) �
 expired_closed [] ws low high r = tt
 expired_closed (e ∷ rows) ws low high r = (
   (λ x.
-      let z : cond {A = ℕ} (is_pending_at e.pending.serial e) 1 0 ≡ 0 = rw x (never (eqb e.pending.serial e.pending.serial)) in
+      let z : cond {A = ℕ} (is_pending_at e.pending.serial e) 1 0 ≡ 0 = rw x (counts_none (eqb e.pending.serial e.pending.serial)) in
       omega (arith, cons_pending e rows e.pending.serial, z, none_open rows ws e.pending.serial high e.pending.serial r.1 (omega arith))),
   every-weaker
       (λ (v : PendingRow). (v.pending.expired ≡ true → times_pending rows v.pending.serial + times_delayed ws v.pending.serial ≡ 0) × ((e.pending.serial < v.pending.serial) × (v.pending.serial ≤ high)))

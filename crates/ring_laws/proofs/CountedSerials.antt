@@ -14,21 +14,13 @@ use Rattle.tcmu_model.specs.Pending.{PendingData}
 use Rattle.tcmu_model.specs.Sides.{PendingRow}
 use Rattle.tcmu_model.specs.TargetSteps.{is_due_at, expired_at, checked}
 use Rattle.tcmu_model.specs.TargetCleans.{completion_read, completions_read, reset_log}
-use Rattle.tcmu_model.proofs.Counts.{sum-without_first}
+use Rattle.tcmu_model.proofs.Counts.{sum-without_first, counts_none, counts_one}
 use Rattle.tcmu_model.proofs.Everies.{map_kept}
 use Rattle.tcmu_model.proofs.Rises.{rise_from, rise_push, rise_order}
 use Rattle.tcmu_model.proofs.SoundSubmit.{accepted_more, delayed_push}
 use Rattle.tcmu_model.proofs.SoundEvents.{left_delayed, rise_behind, delayed_rise, reset_delayed}
 use Rattle.ring_laws.specs.Calls.{is_pending_at, times_pending, times_delayed, SerialsSound}
 use Rattle.ring_laws.proofs.PendingRows.{only_expires}
-
-pub never : (b : Bool) → cond {A = ℕ} (b && false) 1 0 ≡ 0
-never true = refl
-never false = refl
-
-always : (b : Bool) → cond {A = ℕ} (b && true) 1 0 ≡ cond b 1 0
-always true = refl
-always false = refl
 
 pub no_serials : SerialsSound 0 [] [] []
 no_serials = record { rise = omega arith; accounted = λ s. none s }
@@ -37,7 +29,7 @@ no_serials = record { rise = omega arith; accounted = λ s. none s }
     none s =
         ⊎_elim
         (λ (e : leb s 0 ≡ true). let z : ltb 0 s ≡ false = le-ltb 0 s (leb-true s 0 e) in rw z refl)
-        (λ (e : leb s 0 ≡ false). rw e (sym (never (ltb 0 s))))
+        (λ (e : leb s 0 ≡ false). rw e (sym (counts_none (ltb 0 s))))
         (cases_Bool (leb s 0))
 
 -- ==== a command is laid
@@ -50,7 +42,7 @@ serials_push rows e ds =
 pending_push : (k : ℕ) (rows : List PendingRow) (e : PendingRow) → e.pending.expired ≡ false → times_pending (rows ++ e ∷ []) k ≡ times_pending rows k + cond (eqb e.pending.serial k) 1 0
 pending_push k rows e x =
     let a : times_pending (rows ++ e ∷ []) k ≡ times_pending rows k + cond (is_pending_at k e) 1 0 = sum_by_push (λ (v : PendingRow). cond {A = ℕ} (is_pending_at k v) 1 0) rows e in
-    let b : cond {A = ℕ} (is_pending_at k e) 1 0 ≡ cond (eqb e.pending.serial k) 1 0 = rw x (always (eqb e.pending.serial k)) in
+    let b : cond {A = ℕ} (is_pending_at k e) 1 0 ≡ cond (eqb e.pending.serial k) 1 0 = rw x (counts_one (eqb e.pending.serial k)) in
     omega (arith, a, b)
 
 -- a command is accepted and laid
@@ -114,14 +106,14 @@ read_logged : (size : ℕ) (area : List (Option (List ℕ))) (log : List DoneDat
 read_logged size area log e a k =
     ⊎_elim
     (λ (x : e.pending.expired ≡ true).
-    let z : cond {A = ℕ} (eqb e.pending.serial k && false) 1 0 ≡ 0 = never (eqb e.pending.serial k) in
+    let z : cond {A = ℕ} (eqb e.pending.serial k && false) 1 0 ≡ 0 = counts_none (eqb e.pending.serial k) in
     let y : times_logged (log ++ []) k ≡ times_logged log k = ap (λ (l : List DoneData). times_logged l k) (append-nil log) in
     rw x (omega (arith, z, y)))
     (λ (x : e.pending.expired ≡ false).
     let d : DoneData = completion_read size area e.pending a in
     let y : times_logged (log ++ d ∷ []) k ≡ times_logged log k + cond (eqb d.serial k) 1 0 = sum_by_push (λ (v : DoneData). cond {A = ℕ} (eqb v.serial k) 1 0) log d in
     let s : cond {A = ℕ} (eqb d.serial k) 1 0 ≡ cond (eqb e.pending.serial k) 1 0 = ap (λ n. cond {A = ℕ} (eqb n k) 1 0) (read_serial size area e.pending a) in
-    rw x (omega (arith, y, s, always (eqb e.pending.serial k))))
+    rw x (omega (arith, y, s, counts_one (eqb e.pending.serial k))))
     (cases_Bool e.pending.expired)
 
 pub serials_answered : (n size : ℕ) (area : List (Option (List ℕ))) (p : PendingRow → Bool) (rows : List PendingRow) (ws : List Delayed) (log : List DoneData) (e : PendingRow) (a : Response) →
@@ -148,8 +140,8 @@ due_pending now k (e ∷ rows) =
     (λ (z : is_due_at now e ≡ true).
     let x : e.pending.expired ≡ false = open_due e.pending.expired (elim (e.pending.deadline) as (λ o. Bool) [ None ↦ false | Some at ↦ leb at now ]) z in
     let c : times_logged (map f (filter (is_due_at now) (e ∷ rows))) k ≡ cond (eqb e.pending.serial k) 1 0 + times_logged (map f (filter (is_due_at now) rows)) k = rw z (sum_by-cons (λ (v : DoneData). cond {A = ℕ} (eqb v.serial k) 1 0) (f e) (map f (filter (is_due_at now) rows))) in
-    let g : cond {A = ℕ} (is_pending_at k (expired_at now e)) 1 0 ≡ 0 = rw z (never (eqb e.pending.serial k)) in
-    let i : cond {A = ℕ} (is_pending_at k e) 1 0 ≡ cond (eqb e.pending.serial k) 1 0 = rw x (always (eqb e.pending.serial k)) in
+    let g : cond {A = ℕ} (is_pending_at k (expired_at now e)) 1 0 ≡ 0 = rw z (counts_none (eqb e.pending.serial k)) in
+    let i : cond {A = ℕ} (is_pending_at k e) 1 0 ≡ cond (eqb e.pending.serial k) 1 0 = rw x (counts_one (eqb e.pending.serial k)) in
     omega (arith, a, b, c, g, i, due_pending now k rows))
     (λ (z : is_due_at now e ≡ false).
     let c : times_logged (map f (filter (is_due_at now) (e ∷ rows))) k ≡ times_logged (map f (filter (is_due_at now) rows)) k = rw z refl in
@@ -198,12 +190,12 @@ reset_pending level k (e ∷ rows) =
     ⊎_elim
     (λ (x : e.pending.expired ≡ true).
     let c : times_logged (map f (filter (λ (v : PendingRow). not v.pending.expired) (e ∷ rows))) k ≡ times_logged rest k = rw x refl in
-    let g : cond {A = ℕ} (is_pending_at k e) 1 0 ≡ 0 = rw x (never (eqb e.pending.serial k)) in
+    let g : cond {A = ℕ} (is_pending_at k e) 1 0 ≡ 0 = rw x (counts_none (eqb e.pending.serial k)) in
     omega (arith, a, c, g, reset_pending level k rows))
     (λ (x : e.pending.expired ≡ false).
     let c : times_logged (map f (filter (λ (v : PendingRow). not v.pending.expired) (e ∷ rows))) k ≡ cond (eqb (f e).serial k) 1 0 + times_logged rest k = rw x (sum_by-cons (λ (v : DoneData). cond {A = ℕ} (eqb v.serial k) 1 0) (f e) rest) in
     let s : cond {A = ℕ} (eqb (f e).serial k) 1 0 ≡ cond (eqb e.pending.serial k) 1 0 = ap (λ n. cond {A = ℕ} (eqb n k) 1 0) (log_serial level e.pending) in
-    let g : cond {A = ℕ} (is_pending_at k e) 1 0 ≡ cond (eqb e.pending.serial k) 1 0 = rw x (always (eqb e.pending.serial k)) in
+    let g : cond {A = ℕ} (is_pending_at k e) 1 0 ≡ cond (eqb e.pending.serial k) 1 0 = rw x (counts_one (eqb e.pending.serial k)) in
     omega (arith, a, c, s, g, reset_pending level k rows))
     (cases_Bool e.pending.expired)
 

@@ -1,5 +1,5 @@
 -- Sums and counts over a list whose first item that passes a test is changed or taken out.
-use Rattle.std.proofs.Common.{◌≡◌, ℕ, ◌+◌, ◌≤◌, Bool, true, false, List, [], ◌∷◌, Some, refl, ap, arith, ⊎_elim}
+use Rattle.std.proofs.Common.{◌&&◌, cond, ◌≡◌, ℕ, ◌+◌, ◌≤◌, Bool, true, false, List, [], ◌∷◌, Some, refl, ap, arith, ⊎_elim}
 use Rattle.std.specs.List.{list_any, sum_by}
 use Rattle.std.proofs.Common.{map}
 use Rattle.std.proofs.lemmas.List.Sums.{sum_by-cons}
@@ -9,6 +9,15 @@ use Rattle.tcmu_model.specs.declared.state.CommandState.TheVariants.{Waiting, Ou
 use Rattle.tcmu_model.specs.States.{same_state}
 use Rattle.tcmu_model.specs.Device.{Unfinished, is_at}
 use Rattle.tcmu_model.specs.Lists.{first_of, without_first, with_first}
+
+-- a test that never, or always, passes beside another
+pub counts_none : (b : Bool) → cond {A = ℕ} (b && false) 1 0 ≡ 0
+counts_none true = refl
+counts_none false = refl
+
+pub counts_one : (b : Bool) → cond {A = ℕ} (b && true) 1 0 ≡ cond b 1 0
+counts_one true = refl
+counts_one false = refl
 
 -- every item that passes weighs k less after the change
 pub sum-with_first_less : {X : Type 0} (p : X → Bool) (g : X → X) (f : X → ℕ) (k : ℕ) (xs : List X) → ((x : X) → p x ≡ true → f (g x) + k ≡ f x) → list_any p xs ≡ true → sum_by f (with_first p g xs) + k ≡ sum_by f xs

@@ -15,7 +15,7 @@ use Rattle.tcmu_model.specs.RingState.{RingState, Item, lengths, used, serials_i
 use Rattle.tcmu_model.specs.Device.{Unfinished, DeviceState, has_state, is_at}
 use Rattle.tcmu_model.specs.Events.{is_among, blocks_in, completion, completions, Books, finish, finish_all, answered, books, cleaned_books, after_clean}
 use Rattle.tcmu_model.specs.Sound.{Every, Rise, ReplyFits, IsLaid, finished, dispatched_serials, is_open_at, times_logged, state_fits, is_right, parked_rightly, AnswersSound, IsSound}
-use Rattle.tcmu_model.proofs.Counts.{serial_at, sum-without_first}
+use Rattle.tcmu_model.proofs.Counts.{serial_at, sum-without_first, counts_none, counts_one}
 use Rattle.tcmu_model.proofs.Firsts.{without_first_missing}
 use Rattle.tcmu_model.proofs.Everies.{every-weaker, every-filter, every-all, filter_twice, filter_all, map_filter}
 use Rattle.tcmu_model.proofs.Rises.{rise_filter, among-take, among_every}
@@ -86,21 +86,13 @@ tally k b = times_logged b.log k + count_by (is_open_at k) b.unfinished
 row_tally : (read_len : Bool) (k : ℕ) (log : List DoneData) (u : Unfinished) → is_some u.reply ≡ true → times_logged (log ++ completions read_len u) k ≡ times_logged log k + cond (is_open_at k u) 1 0
 row_tally read_len k log u h =
     ⊎_elim
-    (λ (e : u.expired ≡ true). rw e (ap (λ (l : List DoneData). times_logged l k) (append-nil log) ∙ (let z : cond {A = ℕ} (eqb u.serial k && false) 1 0 ≡ 0 = never (eqb u.serial k) in omega (arith, z))))
+    (λ (e : u.expired ≡ true). rw e (ap (λ (l : List DoneData). times_logged l k) (append-nil log) ∙ (let z : cond {A = ℕ} (eqb u.serial k && false) 1 0 ≡ 0 = counts_none (eqb u.serial k) in omega (arith, z))))
     (λ (e : u.expired ≡ false). rw e (replied u.reply h))
     (cases_Bool u.expired)
   where
-    never : (b : Bool) → cond {A = ℕ} (b && false) 1 0 ≡ 0
-    never true = refl
-    never false = refl
-
-    always : (b : Bool) → cond {A = ℕ} (b && true) 1 0 ≡ cond b 1 0
-    always true = refl
-    always false = refl
-
     replied : (o : Option ReplyData) → is_some o ≡ true → times_logged (log ++ (elim o as (λ x. List DoneData) [ None ↦ [] | Some reply ↦ completion read_len u reply ∷ [] ])) k ≡ times_logged log k + cond (eqb u.serial k && true) 1 0
     replied None h = absurd (false≢true h)
-    replied (Some reply) h = omega (arith, logged_push k log (completion read_len u reply), always (eqb u.serial k))
+    replied (Some reply) h = omega (arith, logged_push k log (completion read_len u reply), counts_one (eqb u.serial k))
 
 finish_tally : (read_len : Bool) (b : Books) (s k : ℕ) (o : Option Unfinished) → first_of (is_at s Placed) b.unfinished ≡ o → IfSome o (λ u. is_some u.reply ≡ true) → tally k (finish read_len b s) ≡ tally k b
 finish_tally read_len b s k None h w = rw (finish, h) refl

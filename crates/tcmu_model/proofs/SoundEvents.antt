@@ -17,7 +17,7 @@ use Rattle.tcmu_model.specs.RingState.{Item, need, free, fits, serials_in, comma
 use Rattle.tcmu_model.specs.Device.{Unfinished, Delayed, DeviceState, has_state, opening_state}
 use Rattle.tcmu_model.specs.Events.{is_among, is_open, answered, publishable, after_publish, after_block, later, is_due, has_left, expire, expiry, departure, tick_completions, after_tick, count_in_hand, reset_completion, reset_completions, emptied, after_reset, after_clean, is_losing, lose, after_restart, unknown_serial, tmr_length_of, tmr_answer, after_tmr, blocks_in, held_blocks}
 use Rattle.tcmu_model.specs.Sound.{Rise, CanWait, ReplyFits, IsLaid, delayed_serials, is_open_at, is_delayed_at, times_logged, dispatched_serials, state_fits, is_right, parked_rightly, IsSound}
-use Rattle.tcmu_model.proofs.Counts.{sum-map_same}
+use Rattle.tcmu_model.proofs.Counts.{sum-map_same, counts_none, counts_one}
 use Rattle.tcmu_model.proofs.Fronts.{front_holds, front_longest, front_short}
 use Rattle.tcmu_model.proofs.Everies.{every-map, every-weaker, every-filter, map_kept}
 use Rattle.tcmu_model.proofs.Rises.{rise_from, rise_order, among-take}
@@ -142,8 +142,8 @@ due_open now k (u ∷ us) =
     (λ (e : is_due now u ≡ true).
     let x : u.expired ≡ false = open_due u.expired (elim (u.deadline) as (λ o. Bool) [ None ↦ false | Some at ↦ leb at now ]) e in
     let c : times_logged (map expiry (filter (is_due now) (u ∷ us))) k ≡ cond (eqb u.serial k) 1 0 + times_logged (map expiry (filter (is_due now) us)) k = rw e (sum_by-cons (λ (v : DoneData). cond {A = ℕ} (eqb v.serial k) 1 0) (expiry u) (map expiry (filter (is_due now) us))) in
-    let f : cond {A = ℕ} (is_open_at k (expire now u)) 1 0 ≡ 0 = rw e (never (eqb u.serial k)) in
-    let g : cond {A = ℕ} (is_open_at k u) 1 0 ≡ cond (eqb u.serial k) 1 0 = rw x (always (eqb u.serial k)) in
+    let f : cond {A = ℕ} (is_open_at k (expire now u)) 1 0 ≡ 0 = rw e (counts_none (eqb u.serial k)) in
+    let g : cond {A = ℕ} (is_open_at k u) 1 0 ≡ cond (eqb u.serial k) 1 0 = rw x (counts_one (eqb u.serial k)) in
     omega (arith, a, b, c, f, g, due_open now k us))
     (λ (e : is_due now u ≡ false).
     let c : times_logged (map expiry (filter (is_due now) (u ∷ us))) k ≡ times_logged (map expiry (filter (is_due now) us)) k = rw e refl in
@@ -154,14 +154,6 @@ due_open now k (u ∷ us) =
     open_due : (x y : Bool) → (not x && y) ≡ true → x ≡ false
     open_due true y h = absurd (false≢true h)
     open_due false y h = refl
-
-    never : (b : Bool) → cond {A = ℕ} (b && false) 1 0 ≡ 0
-    never true = refl
-    never false = refl
-
-    always : (b : Bool) → cond {A = ℕ} (b && true) 1 0 ≡ cond b 1 0
-    always true = refl
-    always false = refl
 
 pub left_delayed : (now k : ℕ) (ws : List Delayed) → times_logged (map departure (filter (has_left now) ws)) k + count_by (is_delayed_at k) (filter (λ w. not (has_left now w)) ws) ≡ count_by (is_delayed_at k) ws
 left_delayed now k [] = refl
@@ -248,22 +240,14 @@ reset_open level k (u ∷ us) =
     ⊎_elim
     (λ (e : u.expired ≡ true).
     let c : times_logged (map (λ u. reset_completion level u.serial u.command) (filter is_open (u ∷ us))) k ≡ times_logged rest k = rw e refl in
-    let f : cond {A = ℕ} (is_open_at k u) 1 0 ≡ 0 = rw e (never (eqb u.serial k)) in
+    let f : cond {A = ℕ} (is_open_at k u) 1 0 ≡ 0 = rw e (counts_none (eqb u.serial k)) in
     omega (arith, a, c, f, reset_open level k us))
     (λ (e : u.expired ≡ false).
     let c : times_logged (map (λ u. reset_completion level u.serial u.command) (filter is_open (u ∷ us))) k ≡ cond (eqb (reset_completion level u.serial u.command).serial k) 1 0 + times_logged rest k = rw e (sum_by-cons (λ (v : DoneData). cond {A = ℕ} (eqb v.serial k) 1 0) (reset_completion level u.serial u.command) rest) in
     let s : cond {A = ℕ} (eqb (reset_completion level u.serial u.command).serial k) 1 0 ≡ cond (eqb u.serial k) 1 0 = ap (λ n. cond {A = ℕ} (eqb n k) 1 0) (reset_serial level u.serial u.command) in
-    let f : cond {A = ℕ} (is_open_at k u) 1 0 ≡ cond (eqb u.serial k) 1 0 = rw e (always (eqb u.serial k)) in
+    let f : cond {A = ℕ} (is_open_at k u) 1 0 ≡ cond (eqb u.serial k) 1 0 = rw e (counts_one (eqb u.serial k)) in
     omega (arith, a, c, s, f, reset_open level k us))
     (cases_Bool u.expired)
-  where
-    never : (b : Bool) → cond {A = ℕ} (b && false) 1 0 ≡ 0
-    never true = refl
-    never false = refl
-
-    always : (b : Bool) → cond {A = ℕ} (b && true) 1 0 ≡ cond b 1 0
-    always true = refl
-    always false = refl
 
 pub reset_delayed : (level k : ℕ) (ws : List Delayed) → times_logged (map (λ w. reset_completion level w.serial w.command) ws) k ≡ count_by (is_delayed_at k) ws
 reset_delayed level k [] = refl

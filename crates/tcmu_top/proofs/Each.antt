@@ -14,10 +14,11 @@ use Rattle.tcmu_model.proofs.Everies.{every-front, every-back}
 use Rattle.tcmu_model.proofs.Runs.{sound_run}
 use Rattle.tcmu_top.specs.Playing.{WroteOn, WroteOnFront, WroteEach, WroteEachFront}
 use Rattle.tcmu_top.proofs.Legal.{AreOf, piece_of, piece_text, legal_none, legal_one, legal_append}
-use Rattle.tcmu_top.proofs.Places.{get_set_same, every_set}
 use Rattle.tcmu_top.proofs.RunTexts.{run_append}
 use Rattle.tcmu_top.proofs.Telling.{gained_none, gained_more, gained_as, front_behind}
 use Rattle.tcmu_model.proofs.Indexed.{every_at}
+use Rattle.tcmu_types.proofs.Places.{get_set}
+use Rattle.text_laws.proofs.Sets.{every_set}
 use Rattle.text_laws.specs.Replays.{entries_of}
 
 -- what entries_of there may be, and where they may lead
@@ -90,7 +91,7 @@ sofar_stopped R ls Next Then Whole so at start ds ds' old mid now s w own step e
     let here : IsLegalEach R start (s.sofar ++ made.journal) (slice_set ds at w.after) = legal_append R start ds (slice_set ds at w.after) s.sofar made.journal s.count s.legal now_at in
     let then_at : IsLegalEach R (slice_set ds at w.after) rest.journal (slice_set ds at x.end) =
     subst (λ (l : List Device). IsLegalEach R (slice_set ds at w.after) rest.journal l) (set-set ds at w.after x.end)
-    (legal_one R (slice_set ds at w.after) at w.after x.end rest.journal (get_set_same ds at w.before w.after w.found) rest.run rest.own) in
+    (legal_one R (slice_set ds at w.after) at w.after x.end rest.journal (get_set ds at w.before w.after w.found) rest.run rest.own) in
     let end_count : length (slice_set ds at x.end) ≡ length (slice_set ds at w.after) = length-set ds at x.end ∙ sym (length-set ds at w.after) in
     let more : IsLegalEach R (slice_set ds at w.after) (rest.journal ++ last.journal) last.ends =
     legal_append R (slice_set ds at w.after) (slice_set ds at x.end) last.ends rest.journal last.journal end_count then_at last.legal in

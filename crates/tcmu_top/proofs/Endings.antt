@@ -14,10 +14,11 @@ use Rattle.tcmu_model.proofs.Runs.{sound_run}
 use Rattle.tcmu_path.specs.Tasks.{IsFitFor}
 use Rattle.tcmu_top.proofs.Each.{Leads, Ending}
 use Rattle.tcmu_top.proofs.Legal.{AreOf, piece_of, legal_none, legal_one, legal_append, drains_own, plays_own}
-use Rattle.tcmu_top.proofs.Places.{every_set, agrees}
+use Rattle.tcmu_top.proofs.Places.{agrees}
 use Rattle.tcmu_top.proofs.Playing.{drained, plays_total, plays_run}
 use Rattle.tcmu_types.proofs.Places.{get_within, drop_from}
 use Rattle.tcmu_model.proofs.Indexed.{every_at}
+use Rattle.text_laws.proofs.Sets.{every_set}
 use Rattle.text_laws.specs.Replays.{entries_of}
 
 -- ==== drains in order

@@ -16,8 +16,8 @@ use Rattle.tcmu_path.specs.Tasks.{IsFitFor}
 use Rattle.tcmu_top.proofs.Each.{Leads, SoFar, sofar_first, sofar_more, sofar_stopped, sofar_done}
 use Rattle.tcmu_top.proofs.Endings.{DrainsFrom, drains_step, drains_none, ending_drains, ending_lines}
 use Rattle.tcmu_top.proofs.Legal.{drains_own, plays_own}
-use Rattle.tcmu_top.proofs.Places.{every_set}
 use Rattle.tcmu_model.proofs.Indexed.{every_at}
+use Rattle.text_laws.proofs.Sets.{every_set}
 
 -- what one device keeps, all keep
 pub every_kept : (P : Device → Type 0) (R : HandlerRelation) (ls : List DeviceLineData) (at n : ℕ) (so : Device → List EntryData → Device → Type 0) (ds ds' : List Device) (old new : Option (List ℕ))

@@ -17,9 +17,8 @@ use Rattle.tcmu_model.specs.Text.{entry_text}
 use Rattle.tcmu_model.proofs.Everies.{filter_all, every-weaker}
 use Rattle.tcmu_model.proofs.Logs.{makes_grows}
 use Rattle.tcmu_top.specs.Playing.{run_text}
-use Rattle.tcmu_top.proofs.Places.{get_set_same, get_set_other}
 use Rattle.tcmu_top.proofs.RunTexts.{drop_front, text_more, text_one}
-use Rattle.tcmu_types.proofs.Places.{get_within}
+use Rattle.tcmu_types.proofs.Places.{get_within, get_set, get_set_other}
 use Rattle.text_laws.specs.Replays.{entries_of}
 
 -- ==== one device
@@ -104,12 +103,12 @@ legal_one R ds k b a js found run own at d d' g g' =
     ⊎_elim
     (λ (e : at ≡ k).
     let before : d ≡ b = same_Some d b (sym g ∙ ap (slice_get ds) e ∙ found) in
-    let after : d' ≡ a = same_Some d' a (sym g' ∙ ap (slice_get (slice_set ds k a)) e ∙ get_set_same ds k b a found) in
+    let after : d' ≡ a = same_Some d' a (sym g' ∙ ap (slice_get (slice_set ds k a)) e ∙ get_set ds k b a found) in
     let mine : filter (is_of at) js ≡ js = ap (λ (n : ℕ). filter (is_of n) js) e ∙ all_own k js own in
     subst (λ (x : List Journaled). RunLogs R d x d') (sym mine)
     (subst (λ (x : Device). RunLogs R x js d') (sym before) (subst (λ (x : Device). RunLogs R b js x) (sym after) run)))
     (λ (ne : at ≡ k → ⊥).
-    let same : d' ≡ d = same_Some d' d (sym g' ∙ get_set_other ds k at a ne ∙ g) in
+    let same : d' ≡ d = same_Some d' d (sym g' ∙ get_set_other ds k at a (λ q. ne (sym q)) ∙ g) in
     subst (λ (x : List Journaled). RunLogs R d x d') (sym (none_own at k js ne own)) same)
     (cases_eq at k)
 

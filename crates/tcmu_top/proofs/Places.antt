@@ -2,23 +2,6 @@
 use Rattle.std.proofs.Common.{◌≡◌, ℕ, zero, suc, List, [], ◌∷◌, take, drop, slice_get, slice_set, Some, refl, ap, ◌∙◌}
 use Rattle.tcmu_model.specs.Sound.{Every}
 
-pub get_set_same : {X : Type 0} (xs : List X) (i : ℕ) (x y : X) → slice_get xs i ≡ Some x → slice_get (slice_set xs i y) i ≡ Some y
-get_set_same [] i x y e = absurd (cc)
-get_set_same (z ∷ xs) zero x y e = refl
-get_set_same (z ∷ xs) (suc i) x y e = get_set_same xs i x y e
-
-pub get_set_other : {X : Type 0} (xs : List X) (i j : ℕ) (y : X) → (j ≡ i → ⊥) → slice_get (slice_set xs i y) j ≡ slice_get xs j
-get_set_other [] i j y ne = refl
-get_set_other (z ∷ xs) zero zero y ne = absurd (ne refl)
-get_set_other (z ∷ xs) zero (suc j) y ne = refl
-get_set_other (z ∷ xs) (suc i) zero y ne = refl
-get_set_other (z ∷ xs) (suc i) (suc j) y ne = get_set_other xs i j y (λ e. ne (ap (λ n. suc n) e))
-
-pub every_set : {X : Type 0} (P : X → Type 0) (xs : List X) (i : ℕ) (y : X) → Every P xs → P y → Every P (slice_set xs i y)
-every_set P [] i y h k = tt
-every_set P (z ∷ xs) zero y h k = (k, h.1)
-every_set P (z ∷ xs) (suc i) y h k = (h.0, every_set P xs i y h.1 k)
-
 -- a list that agrees with another, in which one place is written, up to that place
 pub record Agrees {X : Type 0} (xs ys : List X) (i : ℕ) (y : X) : Type 0 where
   pub before : take i ys ≡ take i xs

@@ -1,5 +1,5 @@
 -- Lists by their places.
-use Rattle.std.proofs.Common.{◌∙◌, ◌≡◌, ◌⊎◌, ℕ, zero, suc, ◌+◌, ◌<◌, ◌≤◌, List, [], ◌∷◌, ◌++◌, take, drop, sym, ap, refl, length, arith, Some, None, slice_get, slice_index, ⊎_elim, inl, inr}
+use Rattle.std.proofs.Common.{◌∙◌, ◌≡◌, ◌⊎◌, ℕ, zero, suc, ◌+◌, ◌<◌, ◌≤◌, List, [], ◌∷◌, ◌++◌, take, drop, sym, ap, refl, length, arith, Some, None, slice_get, slice_set, slice_index, ⊎_elim, inl, inr}
 use Rattle.std.specs.Option.{unwrap_or}
 use Rattle.std.proofs.lemmas.Option.{unwrap_or-slice_get, slice_get-get_or}
 use Rattle.std.proofs.lemmas.Bool.{cases_lt}
@@ -54,6 +54,19 @@ pub get_within : {X : Type 0} (xs : List X) (i : ℕ) → i < length xs → (x :
 get_within [] i h = absurd (omega arith)
 get_within (x ∷ xs) zero h = (x, refl)
 get_within (x ∷ xs) (suc i) h = get_within xs i (omega arith)
+
+-- one place is written
+pub get_set : {X : Type 0} (xs : List X) (i : ℕ) (x y : X) → slice_get xs i ≡ Some x → slice_get (slice_set xs i y) i ≡ Some y
+get_set [] i x y e = absurd (cc)
+get_set (z ∷ xs) zero x y e = refl
+get_set (z ∷ xs) (suc i) x y e = get_set xs i x y e
+
+pub get_set_other : {X : Type 0} (xs : List X) (i j : ℕ) (y : X) → (i ≡ j → ⊥) → slice_get (slice_set xs i y) j ≡ slice_get xs j
+get_set_other [] i j y ne = refl
+get_set_other (z ∷ xs) zero zero y ne = absurd (ne refl)
+get_set_other (z ∷ xs) zero (suc j) y ne = refl
+get_set_other (z ∷ xs) (suc i) zero y ne = refl
+get_set_other (z ∷ xs) (suc i) (suc j) y ne = get_set_other xs i j y (λ e. ne (ap suc e))
 
 -- a list from a place on
 pub drop_from : {X : Type 0} (xs : List X) (i : ℕ) (x : X) → slice_get xs i ≡ Some x → drop i xs ≡ x ∷ drop (suc i) xs

@@ -2,6 +2,8 @@
 use Rattle.std.proofs.Common.{◌≡◌, ℕ, suc, ◌+◌, ◌<◌, ◌≤◌, Bool, true, false, cond, nat_lt, List, [], ◌∷◌, ◌++◌, length, map, slice_set, Option, Some, None, refl, sym, ap, ◌∙◌, subst, arith}
 use Rattle.std.specs.List.{filter}
 use Rattle.std.proofs.lemmas.List.Elements.{filter-append}
+use Rattle.std.proofs.lemmas.Option.{slice_get_within}
+use Rattle.std.proofs.lemmas.List.{length-set}
 use Rattle.tcmu_types.specs.Events.{EventData, EntryData}
 use Rattle.tcmu_types.specs.Events as ev
 use Rattle.tcmu_types.specs.declared.stat.Todo.{Todo}
@@ -26,7 +28,7 @@ use Rattle.text_laws.specs.Carried.{IsCarriedWhat}
 use Rattle.text_laws.specs.Lines.{CarriesBytes, made}
 use Rattle.text_laws.specs.Replays.{lines_of}
 use Rattle.text_laws.proofs.Accepted.{accepts_one, makes_accepts}
-use Rattle.text_laws.proofs.Sets.{get_within, every_get, every_set, length_set}
+use Rattle.text_laws.proofs.Sets.{every_get, every_set}
 use Rattle.tcmu_model.proofs.Draining.{all_todo}
 
 -- ---- lines that send commands
@@ -195,11 +197,11 @@ replays_asked R n ds ends [] es few h is replays =
     let all = drains_each R (length ds) 0 n ds ends es (omega arith) (omega (arith, few)) h replays in
     record { entries = all.0; sends_these = all.1; rest = all.2; count = all.3 }
 replays_asked R n ds ends (l ∷ lines) es few h is replays =
-    let lt = get_within ds l.device replays.2 replays.5 in
+    let lt = slice_get_within ds l.device replays.2 replays.5 in
     let one = plays R (length ds) n l l.what replays.2 replays.3 replays.0 lt (omega (arith, few)) (every_get (HasAccepted n) ds l.device replays.2 h replays.5) is.0.0 is.0.1 replays.6 in
     let later = every_set (HasAccepted (n + 1)) ds l.device replays.3 (every-weaker (HasAccepted n) (HasAccepted (n + 1)) ds (λ d k. more_accepted n (n + 1) d (omega arith) k) h) one.after in
     let rest = replays_asked R (n + 1) (slice_set ds l.device replays.3) ends lines replays.1 (omega (arith, few)) later is.1 replays.7 in
-    let same = length_set ds l.device replays.3 in
+    let same = length-set ds l.device replays.3 in
     let entries = subst (λ (k : ℕ). Every (IsWithinLines k) replays.1) same rest.entries in
     record {
       entries = subst (Every (IsWithinLines (length ds))) (sym replays.4) (every-append (IsWithinLines (length ds)) replays.0 replays.1 one.entries entries);

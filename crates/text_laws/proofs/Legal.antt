@@ -9,7 +9,7 @@ use Rattle.tcmu_model.specs.Several.{Journaled, is_of, RunLogs, IsLegalEach}
 use Rattle.tcmu_model.specs.Sound.{Every}
 use Rattle.tcmu_model.proofs.Everies.{every-front, every-back}
 use Rattle.tcmu_model.proofs.Readings.{same_some}
-use Rattle.text_laws.proofs.Sets.{get_set, get_other}
+use Rattle.tcmu_types.proofs.Places.{get_set, get_set_other}
 
 -- ---- the entries of one device
 
@@ -43,7 +43,7 @@ first_step R ds d d' j js ends at end legal =
         let there : b ≡ d' = same_some b d' (sym q ∙ ap (slice_get ends) (sym is) ∙ end) in
         subst (λ (x : Device). RunLogs R x (filter (is_of n) js) b) (sym here) (subst (λ (x : Device). RunLogs R mid (filter (is_of n) js) x) (sym there) (subst (λ (m : ℕ). RunLogs R mid (filter (is_of m) js) d') is run))
     go mid run n a b false e p q =
-        let before : slice_get ds n ≡ Some a = sym (get_other ds j.entry.device n mid (eqb-false _ _ e)) ∙ p in
+        let before : slice_get ds n ≡ Some a = sym (get_set_other ds j.entry.device n mid (eqb-false _ _ e)) ∙ p in
         subst (λ (xs : List Journaled). RunLogs R a xs b) (other n j js e) (legal n a b before q)
 
 -- ---- runs

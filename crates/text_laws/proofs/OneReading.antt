@@ -2,7 +2,8 @@
 use Rattle.std.proofs.Common.{◌≡◌, ℕ, zero, suc, ◌<◌, Bool, true, false, nat_eq, List, [], ◌∷◌, ◌++◌, length, map, drop, slice_get, slice_set, Some, refl, sym, ap, ◌∙◌, subst, arith}
 use Rattle.std.specs.List.{filter, flat_map}
 use Rattle.std.proofs.lemmas.Bool.{eqb-true, eqb-false}
-use Rattle.std.proofs.lemmas.List.{append-nil}
+use Rattle.std.proofs.lemmas.List.{append-nil, length-set}
+use Rattle.std.proofs.lemmas.Option.{slice_get_within}
 use Rattle.tcmu_types.specs.Data.{DoneData}
 use Rattle.tcmu_types.specs.Dumps.{DumpData}
 use Rattle.tcmu_types.specs.Events.{EventData, AnswerData, EntryData}
@@ -16,6 +17,7 @@ use Rattle.tcmu_model.specs.Sound.{Every, IsSound}
 use Rattle.tcmu_model.proofs.Everies.{every-weaker}
 use Rattle.tcmu_model.proofs.Readings.{same_some}
 use Rattle.tcmu_model.proofs.Runs.{sound_step}
+use Rattle.tcmu_types.proofs.Places.{get_within, get_set, get_set_other}
 use Rattle.text_laws.specs.Devices.{IsSpelledDevice}
 use Rattle.text_laws.specs.Printed.{Printed, AnEntry, ADump, device_of, entries_in, IsValue, IsListOf}
 use Rattle.text_laws.specs.Replays.{OpenAs, IsJournalOf}
@@ -29,7 +31,7 @@ use Rattle.text_laws.proofs.PrintValues.{all_values}
 use Rattle.text_laws.proofs.Prints.{own_text, entries_journal, undumped, entries_again, every_undumped, journal_list}
 use Rattle.text_laws.proofs.Replays.{opened_count, accepted_none, journal_named, journal_asks}
 use Rattle.text_laws.proofs.SameEvent.{same_event}
-use Rattle.text_laws.proofs.Sets.{get_within, get_found, get_set, get_other, every_get, every_set, length_set}
+use Rattle.text_laws.proofs.Sets.{every_get, every_set}
 use Rattle.text_laws.proofs.Spoken.{is_telling, told_lines, IsReadable, spoken_whole}
 use Rattle.text_laws.proofs.Telling.{two_parts, devices_told, Tells, AllTell, lines_tell}
 use Rattle.text_laws.proofs.WholeLines.{Named, told_device}
@@ -72,7 +74,7 @@ alike_set ds es k d e m n alike p q same = λ at x y u v. go at x y (nat_eq k at
         let there : y ≡ n = same_some y n (sym v ∙ ap (slice_get (slice_set es k n)) (sym (eqb-true _ _ is)) ∙ get_set es k e n q) in
         ap (λ (z : Device). z.state) here ∙ same ∙ sym (ap (λ (z : Device). z.state) there)
     go at x y false is u v =
-        alike at x y (sym (get_other ds k at m (eqb-false _ _ is)) ∙ u) (sym (get_other es k at n (eqb-false _ _ is)) ∙ v)
+        alike at x y (sym (get_set_other ds k at m (eqb-false _ _ is)) ∙ u) (sym (get_set_other es k at n (eqb-false _ _ is)) ∙ v)
 
 pub opened_alike : (ls : List DeviceLineData) (ds es : List Device) → OpenAs ls ds → OpenAs ls es → AreAlike ds es
 opened_alike [] [] es h k at d e p q = absurd (cc)
@@ -113,8 +115,8 @@ record Behind (R : HandlerRelation) (ls : List DeviceLineData) (ds : List Device
 behind : (R : HandlerRelation) (ls : List DeviceLineData) (ds : List Device) (j : Journaled) (js : List Journaled) (ends : List Device) → GoesOn R ls ds (j ∷ js) ends → Behind R ls ds j js ends
 behind R ls ds j js ends h =
     let at = h.within.0 in
-    let first = get_found ds j.entry.device (omega (arith, at, h.count)) in
-    let last = get_found ends j.entry.device (omega (arith, at, h.last)) in
+    let first = get_within ds j.entry.device (omega (arith, at, h.count)) in
+    let last = get_within ends j.entry.device (omega (arith, at, h.last)) in
     let step = first_step R ds first.0 last.0 j js ends first.1 last.1 h.legal in
     record {
       device = first.0;
@@ -123,7 +125,7 @@ behind R ls ds j js ends h =
       step = step.step;
       log = step.log;
       rest = record {
-        count = length_set ds j.entry.device step.mid ∙ h.count;
+        count = length-set ds j.entry.device step.mid ∙ h.count;
         last = h.last;
         sound = every_set (λ d. IsSound d.state) ds j.entry.device step.mid h.sound (sound_step R first.0 step.mid j.entry (every_get (λ d. IsSound d.state) ds j.entry.device first.0 h.sound first.1) step.step);
         within = h.within.1;
@@ -143,8 +145,8 @@ pub journals_same : (R Q : HandlerRelation) (ls : List DeviceLineData) (ds es : 
 journals_same R Q ls ds es [] [] ends lasts alike h k e = (
   refl,
   λ at x y p q.
-      let a = get_found ds at (omega (arith, get_within ends at x p, h.count, h.last)) in
-      let b = get_found es at (omega (arith, get_within lasts at y q, k.count, k.last)) in
+      let a = get_within ds at (omega (arith, slice_get_within ends at x p, h.count, h.last)) in
+      let b = get_within es at (omega (arith, slice_get_within lasts at y q, k.count, k.last)) in
       ap (λ (z : Device). z.state) (h.legal at a.0 x a.1 p) ∙ alike at a.0 b.0 a.1 b.1 ∙ sym (ap (λ (z : Device). z.state) (k.legal at b.0 y b.1 q)),
 )
 journals_same R Q ls ds es [] (f ∷ fs) ends lasts alike h k e = absurd e

@@ -6,6 +6,7 @@ use Rattle.tcmu_model.specs.ScenarioData.{DeviceLineData}
 use Rattle.tcmu_model.specs.Sound.{Every}
 use Rattle.tcmu_model.specs.Steps.{HandlerRelation, accepted_by}
 use Rattle.tcmu_model.proofs.Everies.{every-filter}
+use Rattle.tcmu_types.proofs.Places.{get_within}
 use Rattle.text_laws.specs.Devices.{IsSpelledDevice}
 use Rattle.text_laws.specs.Dumps.{IsDumpValue}
 use Rattle.text_laws.specs.Printed.{Printed, AnEntry, ADump, device_of, is_about, HasEventValue, IsValue, AreValues, RunPrints, IsPrintOf}
@@ -15,7 +16,7 @@ use Rattle.text_laws.proofs.Asked.{HasAccepted, more_accepted, step_accepts}
 use Rattle.text_laws.proofs.Legal.{each_of}
 use Rattle.text_laws.proofs.Pictured.{picture_value}
 use Rattle.text_laws.proofs.Replays.{opened_count, accepted_none}
-use Rattle.text_laws.proofs.Sets.{get_found, every_get}
+use Rattle.text_laws.proofs.Sets.{every_get}
 
 run_values : (R : HandlerRelation) (n : ℕ) (d d' : Device) (ps : List Printed) → HasAccepted n d → IsNumber (n + length ps) → Every HasEventValue ps → RunPrints R d ps d' → Every IsValue ps
 run_values R n d d' [] h lt v r = tt
@@ -38,7 +39,7 @@ all_values R ls opened ps ends text sp values is = each_of device_of IsValue (le
   where
     own : (k : ℕ) → k < length ls → Every IsValue (filter (is_about k) ps)
     own k lt =
-        let first = get_found opened k (omega (arith, lt, opened_count ls opened is.list.opens)) in
-        let last = get_found ends k (omega (arith, lt, is.list.count)) in
+        let first = get_within opened k (omega (arith, lt, opened_count ls opened is.list.opens)) in
+        let last = get_within ends k (omega (arith, lt, is.list.count)) in
         let start = every_get (HasAccepted 0) opened k first.0 (accepted_none ls opened sp is.list.opens) first.1 in
         run_values R 0 first.0 last.0 (filter (is_about k) ps) start (omega (arith, fewer (is_about k) ps, values.few)) (every-filter (is_about k) HasEventValue ps values.events) (is.pictures k first.0 last.0 first.1 last.1)

@@ -4,7 +4,7 @@ use Rattle.std.specs.List.{flat_map, list_any, sum_by, AllPairs, position_or_len
 use Rattle.std.specs.Str.{bytes_eq}
 use Rattle.std.specs.Fmt.{decimal}
 use Rattle.std.proofs.lemmas.Bool.{eq-eqb, le-ltb, lt-ltb, cond-true, cond-false}
-use Rattle.std.proofs.lemmas.Option.{get_or_from_slice_get}
+use Rattle.std.proofs.lemmas.Option.{get_or_from_slice_get, slice_get_within}
 use Rattle.std.proofs.lemmas.List.{append-nil}
 use Rattle.std.proofs.lemmas.List.Splits.{slice_split_at}
 use Rattle.std.proofs.lemmas.List.Sums.{AllPass-from_list_all, sum_by-append, position_or_len_is}
@@ -23,6 +23,7 @@ use Rattle.tcmu_model.specs.Scenario.{bytes_in, bytes_out, with_name, with_initi
 use Rattle.tcmu_model.specs.Text.{spaced, line, device_text, event_text, answer_text, completion_text, event_line, entry_text, end_text}
 use Rattle.tcmu_model.proofs.Everies.{every-weaker, every-none}
 use Rattle.tcmu_model.proofs.Readings.{same_bytes}
+use Rattle.tcmu_types.proofs.Places.{get_within}
 use Rattle.text_laws.specs.Configs.{is_other}
 use Rattle.text_laws.specs.Devices.{IsSpelledDevice, IsNew}
 use Rattle.text_laws.specs.Lines.{CarriesBytes, made}
@@ -32,7 +33,7 @@ use Rattle.text_laws.proofs.Asks.{line_asks, line_value}
 use Rattle.text_laws.proofs.Comments.{comments_ignored, empty_ignored}
 use Rattle.text_laws.proofs.Devices.{devices_again, same_text}
 use Rattle.text_laws.proofs.Events.{events_again}
-use Rattle.text_laws.proofs.Sets.{get_found, get_within, every_get}
+use Rattle.text_laws.proofs.Sets.{every_get}
 use Rattle.text_laws.proofs.Unbroken.{Unbroken}
 use Rattle.text_laws.proofs.WholeLines.{Named, done_fields, done_line, end_line, told_event, told_line, told_device, device_told_line}
 
@@ -159,13 +160,13 @@ differ a b ne = go (bytes_eq a b) refl
 -- a device is found under its name
 pub its_number : (ls : List DeviceLineData) (front : List LineData) (at : ℕ) (l : DeviceLineData) → AllPairs DifferInName ls → slice_get ls at ≡ Some l → device_at (so_far ls front) l.name ≡ Some at
 its_number ls front at l pairs e =
-    let lt = get_within ls at l e in
+    let lt = slice_get_within ls at l e in
     let here : get_or ls at l ≡ l = get_or_from_slice_get ls at l l e in
     let place : position_or_len (has_name l.name) ls ≡ at = position_or_len_is (has_name l.name) ls at l (omega (arith, lt)) (λ k less. before k less here) (λ less. same_text (get_or ls at l).name l.name (ap (λ (d : DeviceLineData). d.name) here)) in
     cond-true _ _ _ (lt-ltb (position_or_len (has_name l.name) ls) (length ls) (omega (arith, place, lt))) ∙ ap (λ (k : ℕ). Some k) place
   where
     before : (k : ℕ) → k < at → get_or ls at l ≡ l → has_name l.name (get_or ls k l) ≡ false
-    before k less here = differ (get_or ls k l).name l.name (λ q. pairs k at l less (get_within ls at l e) (q ∙ ap (λ (d : DeviceLineData). d.name) (sym here)))
+    before k less here = differ (get_or ls k l).name l.name (λ q. pairs k at l less (slice_get_within ls at l e) (q ∙ ap (λ (d : DeviceLineData). d.name) (sym here)))
 
 reads_event : (ls : List DeviceLineData) (l : DeviceLineData) (front : List LineData) (e : EntryData) (rest : List ℕ) (t : ScenarioData) → AllPairs DifferInName ls → slice_get ls e.device ≡ Some l → is_name l.name ≡ true → IsEvent e.event → CarriesBytes e.event
     → Fits (front ++ made e.device e.event ∷ []) → Reads (so_far ls (front ++ made e.device e.event ∷ [])) rest t → Reads (so_far ls front) (event_line l.name l.settings.qfull e.event e.answer ++ rest) t
@@ -191,7 +192,7 @@ pub reads_journal : (ls : List DeviceLineData) (js : List Journaled) (front : Li
 reads_journal ls [] front rest t pairs spelled within named fits k = subst (λ (xs : List LineData). Reads (so_far ls xs) rest t) (append-nil front) k
 reads_journal ls (j ∷ js) front rest t pairs spelled within named fits k =
     let e = j.entry in
-    let found = get_found ls e.device within.0.device in
+    let found = get_within ls e.device within.0.device in
     let l = found.0 in
     let next : front ++ made e.device e.event ∷ [] ++ lines_of (entries_of js) ≡ front ++ made e.device e.event ∷ lines_of (entries_of js) = append_assoc front (made e.device e.event ∷ []) (lines_of (entries_of js)) in
     let fits_next = subst Fits (sym next) fits in

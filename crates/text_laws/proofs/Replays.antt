@@ -2,6 +2,7 @@
 use Rattle.std.proofs.Common.{◌≡◌, ⊎_elim, ℕ, suc, ◌+◌, ◌<◌, ◌≤◌, IsTrue, List, [], ◌∷◌, length, All, slice_set, None, Ok, refl, sym, ap, subst, ◌∙◌, arith}
 use Rattle.std.specs.List.{filter}
 use Rattle.std.proofs.lemmas.List.Elements.{All-head, All-tail}
+use Rattle.std.proofs.lemmas.List.{length-set}
 use Rattle.tcmu_types.specs.Naming.{is_name}
 use Rattle.tcmu_types.specs.Rules.{IsCommand}
 use Rattle.tcmu_types.specs.Data.{CommandData, DoneData, SettingsData}
@@ -23,6 +24,7 @@ use Rattle.tcmu_model.proofs.Everies.{every-weaker, every-mapped}
 use Rattle.tcmu_model.proofs.Journals.{run_senders, HasSender}
 use Rattle.tcmu_model.proofs.SoundEvents.{sound_opening}
 use Rattle.tcmu_model.proofs.ScenarioLaws.{scenario_is}
+use Rattle.tcmu_types.proofs.Places.{get_within}
 use Rattle.text_laws.specs.Carried.{IsCarriedWhat}
 use Rattle.text_laws.specs.Devices.{IsSpelledDevice}
 use Rattle.text_laws.specs.Lines.{CarriesBytes, made}
@@ -33,7 +35,7 @@ use Rattle.text_laws.proofs.Carried.{carried_read, spelled_read}
 use Rattle.text_laws.proofs.Kept.{replay_keeps}
 use Rattle.text_laws.proofs.Legal.{first_step, run_entries, completions_keep, each_of}
 use Rattle.text_laws.proofs.Reading.{reads_whole}
-use Rattle.text_laws.proofs.Sets.{get_found, every_get, length_set, same_items}
+use Rattle.text_laws.proofs.Sets.{every_get, same_items}
 use Rattle.text_laws.proofs.WholeLines.{Named}
 
 -- ---- the initiators of completions are names
@@ -100,8 +102,8 @@ journal_named R ls opened js ends text is = each_of (λ (j : Journaled). j.entry
   where
     own : (k : ℕ) → k < length ls → Every (λ j. Every Named j.completions) (filter (is_of k) js)
     own k lt =
-        let first = get_found opened k (omega (arith, lt, opened_count ls opened is.opens)) in
-        let last = get_found ends k (omega (arith, lt, is.count)) in
+        let first = get_within opened k (omega (arith, lt, opened_count ls opened is.opens)) in
+        let last = get_within ends k (omega (arith, lt, is.count)) in
         run_named R first.0 last.0 (filter (is_of k) js) (every_get Opened opened k first.0 (each_opened ls opened is.opens) first.1) (is.legal k first.0 last.0 first.1 last.1)
 
 pub journal_asks : (R : HandlerRelation) (ls : List DeviceLineData) (opened : List Device) (js : List Journaled) (ends : List Device) (text : List ℕ) → IsJournalOf R ls opened js ends text → Every (λ j. AsksCommand j.entry.event) js
@@ -109,8 +111,8 @@ journal_asks R ls opened js ends text is = each_of (λ (j : Journaled). j.entry.
   where
     own : (k : ℕ) → k < length ls → Every (λ j. AsksCommand j.entry.event) (filter (is_of k) js)
     own k lt =
-        let first = get_found opened k (omega (arith, lt, opened_count ls opened is.opens)) in
-        let last = get_found ends k (omega (arith, lt, is.count)) in
+        let first = get_within opened k (omega (arith, lt, opened_count ls opened is.opens)) in
+        let last = get_within ends k (omega (arith, lt, is.count)) in
         run_asks R first.0 last.0 (filter (is_of k) js) (is.legal k first.0 last.0 first.1 last.1)
 
 -- ---- the text is a scenario
@@ -141,10 +143,10 @@ made_again R ds [] ends count within legal done =
     let same : ends ≡ ds = same_items ds ends (sym count) legal in
     subst (λ (xs : List Device). DrainsEach R 0 ds [] xs) (sym same) (drains_nothing R 0 ds (subst (Every IsDone) same done))
 made_again R ds (j ∷ js) ends count within legal done =
-    let first = get_found ds j.entry.device within.0 in
-    let last = get_found ends j.entry.device (omega (arith, within.0, count)) in
+    let first = get_within ds j.entry.device within.0 in
+    let last = get_within ends j.entry.device (omega (arith, within.0, count)) in
     let step = first_step R ds first.0 last.0 j js ends first.1 last.1 legal in
-    let same = length_set ds j.entry.device step.mid in
+    let same = length-set ds j.entry.device step.mid in
     let rest = made_again R (slice_set ds j.entry.device step.mid) js ends (count ∙ sym same) (subst (λ (n : ℕ). Every (λ (x : Journaled). x.entry.device < n) js) (sym same) within.1) step.rest done in
     (j.entry ∷ [], entries_of js, first.0, step.mid, refl, first.1, (j.entry, refl, refl, step.step, refl), rest)
 

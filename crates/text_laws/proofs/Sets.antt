@@ -3,33 +3,6 @@ use Rattle.std.proofs.Common.{◌≡◌, ℕ, zero, suc, ◌<◌, List, [], ◌�
 use Rattle.tcmu_model.specs.Sound.{Every}
 use Rattle.tcmu_model.proofs.Readings.{same_some}
 
-pub get_within : {X : Type 0} (xs : List X) (k : ℕ) (x : X) → slice_get xs k ≡ Some x → k < length xs
-get_within [] k x e = absurd (cc)
-get_within (y ∷ xs) zero x e = omega arith
-get_within (y ∷ xs) (suc k) x e = omega (arith, get_within xs k x e)
-
-pub get_found : {X : Type 0} (xs : List X) (k : ℕ) → k < length xs → (x : X) × (slice_get xs k ≡ Some x)
-get_found [] k lt = absurd (omega (arith, lt))
-get_found (y ∷ xs) zero lt = (y, refl)
-get_found (y ∷ xs) (suc k) lt = get_found xs k (omega (arith, lt))
-
-pub get_set : {X : Type 0} (xs : List X) (k : ℕ) (x y : X) → slice_get xs k ≡ Some x → slice_get (slice_set xs k y) k ≡ Some y
-get_set [] k x y e = absurd (cc)
-get_set (z ∷ xs) zero x y e = refl
-get_set (z ∷ xs) (suc k) x y e = get_set xs k x y e
-
-pub get_other : {X : Type 0} (xs : List X) (k at : ℕ) (y : X) → (k ≡ at → ⊥) → slice_get (slice_set xs k y) at ≡ slice_get xs at
-get_other [] k at y ne = refl
-get_other (z ∷ xs) zero zero y ne = absurd (ne refl)
-get_other (z ∷ xs) zero (suc at) y ne = refl
-get_other (z ∷ xs) (suc k) zero y ne = refl
-get_other (z ∷ xs) (suc k) (suc at) y ne = get_other xs k at y (λ q. ne (ap suc q))
-
-pub length_set : {X : Type 0} (xs : List X) (k : ℕ) (y : X) → length (slice_set xs k y) ≡ length xs
-length_set [] k y = refl
-length_set (z ∷ xs) zero y = refl
-length_set (z ∷ xs) (suc k) y = ap suc (length_set xs k y)
-
 pub every_set : {X : Type 0} (P : X → Type 0) (xs : List X) (k : ℕ) (y : X) → Every P xs → P y → Every P (slice_set xs k y)
 every_set P [] k y h p = tt
 every_set P (z ∷ xs) zero y h p = (p, h.1)

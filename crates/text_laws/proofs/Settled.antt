@@ -23,12 +23,13 @@ use Rattle.tcmu_model.specs.Text.{device_text, answer_text}
 use Rattle.tcmu_model.proofs.Readings.{same_some}
 use Rattle.block_engine.specs.Determined.{IsInMemory}
 use Rattle.block_engine.proofs.Settling.{stays_in_memory}
+use Rattle.tcmu_types.proofs.Places.{get_within}
 use Rattle.text_laws.specs.Replays.{entries_of}
 use Rattle.text_laws.specs.Settled.{OneText}
 use Rattle.text_laws.proofs.Carried.{spelled_read}
 use Rattle.text_laws.proofs.OneReading.{entry_same, GoesOn, EntriesTell, journals_same, opened_alike, opened_sound}
 use Rattle.text_laws.proofs.Replays.{opened_count, replay_journal}
-use Rattle.text_laws.proofs.Sets.{get_found, every_get, every_set}
+use Rattle.text_laws.proofs.Sets.{every_get, every_set}
 
 -- ==== one event
 
@@ -189,7 +190,7 @@ entries_tell ls [] (f ∷ fs) h e = absurd (cc)
 entries_tell ls (j ∷ js) [] h e = absurd (cc)
 entries_tell ls (j ∷ js) (f ∷ fs) h e =
     let one : j.entry ≡ f.entry = ap (first_or j.entry) e in
-    let line = get_found ls j.entry.device h.0 in (
+    let line = get_within ls j.entry.device h.0 in (
       record {
         device = ap (λ (x : EntryData). x.device) one;
         event = ap (λ (x : EntryData). x.event) one;

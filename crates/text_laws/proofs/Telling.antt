@@ -10,6 +10,7 @@ use Rattle.tcmu_model.specs.Several.{Journaled}
 use Rattle.tcmu_model.specs.Sound.{Every}
 use Rattle.tcmu_model.specs.Text.{event_text, answer_text}
 use Rattle.tcmu_model.proofs.Readings.{same_ok, same_some}
+use Rattle.tcmu_types.proofs.Places.{get_within}
 use Rattle.text_laws.specs.Devices.{IsSpelledDevice}
 use Rattle.text_laws.specs.Printed.{Printed, AnEntry, ADump, device_of}
 use Rattle.text_laws.proofs.Apart.{head_or, behind_same, apart, StartsOther, fronts_told, told_apart}
@@ -17,7 +18,7 @@ use Rattle.text_laws.proofs.Devices.{devices_again}
 use Rattle.text_laws.proofs.Dumped.{first_of_dump, dump_lines, dump_lines_told}
 use Rattle.text_laws.proofs.EventLines.{event_told}
 use Rattle.text_laws.proofs.Reading.{so_far, opens, its_number}
-use Rattle.text_laws.proofs.Sets.{get_found, every_get}
+use Rattle.text_laws.proofs.Sets.{every_get}
 use Rattle.text_laws.proofs.Spoken.{is_comment, is_device_line, begins_dump, event_marks, inner_lines, inner_comments, told, told_is, told_lines, dump_told_is, IsReadable, device_lines, no_device_lines}
 use Rattle.text_laws.proofs.WholeLines.{told_event, told_device}
 
@@ -61,8 +62,8 @@ pub record Tells (ls : List DeviceLineData) (j f : Journaled) : Type 0 where
 
 entry_told : (ls : List DeviceLineData) (j f : Journaled) → AreNamedApart ls → Every IsSpelledDevice ls → IsReadable (length ls) (AnEntry j) → IsReadable (length ls) (AnEntry f) → told ls j ≡ told ls f → Tells ls j f
 entry_told ls j f pairs sp h k e =
-    let found = get_found ls j.entry.device h.device in
-    let found' = get_found ls f.entry.device k.device in
+    let found = get_within ls j.entry.device h.device in
+    let found' = get_within ls f.entry.device k.device in
     let l = found.0 in
     let m = found'.0 in
     let same : told_event l.name l.settings.qfull j.entry.event j.entry.answer ≡ told_event m.name m.settings.qfull f.entry.event f.entry.answer = sym (told_is ls l j found.1) ∙ e ∙ told_is ls m f found'.1 in
@@ -89,7 +90,7 @@ Tell ls (ADump at d) (AnEntry f) = ⊥
 -- an event line begins no dump
 no_dump : (ls : List DeviceLineData) (j : Journaled) (l : DeviceLineData) (d : DumpData) → IsReadable (length ls) (AnEntry j) → told ls j ≡ first_of_dump l.name d → ⊥
 no_dump ls j l d h e =
-    let found = get_found ls j.entry.device h.device in
+    let found = get_within ls j.entry.device h.device in
     let m = found.0 in
     apart begins_dump (told_event m.name m.settings.qfull j.entry.event j.entry.answer) (first_of_dump l.name d) (event_marks m.name m.settings.qfull j.entry.event j.entry.answer).dump refl (sym (told_is ls m j found.1) ∙ e)
 
@@ -98,14 +99,14 @@ one_told : (ls : List DeviceLineData) (p q : Printed) (xs ys : List (List ℕ)) 
     → told_lines ls p ++ xs ≡ told_lines ls q ++ ys → Tell ls p q × (xs ≡ ys)
 one_told ls (AnEntry j) (AnEntry f) xs ys pairs sp h k a b e = (entry_told ls j f pairs sp h k (ap (head_or []) e), ap (λ (l : List (List ℕ)). drop 1 l) e)
 one_told ls (AnEntry j) (ADump to d) xs ys pairs sp h k a b e =
-    let found = get_found ls to k.device in
+    let found = get_within ls to k.device in
     absurd (no_dump ls j found.0 d h (ap (head_or []) (e ∙ ap (λ (l : List (List ℕ)). l ++ ys) (dump_told_is ls found.0 to d found.1))))
 one_told ls (ADump at d) (AnEntry f) xs ys pairs sp h k a b e =
-    let found = get_found ls at h.device in
+    let found = get_within ls at h.device in
     absurd (no_dump ls f found.0 d k (ap (head_or []) (sym e ∙ ap (λ (l : List (List ℕ)). l ++ xs) (dump_told_is ls found.0 at d found.1))))
 one_told ls (ADump at d) (ADump to c) xs ys pairs sp h k a b e =
-    let found = get_found ls at h.device in
-    let found' = get_found ls to k.device in
+    let found = get_within ls at h.device in
+    let found' = get_within ls to k.device in
     let l = found.0 in
     let m = found'.0 in
     let same : dump_lines l.name d ++ xs ≡ dump_lines m.name c ++ ys =
@@ -127,11 +128,11 @@ record First (ls : List DeviceLineData) (p : Printed) : Type 0 where
 
 first_of_one : (ls : List DeviceLineData) (p : Printed) → device_of p < length ls → First ls p
 first_of_one ls (AnEntry j) lt =
-    let found = get_found ls j.entry.device lt in
+    let found = get_within ls j.entry.device lt in
     let l = found.0 in
     record { line = told ls j; others = []; is = refl; comment = subst (λ (t : List ℕ). is_comment t ≡ false) (sym (told_is ls l j found.1)) (event_marks l.name l.settings.qfull j.entry.event j.entry.answer).comment }
 first_of_one ls (ADump at d) lt =
-    let found = get_found ls at lt in
+    let found = get_within ls at lt in
     record { line = first_of_dump found.0.name d; others = inner_lines d; is = dump_told_is ls found.0 at d found.1; comment = refl }
 
 starts : (ls : List DeviceLineData) (ps : List Printed) → Every (IsReadable (length ls)) ps → StartsOther is_comment (flat_map (told_lines ls) ps)
