@@ -8,6 +8,7 @@ use Rattle.std.proofs.lemmas.Nat.Bits.{shr_and_one, bit_at_set_same, bit_at_set_
 use Rattle.std.proofs.lemmas.List.{get_or-set_same, get_or-set_other, get_or-take, get_or-drop, length-take}
 use Rattle.std.proofs.lemmas.Bool.{cases_eq, cases_lt, eqb-true, and_parts}
 use Rattle.data_blocks.specs.Bitmap.{is_set}
+use Rattle.std.proofs.Math.Bool.{and-true, and-false}
 
 -- the test that the code makes
 pub read : (words : List ℕ) (n : ℕ) → (bit_and (slice_index words (n / 64) / 2 ^ (n % 64)) 1 == 1) ≡ is_set words n
@@ -61,12 +62,6 @@ set-tells words m old was h n =
     written words m n w h (λ i s o. bit_at_set_other w64 old (m % 64) (omega arith) i o ∙ ap (λ z. bit_at z i) was) d
     ∙ sym (ap (λ b. b || is_set words n) (eqb-other m n d)))
     (cases_eq n m)
-
-and-true : (b : Bool) → (b && true) ≡ b
-and-true b = elim b as (λ v. (v && true) ≡ v) [ true ↦ refl | false ↦ refl ]
-
-and-false : (b : Bool) → (b && false) ≡ false
-and-false b = elim b as (λ v. (v && false) ≡ false) [ true ↦ refl | false ↦ refl ]
 
 pub clear-tells : (words : List ℕ) (m old : ℕ) → old ≡ slice_index words (m / 64) → m < 64 * length words → (n : ℕ) →
     is_set (slice_set words (m / 64) (bit_and old (18446744073709551615 - 1 * 2 ^ (m % 64) % 18446744073709551616))) n ≡ (is_set words n && not (n == m))

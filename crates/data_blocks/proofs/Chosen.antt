@@ -1,11 +1,12 @@
 -- The numbers of a range that pass a test, and those that do not.
 use Rattle.std.proofs.Common.{◌≡◌, ◌≢◌, ℕ, ◌+◌, ◌≤◌, ◌<◌, ⊎_elim, Bool, true, false, not, ◌||◌, ◌==◌, List, [], ◌∷◌, length, Option, Some, None, refl, sym, ap, ◌∙◌, arith, suc, zero}
-use Rattle.std.proofs.lemmas.Bool.{cases_eq, cases_Bool}
+use Rattle.std.proofs.lemmas.Bool.{cases_eq, cases_Bool, false≢true}
 use Rattle.tcmu_model.specs.Lists.{RisesAbove, IsRising, above_all}
 use Rattle.tcmu_model.specs.Events.{is_among}
 use Rattle.tcmu_model.specs.BlockLists.{free_from}
 use Rattle.data_blocks.specs.Bitmap.{chosen, first_refused}
 use Rattle.data_blocks.proofs.Bits.{eqb-same, eqb-other}
+use Rattle.std.proofs.lemmas.Option.{none-some}
 
 -- ==== the numbers of a list
 
@@ -40,14 +41,8 @@ above_all-le (x ∷ xs) g h =
 
 -- ==== one test
 
-pub false-true : false ≡ true → ⊥
-false-true h = cc
-
-pub none-some : {m : ℕ} → ◌≡◌ {A = Option ℕ} None (Some m) → ⊥
-none-some h = cc
-
 pub chosen-below : (p : ℕ → Bool) (n k m : ℕ) → is_among (chosen p n k) m ≡ true → (n ≤ m) × (m < n + k)
-chosen-below p n zero m h = absurd (false-true h)
+chosen-below p n zero m h = absurd (false≢true h)
 chosen-below p n (suc k) m h =
     ⊎_elim
     (λ (t : p n ≡ true).
@@ -103,7 +98,7 @@ chosen-rising p n (suc k) =
 
 -- the first that is refused
 pub refused-tells : (p : ℕ → Bool) (n k m : ℕ) → first_refused p n k ≡ Some m → (n ≤ m) × (m < n + k) × (p m ≡ false)
-refused-tells p n zero m h = absurd (none-some h)
+refused-tells p n zero m h = absurd (none-some _ h)
 refused-tells p n (suc k) m h =
     ⊎_elim
     (λ (t : p n ≡ true). let i = refused-tells p (n + 1) k m (rw t at h) in (omega arith, omega arith, i.2))
@@ -119,7 +114,7 @@ all-chosen p n zero h = refl
 all-chosen p n (suc k) h =
     ⊎_elim
     (λ (t : p n ≡ true). let i = all-chosen p (n + 1) k (rw t at h) in rw t (omega arith))
-    (λ (f : p n ≡ false). let g : Some n ≡ None = rw f at h in absurd (none-some (sym g)))
+    (λ (f : p n ≡ false). let g : Some n ≡ None = rw f at h in absurd (none-some _ (sym g)))
     (cases_Bool (p n))
 
 -- ==== two tests
@@ -176,11 +171,11 @@ chosen-more p q m n (suc k) a l h =
 -- the first that p refuses is the first that is free, and the rest is free with q
 pub free-rest : (p q : ℕ → Bool) (m n k : ℕ) → Adds p q m → first_refused p n k ≡ Some m →
     chosen (λ j. not (p j)) n k ≡ m ∷ chosen (λ j. not (q j)) n k
-free-rest p q m n zero a h = absurd (none-some h)
+free-rest p q m n zero a h = absurd (none-some _ h)
 free-rest p q m n (suc k) a h =
     ⊎_elim
     (λ (t : p n ≡ true).
-    let d : n ≢ m = λ (e : n ≡ m). false-true (sym a.refused ∙ sym (ap p e) ∙ t) in
+    let d : n ≢ m = λ (e : n ≡ m). false≢true (sym a.refused ∙ sym (ap p e) ∙ t) in
     let o : q n ≡ true = adds-other p q m n a d ∙ t in
     rw (t, o) (free-rest p q m (n + 1) k a (rw t at h)))
     (λ (f : p n ≡ false).

@@ -1,13 +1,13 @@
 -- The least free numbers: they rise, they are free, and no free number below one of them is left out.
 use Rattle.std.proofs.Common.{◌≡◌, ◌≢◌, ℕ, ◌<◌, ⊎_elim, Bool, true, false, not, List, [], ◌∷◌, take, refl, sym, ap, ◌∙◌, subst, arith, suc, zero}
-use Rattle.std.proofs.lemmas.Bool.{cases_eq}
+use Rattle.std.proofs.lemmas.Bool.{cases_eq, false≢true}
 use Rattle.tcmu_model.specs.Lists.{RisesAbove, IsRising}
 use Rattle.tcmu_model.specs.Events.{is_among}
 use Rattle.tcmu_model.specs.BlockLists.{least_free}
 use Rattle.data_blocks.specs.Bitmap.{chosen}
-use Rattle.data_blocks.proofs.Chosen.{false-true, among-here, among-there, chosen-below, chosen-among, chosen-rising, free-chosen}
+use Rattle.data_blocks.proofs.Chosen.{among-here, among-there, chosen-below, chosen-among, chosen-rising, free-chosen}
 use Rattle.tcmu_model.proofs.Readings.{not_true}
-use Rattle.tcmu_model.proofs.Rises.{rising_rest}
+use Rattle.tcmu_model.proofs.Rises.{rising_rest, among-all}
 
 -- a number that is not held
 abbrev pub is_free : List ℕ → ℕ → Bool
@@ -28,17 +28,8 @@ rising-take zero xs h = tt
 rising-take (suc n) [] h = tt
 rising-take (suc n) (x ∷ xs) h = rises-take x n xs h
 
-among-take : (n : ℕ) (xs : List ℕ) (m : ℕ) → is_among (take n xs) m ≡ true → is_among xs m ≡ true
-among-take zero xs m h = absurd (false-true h)
-among-take (suc n) [] m h = h
-among-take (suc n) (x ∷ xs) m h =
-    ⊎_elim
-    (λ (e : x ≡ m). among-here x xs m e)
-    (λ (d : x ≢ m). among-there x xs m d ∙ among-take n xs m (sym (among-there x (take n xs) m d) ∙ h))
-    (cases_eq x m)
-
 above : (b : ℕ) (xs : List ℕ) (m : ℕ) → RisesAbove b xs → is_among xs m ≡ true → b < m
-above b [] m h a = absurd (false-true a)
+above b [] m h a = absurd (false≢true a)
 above b (x ∷ xs) m h a =
     ⊎_elim
     (λ (e : x ≡ m). let l = h.0 in omega arith)
@@ -47,7 +38,7 @@ above b (x ∷ xs) m h a =
 
 -- what stands before a number of the front is in the front
 before : (n : ℕ) (xs : List ℕ) (m k : ℕ) → IsRising xs → is_among (take n xs) m ≡ true → k < m → is_among xs k ≡ true → is_among (take n xs) k ≡ true
-before zero xs m k r h l a = absurd (false-true h)
+before zero xs m k r h l a = absurd (false≢true h)
 before (suc n) [] m k r h l a = a
 before (suc n) (x ∷ xs) m k r h l a =
     ⊎_elim
@@ -66,7 +57,7 @@ least-rising limit held n = subst IsRising (sym (least-chosen limit held n)) (ri
 
 pub least-is-free : (limit : ℕ) (held : List ℕ) (n m : ℕ) → is_among (least_free limit held n) m ≡ true → (m < limit) × (is_among held m ≡ false)
 least-is-free limit held n m h =
-    let a = among-take n (chosen (is_free held) 0 limit) m (sym (ap (λ xs. is_among xs m) (least-chosen limit held n)) ∙ h) in
+    let a = among-all n (chosen (is_free held) 0 limit) m (sym (ap (λ xs. is_among xs m) (least-chosen limit held n)) ∙ h) in
     let b = chosen-below (is_free held) 0 limit m a in
     (omega arith, not_true (is_among held m) (sym (chosen-among (is_free held) 0 limit m (omega arith) (omega arith)) ∙ a))
 

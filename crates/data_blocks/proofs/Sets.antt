@@ -1,6 +1,6 @@
 -- What taking and giving one number does to the fields and to what contracts see of them.
 use Rattle.std.proofs.Common.{◌≡◌, ◌≢◌, ℕ, ◌+◌, ◌-◌, ◌*◌, ◌≤◌, ◌<◌, ⊎_elim, Bool, true, false, not, ◌||◌, ◌&&◌, ◌==◌, max, List, [], ◌∷◌, length, replicate, Some, None, refl, sym, ap, ◌∙◌, arith, suc, zero}
-use Rattle.std.proofs.lemmas.Bool.{cases_eq, cases_lt, cases_Bool, and_parts}
+use Rattle.std.proofs.lemmas.Bool.{cases_eq, cases_lt, cases_Bool, and_parts, false≢true}
 use Rattle.std.proofs.lemmas.List.{length-replicate}
 use Rattle.tcmu_model.specs.Lists.{above_all}
 use Rattle.tcmu_model.specs.Events.{is_among}
@@ -9,7 +9,8 @@ use Rattle.data_blocks.specs.Bitmap.{is_set, set_below, first_clear, chosen}
 use Rattle.data_blocks.specs.Held.{Took, Gave}
 use Rattle.data_blocks.specs.Kept.{IsKept}
 use Rattle.data_blocks.proofs.Bits.{eqb-same, eqb-other, zero-clear}
-use Rattle.data_blocks.proofs.Chosen.{Adds, chosen-below, chosen-among, chosen-rising, chosen-more, free-chosen, free-rest, refused-tells, all-chosen, above_all-le, among-below, false-true, or-right}
+use Rattle.data_blocks.proofs.Chosen.{Adds, chosen-below, chosen-among, chosen-rising, chosen-more, free-chosen, free-rest, refused-tells, all-chosen, above_all-le, among-below, or-right}
+use Rattle.std.proofs.Math.Bool.{and-true}
 
 -- the fields keep their facts where the numbers do
 pub kept : (words : List ℕ) (limit held spare grown : ℕ) → limit ≤ 64 * length words → held ≡ length (set_below words limit) → 1 ≤ limit → limit ≤ 4096 →
@@ -72,9 +73,6 @@ max-zero a = omega arith
 
 off : (a b : Bool) → b ≡ true → (a && not b) ≡ false
 off a b e = rw e (elim a as (λ v. (v && false) ≡ false) [ true ↦ refl | false ↦ refl ])
-
-and-on : (a : Bool) → (a && true) ≡ a
-and-on a = elim a as (λ v. (v && true) ≡ v) [ true ↦ refl | false ↦ refl ]
 
 -- ==== one block is taken
 
@@ -176,7 +174,7 @@ given-adds words words' limit held spare grown m g =
           t ∙ sym (ap (λ b. b || is_set words' j) (eqb-same m j e)))
           (λ (d : j ≢ m).
           let f = eqb-other m j d in
-          sym (rw (g.bits j, f) (and-on (is_set words j))))
+          sym (rw (g.bits j, f) (and-true (is_set words j))))
           (cases_eq j m);
     }
 
@@ -233,7 +231,7 @@ shrunk-end words limit held spare grown end k e =
     let b = k.sound.below m h in
     ⊎_elim
     (λ (l : m < end). l)
-    (λ (l : end ≤ m). absurd (false-true (sym (e.clear m l (omega arith)) ∙ sym (among-set words limit m b) ∙ h)))
+    (λ (l : end ≤ m). absurd (false≢true (sym (e.clear m l (omega arith)) ∙ sym (among-set words limit m b) ∙ h)))
     (cases_lt m end)) in
     ⊎_elim
     (λ (z : 0 < end).
@@ -271,5 +269,5 @@ empty-kept count limit w low high =
     let e = empty-none count limit in
     let n : length {A = ℕ} (replicate count 0) ≡ count = length-replicate count 0 in
     kept (replicate count 0) limit 0 0 0 (rw n w) (sym (ap length e)) low high (omega arith)
-    (λ m h. let b : is_among [] m ≡ true = sym (ap (λ xs. is_among xs m) e) ∙ h in absurd (false-true b))
+    (λ m h. let b : is_among [] m ≡ true = sym (ap (λ xs. is_among xs m) e) ∙ h in absurd (false≢true b))
     (omega arith)

@@ -5,7 +5,8 @@ use Rattle.tcmu_model.specs.Lists.{above_all}
 use Rattle.tcmu_model.specs.Events.{is_among}
 use Rattle.tcmu_model.specs.BlockLists.{free_from}
 use Rattle.data_blocks.specs.Held.{HeldBlocks, AreHeld, Took, Gave}
-use Rattle.data_blocks.proofs.Chosen.{among-here, among-there, false-true}
+use Rattle.data_blocks.proofs.Chosen.{among-here, among-there}
+use Rattle.std.proofs.lemmas.Bool.{false≢true}
 use Rattle.tcmu_model.proofs.Rises.{among-append}
 
 above_all-append : (xs ys : List ℕ) → above_all (xs ++ ys) ≡ max (above_all xs) (above_all ys)
@@ -85,7 +86,7 @@ gave-more b mid after xs x p q =
 pub still-held : (mid after : HeldBlocks) (x : ℕ) (xs : List ℕ) → Gave mid (x ∷ []) after → is_among xs x ≡ false → AreHeld mid.held xs → AreHeld after.held xs
 still-held mid after x [] g d h = tt
 still-held mid after x (y ∷ ys) g d h =
-    let n : y ≢ x = λ (e : y ≡ x). false-true (sym d ∙ among-here y ys x e) in
+    let n : y ≢ x = λ (e : y ≡ x). false≢true (sym d ∙ among-here y ys x e) in
     let o : is_among (x ∷ []) y ≡ false = among-there x [] y (λ (e : x ≡ y). n (sym e)) in
     let here : is_among after.held y ≡ true = g.held y ∙ ap (λ z. z && not (is_among (x ∷ []) y)) h.0 ∙ ap (λ z. not z) o in
     (here, h.1, still-held mid after x ys g (sym (among-there y ys x n) ∙ d) h.2)

@@ -14,6 +14,7 @@ use Rattle.tcmu_model.specs.declared.entry.EntryFault.{EntryFault}
 use Rattle.tcmu_model.specs.declared.entry.EntryFault.TheVariants.{BadLength, PastEnd, BadCount, CdbOutside, IovOutside}
 use Rattle.tcmu_model.proofs.Guards.{differs, is_same, is_below, not_below, is_most, not_most}
 use Rattle.mailbox_bytes.proofs.Exact.{kept, past}
+use Rattle.tcmu_model.proofs.EntriesThere.{least_eight}
 
 -- ==== the search for an iovec that lies outside
 
@@ -401,15 +402,6 @@ reads_exactly front area m at r h =
 
 least_is : (op n : ℕ) → op ≡ n → least_of op ≡ least_of n
 least_is op n h = ap least_of h
-
-least_eight : (op : ℕ) → 8 ≤ least_of op
-unfolding least_of
-least_eight op = eight (op == 1) (op == 2)
-  where
-    eight : (a b : Bool) → 8 ≤ cond a 112 (cond b 32 8)
-    eight true b = omega arith
-    eight false true = omega arith
-    eight false false = omega arith
 
 least_values : (least_of 1 ≡ 112) × (least_of 2 ≡ 32)
 unfolding least_of

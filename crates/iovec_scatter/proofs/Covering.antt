@@ -9,6 +9,7 @@ use Rattle.tcmu_types.specs.declared.iovec.Iov.{Iov}
 use Rattle.iovec_scatter.specs.Ends.{EachBelow, EndsAlong}
 use Rattle.tcmu_model.specs.Iovecs.{piece, joined, merged, iovs_along, EndBelow, total_of, along, payload_along, AreApart, Covers}
 use Rattle.iovec_scatter.specs.Growing.{grown, Ends, before}
+use Rattle.tcmu_model.proofs.Iovecs.{total_merged}
 
 touches : (a b : ℕ) → a == b ≡ true → a ≡ b
 touches a b test = grind (arith, nat_tests)
@@ -33,11 +34,6 @@ by_touch P e f fs touching away = cases ((e.base + e.len) == f.base) (λ t. touc
     cases : (b : Bool) → (b ≡ true → P (joined e f ∷ fs)) → (b ≡ false → P (e ∷ f ∷ fs)) → P (cond b (joined e f ∷ fs) (e ∷ f ∷ fs))
     cases true one other = one refl
     cases false one other = other refl
-
-total-merged : (e : Iov) (fs : List Iov) → total_of (merged e fs) ≡ e.len + total_of fs
-unfolding merged
-total-merged e [] = refl
-total-merged e (f ∷ fs) = by_touch (λ (xs : List Iov). total_of xs ≡ e.len + total_of (f ∷ fs)) e f fs (λ _. omega arith) (λ _. refl)
 
 along-merged : (bytes : List ℕ) (e : Iov) (fs : List Iov) → along bytes (merged e fs) ≡ take e.len (drop e.base bytes) ++ along bytes fs
 unfolding merged
@@ -81,7 +77,7 @@ unfolding iovs_along
 whole_total start size n [] h = omega (arith, h)
 whole_total start size n (b ∷ bs) h =
     let rest : total_of (iovs_along start size bs (n - size)) ≡ n - size = whole_total start size (n - size) bs (fewer size n (length bs) h) in
-    total-merged (piece start size b n) (iovs_along start size bs (n - size)) ∙ ap (λ (m : ℕ). min size n + m) rest ∙ both size n
+    total_merged (piece start size b n) (iovs_along start size bs (n - size)) ∙ ap (λ (m : ℕ). min size n + m) rest ∙ both size n
   where
     both : (s n : ℕ) → min s n + (n - s) ≡ n
     both s n = omega arith

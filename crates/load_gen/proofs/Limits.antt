@@ -10,6 +10,7 @@ use Rattle.tcmu_model.specs.Scenario.{with_name, is_dump, bytes_in, bytes_out, i
 use Rattle.tcmu_model.specs.ScenarioRules.{IsScenario, IsDeviceLine, IsLine}
 use Rattle.tcmu_model.specs.Load.{load_command, load_writes, load_place, load_count, load_fill, load_line, load_step, load_lines, load_device, load_config, load_settings, load_scenario_data, random_of}
 use Rattle.load_gen.proofs.Sendable.{IsLoad, write_is, read_is}
+use Rattle.tcmu_model.proofs.ScenarioLaws.{initiators_append}
 
 -- ==== commands
 
@@ -84,16 +85,12 @@ one_step : (d : ℕ) (names : List (List ℕ)) (i x : ℕ) (b : Bool) → IsOne 
 one_step d names i x true h = one_if (nat_eq 0 d) names _ h (one_named names (load_command i x).init (command_is i x).init h)
 one_step d names i x false h = one_if (nat_eq 0 d) names _ h (one_named names (load_command i x).init (command_is i x).init h)
 
-from_append : (d : ℕ) (names : List (List ℕ)) (ls ms : List LineData) → initiators_from d names (ls ++ ms) ≡ initiators_from d (initiators_from d names ls) ms
-from_append d names [] ms = refl
-from_append d names (l ∷ ls) ms = from_append d (with_initiator d names l) ls ms
-
 one_initiator : (d seed i : ℕ) → IsOne (initiators d (load_lines seed i))
 one_initiator d seed zero = rw (lines_none seed) (inl refl)
 one_initiator d seed (suc i) =
     let x = random_of seed (suc i) in
     let b = suc i % 16 == 0 in
-    let e : initiators d (load_lines seed (suc i)) ≡ initiators_from d (initiators d (load_lines seed i)) (submit_line (suc i) x ∷ drain_if b) = ap (initiators d) (lines_more seed i) ∙ from_append d [] (load_lines seed i) (submit_line (suc i) x ∷ drain_if b) in
+    let e : initiators d (load_lines seed (suc i)) ≡ initiators_from d (initiators d (load_lines seed i)) (submit_line (suc i) x ∷ drain_if b) = ap (initiators d) (lines_more seed i) ∙ initiators_append d [] (load_lines seed i) (submit_line (suc i) x ∷ drain_if b) in
     subst IsOne (sym e) (one_step d (initiators d (load_lines seed i)) (suc i) x b (one_initiator d seed i))
 
 one_few : (names : List (List ℕ)) → IsOne names → length names ≤ 16

@@ -27,6 +27,7 @@ use Rattle.ring_laws.proofs.CleanedAll.{cleaned-at, get-take}
 use Rattle.ring_laws.proofs.CleanedRecords.{target_cleaned_keeps}
 use Rattle.ring_laws.proofs.SameJobs.{HasSame, given_same, outs_same}
 use Rattle.ring_laws.proofs.AnswerBlocks.{differ-right}
+use Rattle.tcmu_types.proofs.Places.{get_taken}
 
 -- ==== the commands that are left
 
@@ -132,12 +133,6 @@ lists_cleaned d lists sound h =
 
 -- ==== the blocks
 
-front-within : {X : Type 0} (xs : List X) (n b : ℕ) (x : X) → slice_get (take n xs) b ≡ Some x → slice_get xs b ≡ Some x
-front-within xs zero b x h = absurd (cc)
-front-within [] (suc n) b x h = absurd (cc)
-front-within (y ∷ ys) (suc n) zero x h = h
-front-within (y ∷ ys) (suc n) (suc b) x h = front-within ys n b x h
-
 -- all commands that are left keep their blocks in an area that ends behind the highest of them
 shrunk-stand : (size : ℕ) (area : List (Option (List ℕ))) (lists : List Taken) (n : ℕ) (us : List Unfinished) → ((b : ℕ) → is_among (held_by lists us) b ≡ true → b < n) → Every (BlocksOf size area lists) us → Every (BlocksOf size (take n area) lists) us
 shrunk-stand size area lists n [] low e = tt
@@ -161,7 +156,7 @@ blocks_cleaned r t d lists h =
     let held : blocks_held (target_cleaned r t).rows ≡ held_by lists us = held-same (target_cleaned r t) (after_clean d) lists (target_cleaned_keeps r t d lists h) in
     let low : (b : ℕ) → is_among (held_by lists us) b ≡ true → b < n = λ b k. subst (λ (z : ℕ). b < z) (ap above_all (sym held)) (among_every (λ x. x < above_all (held_by lists us)) (held_by lists us) b (covered (held_by lists us)) k) in
     let whole : BlocksStand r.blocks (after_clean d) lists = record { all = all; just = just } in
-    let less : BlocksStand (take n r.blocks) (after_clean d) lists = record { all = shrunk-stand size r.blocks lists n us low all; just = λ b l. just b (front-within r.blocks n b None l) } in
+    let less : BlocksStand (take n r.blocks) (after_clean d) lists = record { all = shrunk-stand size r.blocks lists n us low all; just = λ b l. just b (get_taken r.blocks n b None l) } in
     ⊎_elim
     (λ (k : eqb (length (target_cleaned r t).rows) (length t.rows) ≡ true). rw k whole)
     (λ (k : eqb (length (target_cleaned r t).rows) (length t.rows) ≡ false). rw k less)

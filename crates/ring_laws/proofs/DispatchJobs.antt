@@ -27,11 +27,12 @@ use Rattle.tcmu_model.proofs.Written.{length-zeros}
 use Rattle.ring_laws.specs.Dispatched.{CanDispatch, hand_dispatched}
 use Rattle.ring_laws.proofs.CleanedOne.{take-next}
 use Rattle.ring_laws.proofs.DispatchKept.{no_command}
-use Rattle.ring_laws.proofs.Lending.{gathered-taken, sizes-taken, length-taken}
+use Rattle.ring_laws.proofs.Lending.{gathered-taken, sizes-taken}
 use Rattle.ring_laws.proofs.NextCases.{by_next}
 use Rattle.ring_laws.proofs.Nexts.{Blocks, blocks_sent, sent_job}
 use Rattle.ring_laws.proofs.Sending.{Sends, sends, sent_is}
 use Rattle.ring_laws.proofs.TailMoved.{take_more}
+use Rattle.tcmu_model.proofs.Areas.{length-taken}
 
 -- ==== the job of the command
 

@@ -33,6 +33,7 @@ use Rattle.ring_laws.proofs.PassedItems.{Within, item_within, item_there}
 use Rattle.ring_laws.proofs.PlacedAnswers.{small_id}
 use Rattle.tcmu_model.specs.EntryWriting.{AreInside, IsRequest}
 use Rattle.tcmu_model.proofs.EntriesThere.{request_there}
+use Rattle.tcmu_model.proofs.Iovecs.{total_merged}
 use Rattle.tcmu_model.proofs.PartLengths.{length-iovs}
 
 -- ==== the iovecs lie in the area
@@ -85,15 +86,6 @@ inside_along start size high (b ∷ bs) n e =
     (inside_along start size high bs (n - size) e.1)
 
 -- ==== how many bytes they name
-
-total_merged : (iov : Iov) (iovs : List Iov) → total_of (merged iov iovs) ≡ iov.len + total_of iovs
-unfolding merged
-total_merged iov [] = refl
-total_merged iov (next ∷ iovs) =
-    ⊎_elim
-    (λ (k : eqb (iov.base + iov.len) next.base ≡ true). rw k (omega arith))
-    (λ (k : eqb (iov.base + iov.len) next.base ≡ false). rw k refl)
-    (cases_Bool (eqb (iov.base + iov.len) next.base))
 
 pub total_along : (start size : ℕ) (bs : List ℕ) (n : ℕ) → n ≤ size * length bs → total_of (iovs_along start size bs n) ≡ n
 unfolding iovs_along

@@ -12,6 +12,7 @@ use Rattle.tcmu_model.specs.Areas.{block_bytes, bytes_along, IsHome, IsLent}
 use Rattle.tcmu_model.specs.Regions.{home, is_home, starts_block, are_whole, can_take, taken, without, HaveSize}
 use Rattle.ring_laws.proofs.Scatter.{get-set_other, get-set_same, here-other, along-same}
 use Rattle.ring_laws.proofs.AnswerData.{set-leaves}
+use Rattle.tcmu_model.proofs.Areas.{length-taken}
 
 -- ==== the iovecs are whole
 
@@ -95,10 +96,6 @@ sizes-taken size area [] d e = tt
 sizes-taken size area (b ∷ bs) d e =
     let i = e.0 in
     (ap (λ (o : Option (Option (List ℕ))). length (unwrap_or (home o) [])) i.1 ∙ i.2, sizes-taken size (set area b None) bs d.1 (here-other size area b None bs d.0 e.1))
-
-pub length-taken : (area : List (Option (List ℕ))) (bs : List ℕ) → length (taken area bs) ≡ length bs
-length-taken area [] = refl
-length-taken area (b ∷ bs) = ap suc (length-taken (set area b None) bs)
 
 -- other blocks stay
 pub without-other : (area : List (Option (List ℕ))) (bs : List ℕ) (b : ℕ) → is_among bs b ≡ false → slice_get (without area bs) b ≡ slice_get area b

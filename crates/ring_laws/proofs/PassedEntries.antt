@@ -1,6 +1,7 @@
 -- What entries and mailboxes that read without a fault keep, over any bytes.
 use Rattle.std.proofs.Common.{◌≡◌, ◌≢◌, ℕ, ◌+◌, ◌-◌, ◌*◌, ◌%◌, ◌<◌, ◌≤◌, Bool, true, false, not, cond, eqb, ltb, leb, ◌==◌, List, length, Option, Some, None, Result, Ok, Err, refl, ap, ◌∙◌, arith, subst, ⊎_elim}
 use Rattle.std.proofs.lemmas.Bool.{cases_Bool, eqb-true, eqb-false}
+use Rattle.tcmu_model.proofs.EntriesThere.{least_eight}
 use Rattle.tcmu_model.specs.declared.mailbox.Mailbox.{Mailbox}
 use Rattle.tcmu_model.specs.declared.mailbox.MailboxFault.{MailboxFault}
 use Rattle.tcmu_model.specs.declared.mailbox.MailboxFault.TheVariants as mailbox
@@ -105,18 +106,6 @@ record OfKind (front : List ℕ) (b op len : ℕ) (e : EntryRef) : Type 0 where
   least : least_told e ≤ least_of op
   unknown : op ≡ op_at front b → IsUnknownAt front b e
 
-small_least : (op : ℕ) → 8 ≤ least_of op
-unfolding least_of
-small_least op =
-    ⊎_elim
-    (λ (a : eqb op 1 ≡ true). rw a (omega arith))
-    (λ (a : eqb op 1 ≡ false).
-    ⊎_elim
-    (λ (b : eqb op 2 ≡ true). rw (a, b) (omega arith))
-    (λ (b : eqb op 2 ≡ false). rw (a, b) (omega arith))
-    (cases_Bool (eqb op 2)))
-    (cases_Bool (eqb op 1))
-
 command_least : (op : ℕ) → eqb op 1 ≡ true → least_of op ≡ 112
 unfolding least_of
 command_least op z = rw z refl
@@ -148,7 +137,7 @@ unfolding tmr_read
 of_tmr front b op len e h =
     let g0 = guard_ok (ltb len (32 + 2 * id_cnt_at front b)) (fault.BadCount (id_cnt_at front b)) _ _ h in
     let s : entry.Tmr len (kind_at front b) (id_cnt_at front b) ≡ e = is_it (entry.Tmr len (kind_at front b) (id_cnt_at front b)) e g0.1 in
-    let k : OfKind front b op len (entry.Tmr len (kind_at front b) (id_cnt_at front b)) = record { same = refl; least = small_least op; unknown = λ z. tt } in
+    let k : OfKind front b op len (entry.Tmr len (kind_at front b) (id_cnt_at front b)) = record { same = refl; least = least_eight op; unknown = λ z. tt } in
     subst (λ (y : EntryRef). OfKind front b op len y) s k
   where
     is_it : (x y : EntryRef) → ◌≡◌ {A = Result EntryRef EntryFault} (Ok x) (Ok y) → x ≡ y
@@ -167,7 +156,7 @@ of_kind front area start b op len e h = by_pad (op == 0) refl h
         let a : op ≢ 0 = eqb-false op 0 x in
         let c : op ≢ 1 = eqb-false op 1 y in
         let d : op ≢ 2 = eqb-false op 2 z in
-        let k : OfKind front b op len (entry.Unknown op len) = record { same = refl; least = small_least op; unknown = λ w. omega (arith, a, c, d, w) } in
+        let k : OfKind front b op len (entry.Unknown op len) = record { same = refl; least = least_eight op; unknown = λ w. omega (arith, a, c, d, w) } in
         subst (λ (v : EntryRef). OfKind front b op len v) (is_it (entry.Unknown op len) e q) k
 
     by_command : (t : Bool) → (op == 0) ≡ false → (op == 1) ≡ t → cond t (command_read front area start b len) (cond (op == 2) (tmr_read front b len) (Ok (entry.Unknown op len))) ≡ Ok e → OfKind front b op len e
@@ -176,7 +165,7 @@ of_kind front area start b op len e h = by_pad (op == 0) refl h
 
     by_pad : (t : Bool) → (op == 0) ≡ t → cond t (Ok (entry.Pad len)) (cond (op == 1) (command_read front area start b len) (cond (op == 2) (tmr_read front b len) (Ok (entry.Unknown op len)))) ≡ Ok e → OfKind front b op len e
     by_pad true x q =
-        let k : OfKind front b op len (entry.Pad len) = record { same = refl; least = small_least op; unknown = λ w. tt } in
+        let k : OfKind front b op len (entry.Pad len) = record { same = refl; least = least_eight op; unknown = λ w. tt } in
         subst (λ (v : EntryRef). OfKind front b op len v) (is_it (entry.Pad len) e q) k
     by_pad false x q = by_command (op == 1) x refl q
 

@@ -34,6 +34,7 @@ use Rattle.tcmu_model.proofs.Written.{length-zeros}
 use Rattle.ring_laws.specs.Restarted.{region_restarted, region_with_hand}
 use Rattle.ring_laws.specs.Sizes.{IsSized}
 use Rattle.ring_laws.proofs.AnswerData.{sizes-scattered}
+use Rattle.tcmu_model.proofs.Areas.{sized-take}
 
 -- ==== bytes written along blocks, and an area that grows
 
@@ -61,12 +62,6 @@ sized_grown size (None ∷ area) n h = sized_grown size area n h
 sized_grown size (Some block ∷ area) n h = (h.0, sized_grown size area n h.1)
 
 -- ==== an area that shrinks, blocks that are lent
-
-sized_take : (size n : ℕ) (area : List (Option (List ℕ))) → AreSized size area → AreSized size (take n area)
-sized_take size zero area h = tt
-sized_take size (suc n) [] h = tt
-sized_take size (suc n) (None ∷ area) h = sized_take size n area h
-sized_take size (suc n) (Some block ∷ area) h = (h.0, sized_take size n area h.1)
 
 sized_set : (size : ℕ) (area : List (Option (List ℕ))) (n : ℕ) (o : Option (List ℕ)) → AreSized size (o ∷ []) → AreSized size area → AreSized size (set area n o)
 sized_set size [] n o k h = tt
@@ -267,7 +262,7 @@ unfolding region_cleaned
 sized_cleaned r t h =
     ⊎_elim
     (λ (e : eqb (length (target_cleaned r t).rows) (length t.rows) ≡ true). rw e h)
-    (λ (e : eqb (length (target_cleaned r t).rows) (length t.rows) ≡ false). rw e (sized_take (block_size r.pages) (above_all (blocks_held (target_cleaned r t).rows)) r.blocks h))
+    (λ (e : eqb (length (target_cleaned r t).rows) (length t.rows) ≡ false). rw e (sized-take (block_size r.pages) (above_all (blocks_held (target_cleaned r t).rows)) r.blocks h))
     (cases_Bool (eqb (length (target_cleaned r t).rows) (length t.rows)))
 
 pub sized_reset : (r : RegionState) → IsSized (region_reset r)

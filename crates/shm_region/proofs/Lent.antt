@@ -9,6 +9,7 @@ use Rattle.tcmu_types.specs.declared.iovec.Iov.{Iov}
 use Rattle.tcmu_model.specs.Regions.{RegionState, size_of, home, is_home, put_where, put_home, returned, HaveSize, can_take, taken, without, numbers_from, numbers_of, first_block, block_count, starts_block, are_whole, can_lend, named_by, StartsBlock, AreWhole, AreHome, IsOther, AreOnce, CanLend}
 use Rattle.shm_region.proofs.Sized.{set-set}
 use Rattle.std.proofs.lemmas.Bool.{and_from, and_parts}
+use Rattle.tcmu_model.proofs.Areas.{length-taken}
 
 pub home_some : (o : Option (Option (List ℕ))) (p : List ℕ) → home o ≡ Some p → o ≡ Some (Some p)
 home_some None p h = cc
@@ -407,10 +408,6 @@ first_room start size i iovs d f k inside f_is k_is =
     ap length (split_first start size i iovs d f k inside f_is k_is)
     ∙ length-append (numbers_from f k) (numbers_of start size (drop (i + 1) iovs))
     ∙ ap (λ (n : ℕ). n + length (numbers_of start size (drop (i + 1) iovs))) (length-numbers f k)
-
-pub length-taken : (xs : List (Option (List ℕ))) (ns : List ℕ) → length (taken xs ns) ≡ length ns
-length-taken xs [] = refl
-length-taken xs (n ∷ ns) = ap suc (length-taken (set xs n None) ns)
 
 pub second_true : (a b : Bool) → a && b ≡ true → b ≡ true
 second_true a b h = (and_parts a b h).1

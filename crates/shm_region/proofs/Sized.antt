@@ -1,14 +1,9 @@
 -- Blocks keep their size.
 use Rattle.std.proofs.Common.{◌≡◌, ℕ, zero, suc, ◌+◌, ◌*◌, ◌^◌, ◌<◌, List, [], ◌∷◌, ◌++◌, length, take, set, get_or, Bool, true, false, cond, IfSome, length-append, Option, Some, None, refl, ap, ◌∙◌, sym, arith}
 use Rattle.std.specs.Prelude.{slice_get}
+use Rattle.tcmu_model.proofs.Areas.{sized-take}
 use Rattle.tcmu_model.specs.Layout.{zeros}
 use Rattle.tcmu_model.specs.Regions.{AreSized, IsRegion, RegionState, size_of, cleared, home}
-
-pub sized-take : (size n : ℕ) (xs : List (Option (List ℕ))) → AreSized size xs → AreSized size (take n xs)
-sized-take size zero xs h = tt
-sized-take size (suc n) [] h = tt
-sized-take size (suc n) (None ∷ xs) h = sized-take size n xs h
-sized-take size (suc n) (Some b ∷ xs) h = (h.0, sized-take size n xs h.1)
 
 pub sized-set-none : (size k : ℕ) (xs : List (Option (List ℕ))) → AreSized size xs → AreSized size (set xs k None)
 sized-set-none size k [] h = tt

@@ -5,7 +5,8 @@ use Rattle.std.specs.Option.{option_map}
 use Rattle.std.specs.List.Sorted.{IsPartitionPoint}
 use Rattle.std.proofs.lemmas.List.{get_or-set_same, get_or-set_other, get_or_append_left, length-set, map-append}
 use Rattle.std.proofs.lemmas.List.Folds.{list_any-append}
-use Rattle.std.proofs.lemmas.Bool.{cases_eq, cases_lt, cases_Bool, eqb-true, eqb-false, or_parts}
+use Rattle.std.proofs.lemmas.Bool.{cases_eq, cases_lt, cases_Bool, eqb-true, eqb-false, or_parts, false≢true}
+use Rattle.std.proofs.lemmas.Option.{none-some}
 use Rattle.tcmu_model.specs.Lists.{first_of, without_first, with_first}
 use Rattle.tcmu_model.specs.Events.{is_among}
 use Rattle.tcmu_model.specs.Pending.{PendingData}
@@ -13,11 +14,8 @@ use Rattle.target_table.specs.declared.table.Ranked.{Ranked}
 use Rattle.target_table.specs.Rows.{Row, TableData, has_id, is_waiting, id_of, pending_of, with_expired, AllPrecede, IdsDiffer, IsTable, ExpiredFirst, without, without_found}
 use Rattle.target_table.specs.Kept.{place_of, at_id, or_none, row_at, rows_of, Stands, AllStand, is_ranked, IsFree, IsDistinct, IsKept}
 use Rattle.target_table.proofs.Ordered.{order-added, ids-added, differ-added, expired-added, order-without, ids-without, differ-without, length-without, some-expired, expired-without, waiting-without, order-expired, ids-expired, differ-expired, length-expired, expired-more, expired-most, first-any, or-true, eqb-not}
-use Rattle.target_table.proofs.Places.{row_of, row-found, any-row, there, length-rows, false-true, eqb-self, at-one, rank-of, none-id}
+use Rattle.target_table.proofs.Places.{row_of, row-found, any-row, there, length-rows, eqb-self, at-one, rank-of}
 use Rattle.tcmu_model.proofs.Rises.{among-append}
-
-pub none-some : {p : PendingData} → ◌≡◌ {A = Option PendingData} None (Some p) → ⊥
-none-some h = cc
 
 -- ==== other places
 
@@ -93,7 +91,7 @@ stand-append places (x ∷ xs) o s h = (s.0, stand-append places xs o s.1 h)
 pub free-unranked : (places : List (Option PendingData)) (order : List Ranked) (id : ℕ) → AllStand places order → IsFree places id → is_ranked order id ≡ false
 free-unranked places order id s f =
     ⊎_elim
-    (λ (t : is_ranked order id ≡ true). absurd (none-some (sym f.free ∙ (there places order id s t).here)))
+    (λ (t : is_ranked order id ≡ true). absurd (none-some _ (sym f.free ∙ (there places order id s t).here)))
     (λ (n : is_ranked order id ≡ false). n)
     (cases_Bool (is_ranked order id))
 
@@ -119,7 +117,7 @@ added-same places free rest order expired id p a other t =
     let f = added-free places free rest order expired id p a in
     let u = free-unranked places order id a.kept.stand f in
     let o = there places order other a.kept.stand t in
-    place-other places id other (Some p) f.low o.low (λ (e : other ≡ id). false-true (sym u ∙ ap (is_ranked order) (sym e) ∙ t))
+    place-other places id other (Some p) f.low o.low (λ (e : other ≡ id). false≢true (sym u ∙ ap (is_ranked order) (sym e) ∙ t))
 
 pub added-rows : (places : List (Option PendingData)) (free rest : List ℕ) (order : List Ranked) (expired id : ℕ) (p : PendingData) → Adding places free rest order expired id p →
     rows_of (slice_set places (id - 1) (Some p)) (order ++ record { serial = p.serial; id = id } ∷ []) ≡ rows_of places order ++ record { id = id; pending = p } ∷ []
@@ -172,7 +170,7 @@ added-kept places free rest order expired id p a =
           record {
             low = w.low;
             high = omega arith;
-            free = place-other places id other (Some p) f.low w.low (λ (e : other ≡ id). false-true (sym d.1 ∙ ap (is_among rest) (sym e) ∙ g)) ∙ w.free;
+            free = place-other places id other (Some p) f.low w.low (λ (e : other ≡ id). false≢true (sym d.1 ∙ ap (is_among rest) (sym e) ∙ g)) ∙ w.free;
           };
       once = d.0;
       counted = omega arith;
@@ -257,7 +255,7 @@ pub record Taking (places : List (Option PendingData)) (free : List ℕ) (order 
 pub taken-low : (places : List (Option PendingData)) (free : List ℕ) (order : List Ranked) (expired id : ℕ) (p : PendingData) → Taking places free order expired id p → 1 ≤ id
 taken-low places free order expired id p t =
     ⊎_elim
-    (λ (z : id ≡ 0). absurd (none-some (sym (ap (at_id places) z) ∙ t.found)))
+    (λ (z : id ≡ 0). absurd (none-some _ (sym (ap (at_id places) z) ∙ t.found)))
     (λ (d : id ≢ 0). omega arith)
     (cases_eq id 0)
 
@@ -288,7 +286,7 @@ taken-same places free order expired id p t other h =
     let g = gone places order id t.kept.sound.differ in
     let o = there places order other t.kept.stand (ranked-still order id other h) in
     place-other places id other None (taken-low places free order expired id p t) o.low
-    (λ (e : other ≡ id). false-true (sym g ∙ ap (is_ranked (without_first (λ o. o.id == id) order)) (sym e) ∙ h))
+    (λ (e : other ≡ id). false≢true (sym g ∙ ap (is_ranked (without_first (λ o. o.id == id) order)) (sym e) ∙ h))
 
 pub taken-rows : (places : List (Option PendingData)) (free : List ℕ) (order : List Ranked) (expired id : ℕ) (p : PendingData) → Taking places free order expired id p →
     rows_of (slice_set places (id - 1) None) (without_first (λ o. o.id == id) order) ≡ without_first (has_id id) (rows_of places order)
@@ -329,24 +327,24 @@ taken-kept places free order expired id p t =
     let m = k.most in
     let not_free : is_among free id ≡ false =
     ⊎_elim
-    (λ (x : is_among free id ≡ true). absurd (none-some (sym (k.are_free id x).free ∙ taken-here places free order expired id p t)))
+    (λ (x : is_among free id ≡ true). absurd (none-some _ (sym (k.are_free id x).free ∙ taken-here places free order expired id p t)))
     (λ (x : is_among free id ≡ false). x)
     (cases_Bool (is_among free id)) in
     let P : List Row → Type 0 = λ xs. IsTable (record { rows = xs; expired = less p.expired expired; spare = length (free ++ id ∷ []) }) in
     record {
       stand = stand-same places places' order' (omega arith) same (stand-without places order id k.stand);
       ranked = λ other q l g.
-          let d : other ≢ id = λ (e : other ≡ id). none-some (sym empty ∙ sym (ap (place_of places') e) ∙ g) in
+          let d : other ≢ id = λ (e : other ≡ id). none-some _ (sym empty ∙ sym (ap (place_of places') e) ∙ g) in
           ranked-without order id other d ∙ k.ranked other q l (sym (place-other places id other None low l d) ∙ g);
       are_free = λ other g.
           ⊎_elim
           (λ (x : is_among free other ≡ true).
           let w = k.are_free other x in
           let h = w.high in
-          let d : other ≢ id = λ (e : other ≡ id). false-true (sym not_free ∙ sym (ap (is_among free) e) ∙ x) in
+          let d : other ≢ id = λ (e : other ≡ id). false≢true (sym not_free ∙ sym (ap (is_among free) e) ∙ x) in
           record { low = w.low; high = omega arith; free = place-other places id other None low w.low d ∙ w.free })
           (λ (x : is_among (id ∷ []) other ≡ true).
-          let e : id ≡ other = ⊎_elim (λ (y : (id == other) ≡ true). eqb-true id other y) (λ (y : false ≡ true). absurd (false-true y)) (or-case (id == other) false x) in
+          let e : id ≡ other = ⊎_elim (λ (y : (id == other) ≡ true). eqb-true id other y) (λ (y : false ≡ true). absurd (false≢true y)) (or-case (id == other) false x) in
           record { low = omega arith; high = omega arith; free = ap (place_of places') (sym e) ∙ empty })
           (or-case (is_among free other) (is_among (id ∷ []) other) (sym (among-append free (id ∷ []) other) ∙ g));
       once = distinct-more free id k.once not_free;
@@ -412,7 +410,7 @@ same-others : (places places' : List (Option PendingData)) (os : List Ranked) (i
     ((other : ℕ) → 1 ≤ other → other ≢ id → place_of places' other ≡ place_of places other) → Same places places' os
 unfolding Same
 same-others places places' os id s n others other t =
-    others other (there places os other s t).low (λ (e : other ≡ id). false-true (sym n ∙ sym (ap (is_ranked os) e) ∙ t))
+    others other (there places os other s t).low (λ (e : other ≡ id). false≢true (sym n ∙ sym (ap (is_ranked os) e) ∙ t))
 
 row-expired : (places places' : List (Option PendingData)) (order : List Ranked) (id : ℕ) (p : PendingData) → AllStand places order → IdsDiffer (rows_of places order) →
     place_of places id ≡ Some p → place_of places' id ≡ Some (record p { expired = true }) → ((other : ℕ) → 1 ≤ other → other ≢ id → place_of places' other ≡ place_of places other) →
@@ -443,7 +441,7 @@ expired-rows places places' free order expired id p x =
 
 expired-one : (n id : ℕ) (rows : List Row) (found : Option Row) → first_of is_waiting rows ≡ found → id_of found ≡ Some id → ExpiredFirst n rows → IdsDiffer rows →
     ExpiredFirst (n + 1) (with_first (has_id id) with_expired rows)
-expired-one n id rows None f h e d = absurd (none-id h)
+expired-one n id rows None f h e d = absurd (none-some _ h)
 expired-one n id rows (Some r) f h e d =
     let i : r.id ≡ id = cc in
     let P : ℕ → Type 0 = λ j. ExpiredFirst (n + 1) (with_first (has_id j) with_expired rows) in
@@ -504,7 +502,7 @@ expired-kept places places' free order expired id p x =
       are_free = λ other g.
           let w = k.are_free other g in
           let h = w.high in
-          let d : other ≢ id = λ (e : other ≡ id). none-some (sym w.free ∙ ap (place_of places) e ∙ was) in
+          let d : other ≢ id = λ (e : other ≡ id). none-some _ (sym w.free ∙ ap (place_of places) e ∙ was) in
           record { low = w.low; high = omega arith; free = x.others other w.low d ∙ w.free };
       once = k.once;
       counted = omega arith;
@@ -521,7 +519,7 @@ expired-kept places places' free order expired id p x =
 
 -- the first that is not expired is there
 waiting-ranked : (places : List (Option PendingData)) (order : List Ranked) (id : ℕ) (found : Option Row) → first_of is_waiting (rows_of places order) ≡ found → id_of found ≡ Some id → is_ranked order id ≡ true
-waiting-ranked places order id None f h = absurd (none-id h)
+waiting-ranked places order id None f h = absurd (none-some _ h)
 waiting-ranked places order id (Some r) f h =
     let i : r.id ≡ id = cc in
     sym (any-row places order id) ∙ ap (λ n. list_any (has_id n) (rows_of places order)) (sym i) ∙ first-any is_waiting (rows_of places order) r f
@@ -585,7 +583,7 @@ new-empty : (places : List (Option PendingData)) (id : ℕ) (p : PendingData) �
 new-empty places id p l h =
     ⊎_elim
     (λ (w : id - 1 < length places). sym (get_or_append_left places (None ∷ []) None (id - 1) w) ∙ h)
-    (λ (w : length places ≤ id - 1). absurd (none-some (sym (past-none places (id - 1) w) ∙ h)))
+    (λ (w : length places ≤ id - 1). absurd (none-some _ (sym (past-none places (id - 1) w) ∙ h)))
     (cases_lt (id - 1) (length places))
 
 pub new-kept : (places : List (Option PendingData)) (order : List Ranked) (expired : ℕ) → IsKept places [] order expired → length places < 65535 →
@@ -599,7 +597,7 @@ new-kept places order expired k l =
       stand = stand-same places (places ++ None ∷ []) order (omega arith) (new-same places order k.stand) k.stand;
       ranked = λ id p low h. k.ranked id p low (new-empty places id p low h);
       are_free = λ id h.
-          let e : length places + 1 ≡ id = ⊎_elim (λ (y : (length places + 1 == id) ≡ true). eqb-true (length places + 1) id y) (λ (y : false ≡ true). absurd (false-true y)) (or-case (length places + 1 == id) false h) in
+          let e : length places + 1 ≡ id = ⊎_elim (λ (y : (length places + 1 == id) ≡ true). eqb-true (length places + 1) id y) (λ (y : false ≡ true). absurd (false≢true y)) (or-case (length places + 1 == id) false h) in
           record { low = omega arith; high = omega arith; free = past-none places (id - 1) (omega arith) };
       once = (refl, tt);
       counted = omega arith;

@@ -2,6 +2,7 @@
 use Rattle.std.proofs.Common.{◌≡◌, ◌≢◌, ℕ, ◌+◌, ◌-◌, ◌≤◌, ⊎_elim, Bool, true, false, not, ◌&&◌, ◌||◌, ◌==◌, List, [], ◌∷◌, ◌++◌, length, slice_get, Option, Some, None, refl, sym, ap, subst, ◌∙◌, arith, suc, zero}
 use Rattle.std.specs.List.{list_any}
 use Rattle.std.proofs.lemmas.Bool.{cases_Bool, eqb-false, or_parts}
+use Rattle.std.proofs.Math.Bool.{and-false}
 use Rattle.tcmu_model.specs.Lists.{first_of, without_first, with_first}
 use Rattle.tcmu_model.specs.Pending.{PendingData}
 use Rattle.target_table.specs.Rows.{Row, has_id, is_waiting, is_due, has_passed, with_expired, NotAfter, Precedes, AllPrecede, PrecedesAll, AreInOrder, IdsDiffer, AreIds, ExpiredFirst}
@@ -30,14 +31,11 @@ passed-later now (Some a) (Some b) h f = grind arith
 passed-later now None (Some b) h f = absurd h
 passed-later now (Some a) None h f = absurd h
 
-and-no : (b : Bool) → (b && false) ≡ false
-and-no b = elim b as (λ v. (v && false) ≡ false) [ true ↦ refl | false ↦ refl ]
-
 none-due : (now : ℕ) (r : Row) (rs : List Row) → PrecedesAll r rs → has_passed now r.pending.deadline ≡ false → first_of (is_due now) rs ≡ None
 none-due now r [] h f = refl
 none-due now r (x ∷ xs) h f =
     let g = passed-later now r.pending.deadline x.pending.deadline h.0.deadline f in
-    let e : is_due now x ≡ false = ap (λ b. is_waiting x && b) g ∙ and-no (is_waiting x) in
+    let e : is_due now x ≡ false = ap (λ b. is_waiting x && b) g ∙ and-false (is_waiting x) in
     rw e (none-due now r xs h.1 f)
 
 expired-not-due : (now : ℕ) (r : Row) → r.pending.expired ≡ true → is_due now r ≡ false
@@ -66,7 +64,7 @@ due-later now zero [] r e o g p = refl
 due-later now zero (x ∷ xs) r e o g p =
     let s : x ≡ r = cc in
     let q : has_passed now x.pending.deadline ≡ false = ap (λ z. has_passed now z.pending.deadline) s ∙ p in
-    let d : is_due now x ≡ false = ap (λ b. is_waiting x && b) q ∙ and-no (is_waiting x) in
+    let d : is_due now x ≡ false = ap (λ b. is_waiting x && b) q ∙ and-false (is_waiting x) in
     rw d (none-due now x xs o.0 q)
 due-later now (suc n) [] r e o g p = refl
 due-later now (suc n) (x ∷ xs) r e o g p = rw (expired-not-due now x e.0) (due-later now n xs r e.1 o.1 g p)

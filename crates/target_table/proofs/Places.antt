@@ -3,17 +3,15 @@ use Rattle.std.proofs.Common.{◌≡◌, ◌≢◌, ℕ, ◌-◌, ◌≤◌, ◌
 use Rattle.std.specs.List.{list_any}
 use Rattle.std.specs.Option.{option_map, IfNone}
 use Rattle.std.proofs.lemmas.List.{get_or_past, set-get_or}
-use Rattle.std.proofs.lemmas.Bool.{cases_eq, cases_Bool, eqb-true, leb-true}
+use Rattle.std.proofs.lemmas.Bool.{cases_eq, cases_Bool, eqb-true, leb-true, false≢true}
 use Rattle.tcmu_model.specs.Lists.{first_of, without_first}
 use Rattle.tcmu_model.specs.Pending.{PendingData}
 use Rattle.target_table.specs.declared.table.Ranked.{Ranked}
 use Rattle.std.specs.List.Sorted.{IsNonDecreasingBy, IsPartitionPoint}
+use Rattle.std.proofs.lemmas.Option.{none-some}
 use Rattle.target_table.specs.Rows.{Row, has_id, has_passed, is_due, is_behind, id_of, pending_of, PrecedesAll, AreInOrder, ExpiredFirst}
 use Rattle.target_table.proofs.Ordered.{due-none, due-some, due-later, or-true, eqb-not}
 use Rattle.target_table.specs.Kept.{place_of, at_id, or_none, row_at, rows_of, Stands, AllStand, is_ranked}
-
-pub false-true : false ≡ true → ⊥
-false-true h = cc
 
 no-rank : {o : Ranked} → ◌≡◌ {A = Option Ranked} None (Some o) → ⊥
 no-rank h = cc
@@ -31,7 +29,7 @@ abbrev pub row_of : List (Option PendingData) → ℕ → Row
 row_of places id = record { id = id; pending = or_none (place_of places id) }
 
 pub row-found : (places : List (Option PendingData)) (order : List Ranked) (id : ℕ) → is_ranked order id ≡ true → first_of (has_id id) (rows_of places order) ≡ Some (row_of places id)
-row-found places [] id h = absurd (false-true h)
+row-found places [] id h = absurd (false≢true h)
 row-found places (o ∷ os) id h =
     ⊎_elim
     (λ (t : (o.id == id) ≡ true). rw t (ap (λ n. Some (row_of places n)) (eqb-true o.id id t)))
@@ -42,7 +40,7 @@ pub row-missing : (places : List (Option PendingData)) (order : List Ranked) (id
 row-missing places [] id h = refl
 row-missing places (o ∷ os) id h =
     ⊎_elim
-    (λ (t : (o.id == id) ≡ true). absurd (false-true (sym h ∙ ap (λ b. b || is_ranked os id) t)))
+    (λ (t : (o.id == id) ≡ true). absurd (false≢true (sym h ∙ ap (λ b. b || is_ranked os id) t)))
     (λ (f : (o.id == id) ≡ false). rw f (row-missing places os id (rw f at h)))
     (cases_Bool (o.id == id))
 
@@ -57,7 +55,7 @@ pub record IsThere (places : List (Option PendingData)) (id : ℕ) : Type 0 wher
   pub here : place_of places id ≡ Some (or_none (place_of places id))
 
 pub there : (places : List (Option PendingData)) (order : List Ranked) (id : ℕ) → AllStand places order → is_ranked order id ≡ true → IsThere places id
-there places [] id s h = absurd (false-true h)
+there places [] id s h = absurd (false≢true h)
 there places (o ∷ os) id s h =
     ⊎_elim
     (λ (t : (o.id == id) ≡ true).
@@ -84,7 +82,7 @@ place-tells places order id s r =
     ap (option_map (λ r. r.pending)) (row-found places order id t) ∙ sym ((there places order id s t).here))
     (λ (f : is_ranked order id ≡ false).
     ap (option_map (λ r. r.pending)) (row-missing places order id f)
-    ∙ sym (none-or (place_of places id) (λ p h. false-true (sym f ∙ r p h))))
+    ∙ sym (none-or (place_of places id) (λ p h. false≢true (sym f ∙ r p h))))
     (cases_Bool (is_ranked order id))
 
 pub at-past : (places : List (Option PendingData)) (id : ℕ) → length places < id → at_id places id ≡ None
@@ -131,9 +129,6 @@ rank-stands places (x ∷ xs) (suc n) o s h =
 some-none : {n : ℕ} → ◌≡◌ {A = Option ℕ} (Some n) None → ⊥
 some-none h = cc
 
-pub none-id : {n : ℕ} → ◌≡◌ {A = Option ℕ} None (Some n) → ⊥
-none-id h = cc
-
 -- ==== the first that is not expired
 
 pub rank-none : (order : List Ranked) (n : ℕ) → option_map (λ o. o.id) (slice_get order n) ≡ None → length order ≤ n
@@ -142,7 +137,7 @@ rank-none (x ∷ xs) zero h = absurd (some-none h)
 rank-none (x ∷ xs) (suc n) h = let i = rank-none xs n h in omega arith
 
 pub rank-some : (order : List Ranked) (n id : ℕ) → option_map (λ o. o.id) (slice_get order n) ≡ Some id → (o : Ranked) × (slice_get order n ≡ Some o) × (o.id ≡ id)
-rank-some [] n id h = absurd (none-id h)
+rank-some [] n id h = absurd (none-some _ h)
 rank-some (x ∷ xs) zero id h = (x, refl, (cc))
 rank-some (x ∷ xs) (suc n) id h = rank-some xs n id h
 
@@ -227,7 +222,7 @@ behind-first places (o ∷ os) serial (suc rank) s p =
 
 -- the command of an id stands behind what comes before all
 precedes-id : (places : List (Option PendingData)) (r : Row) (os : List Ranked) (id : ℕ) → PrecedesAll r (rows_of places os) → is_ranked os id ≡ true → r.pending.serial < (or_none (place_of places id)).serial
-precedes-id places r [] id p h = absurd (false-true h)
+precedes-id places r [] id p h = absurd (false≢true h)
 precedes-id places r (o ∷ os) id p h =
     ⊎_elim
     (λ (t : (o.id == id) ≡ true). let e = ap (λ n. (or_none (place_of places n)).serial) (eqb-true o.id id t) in let b = p.0.serial in omega arith)
@@ -257,7 +252,7 @@ pub rank-of : (places : List (Option PendingData)) (order : List Ranked) (id ran
     rank ≤ length order →
     IsPartitionPoint (λ o. nat_le o.serial (or_none (place_of places id)).serial ≡ true) (λ o. nat_le o.serial (or_none (place_of places id)).serial ≡ false) order rank →
     (k : ℕ) × RankOf order id rank k
-rank-of places [] id rank s p h l q = absurd (false-true h)
+rank-of places [] id rank s p h l q = absurd (false≢true h)
 rank-of places (o ∷ os) id zero s p h l q =
     let serial = (or_none (place_of places id)).serial in
     let f = q.1 0 o (omega arith) (omega arith) in

@@ -1,5 +1,5 @@
 -- An entry that stands in the ring is read as what was written.
-use Rattle.std.proofs.Common.{◌≡◌, ℕ, ◌+◌, ◌-◌, ◌*◌, ◌%◌, ◌^◌, ◌<◌, ◌≤◌, List, [], ◌∷◌, ◌++◌, length, drop, take, get_or, Some, None, Ok, true, false, nat_lt, nat_le, refl, ap, ◌∙◌, sym, arith, append_assoc, length-append, suc, zero}
+use Rattle.std.proofs.Common.{Bool, cond, ◌==◌, ◌≡◌, ℕ, ◌+◌, ◌-◌, ◌*◌, ◌%◌, ◌^◌, ◌<◌, ◌≤◌, List, [], ◌∷◌, ◌++◌, length, drop, take, get_or, Some, None, Ok, true, false, nat_lt, nat_le, refl, ap, ◌∙◌, sym, arith, append_assoc, length-append, suc, zero}
 use Rattle.std.specs.Prelude.{slice_index}
 use Rattle.std.proofs.lemmas.Bool.{le-ltb}
 use Rattle.std.proofs.lemmas.Bool.Decides.{nat_tests}
@@ -19,6 +19,16 @@ use Rattle.tcmu_model.proofs.PartLengths.{length-iovs_bytes, length-ids_bytes}
 use Rattle.byteorder.specs.Endian.{little_number}
 
 ruleset sizes = (lengths, length-entry_header, length-command_head)
+
+-- each kind of entry is at least a header long
+pub least_eight : (op : ℕ) → 8 ≤ least_of op
+unfolding least_of
+least_eight op = eight (op == 1) (op == 2)
+  where
+    eight : (a b : Bool) → 8 ≤ cond a 112 (cond b 32 8)
+    eight true b = omega arith
+    eight false true = omega arith
+    eight false false = omega arith
 
 -- a field behind a place is one of what stands there
 pub field_behind : (n b k : ℕ) (xs : List ℕ) → field n (b + k) xs ≡ field n k (drop b xs)

@@ -87,6 +87,13 @@ among-take zero xs s h = refl
 among-take (suc n) [] s h = refl
 among-take (suc n) (x ∷ xs) s h = let t = or_parts (eqb x s) (is_among xs s) h in rw (t.0) (among-take n xs s t.1)
 
+pub among-all : (n : ℕ) (xs : List ℕ) (s : ℕ) → is_among (take n xs) s ≡ true → is_among xs s ≡ true
+among-all n xs s h =
+    ⊎_elim
+    (λ (e : is_among xs s ≡ true). e)
+    (λ (e : is_among xs s ≡ false). absurd (false≢true (sym (among-take n xs s e) ∙ h)))
+    (cases_Bool (is_among xs s))
+
 pub among-filter : (p : ℕ → Bool) (xs : List ℕ) (s : ℕ) → is_among (filter p xs) s ≡ (p s && is_among xs s)
 among-filter p [] s = go (p s)
   where

@@ -20,9 +20,12 @@ use Rattle.tcmu_model.proofs.SaidLaws.{IsNewDevice, IsNewLine, IsSaid, said_is}
 
 -- ---- initiators
 
+pub initiators_append : (d : ℕ) (names : List (List ℕ)) (xs ys : List LineData) → initiators_from d names (xs ++ ys) ≡ initiators_from d (initiators_from d names xs) ys
+initiators_append d names [] ys = refl
+initiators_append d names (x ∷ xs) ys = initiators_append d (with_initiator d names x) xs ys
+
 pub initiators_push : (d : ℕ) (names : List (List ℕ)) (ls : List LineData) (l : LineData) → initiators_from d names (ls ++ l ∷ []) ≡ with_initiator d (initiators_from d names ls) l
-initiators_push d names [] l = refl
-initiators_push d names (k ∷ ls) l = initiators_push d (with_initiator d names k) ls l
+initiators_push d names ls l = initiators_append d names ls (l ∷ [])
 
 -- a line of another device brings no initiator
 others_stay : (d : ℕ) (names : List (List ℕ)) (l : LineData) → nat_eq l.device d ≡ false → with_initiator d names l ≡ names

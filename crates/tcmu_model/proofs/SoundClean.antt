@@ -18,7 +18,7 @@ use Rattle.tcmu_model.specs.Sound.{Every, Rise, ReplyFits, IsLaid, finished, dis
 use Rattle.tcmu_model.proofs.Counts.{serial_at, sum-without_first, counts_none, counts_one}
 use Rattle.tcmu_model.proofs.Firsts.{without_first_missing}
 use Rattle.tcmu_model.proofs.Everies.{every-weaker, every-filter, every-all, filter_twice, filter_all, map_filter}
-use Rattle.tcmu_model.proofs.Rises.{rise_filter, among-take, among_every}
+use Rattle.tcmu_model.proofs.Rises.{rise_filter, among-take, among_every, among-all}
 use Rattle.tcmu_model.proofs.Turning.{taken_filter}
 use Rattle.tcmu_model.proofs.Basics.{rows_rise, cleared_published}
 
@@ -140,13 +140,6 @@ published_placed true false Placed false e h = absurd (false≢true h)
 published_placed true true Lost r e h = absurd (false≢true h)
 published_placed true false Lost r e h = absurd (false≢true h)
 published_placed false q t r e h = absurd (false≢true e)
-
-among-all : (n : ℕ) (xs : List ℕ) (s : ℕ) → is_among (take n xs) s ≡ true → is_among xs s ≡ true
-among-all n xs s h =
-    ⊎_elim
-    (λ (e : is_among xs s ≡ true). e)
-    (λ (e : is_among xs s ≡ false). absurd (false≢true (sym (among-take n xs s e) ∙ h)))
-    (cases_Bool (is_among xs s))
 
 pub answered_placed : (d : DeviceState) → AnswersSound d → ArePlaced (answered d) d.unfinished
 answered_placed d h =

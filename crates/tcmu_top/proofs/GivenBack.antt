@@ -24,7 +24,8 @@ use Rattle.tcmu_top.proofs.Telling.{rose_later}
 use Rattle.tcmu_top.proofs.FileRuns.{run_stays}
 use Rattle.tcmu_top.proofs.Legal.{legal_none}
 use Rattle.tcmu_top.proofs.Fetching.{names_append, fetches_append, fetches_fails, place_free, IsOwn, open_none, open_more, fetch_lacks, own_files}
-use Rattle.tcmu_top.proofs.Keeping.{fetched_out, get_taken, keeps_one}
+use Rattle.tcmu_top.proofs.Keeping.{fetched_out, keeps_one}
+use Rattle.tcmu_types.proofs.Places.{get_taken}
 
 -- ==== what a device tells as it opens, and behind its run
 

@@ -16,7 +16,7 @@ use Rattle.device_set.specs.Sets.{devices}
 use Rattle.tcmu_top.specs.Playing.{states_of}
 use Rattle.tcmu_top.specs.Opened.{name_in, file_names, is_named, IsLeftOf, Holds, SameOthers, Kept, OwnFiles, TellFiles, AreOut, Returns, KeepsEach, after_fetches}
 use Rattle.tcmu_top.proofs.Fetching.{bytes_same, place_out}
-use Rattle.tcmu_types.proofs.Places.{get_within}
+use Rattle.tcmu_types.proofs.Places.{get_within, get_taken}
 
 -- the name of a device line's file is no other name
 named_differs : (ls : List DeviceLineData) (at : ℕ) (l : DeviceLineData) (name other : List ℕ) → slice_get ls at ≡ Some l → l.config.kind ≡ InFile name → is_named ls other ≡ false → bytes_eq other name ≡ false
@@ -175,12 +175,6 @@ kept_more ls ends old mid new n l d at_ls at_ends h r own tell f e away = by l.c
 
 pub kept_done : (ls : List DeviceLineData) (ends : List Device) (old new : Option FilesState) → KeptFrom ls ends old new 0 → KeepsEach ls ends old new
 kept_done ls ends old new h own tell f e away = let x = h own tell f e away in (x.0, x.1, keeping_done ls ends f x.0 x.2)
-
-pub get_taken : {X : Type 0} (xs : List X) (n k : ℕ) (y : X) → slice_get (take n xs) k ≡ Some y → slice_get xs k ≡ Some y
-get_taken xs zero k y e = absurd (cc)
-get_taken [] (suc n) k y e = absurd (cc)
-get_taken (x ∷ xs) (suc n) zero y e = e
-get_taken (x ∷ xs) (suc n) (suc k) y e = get_taken xs n k y e
 
 -- one device is given back alone
 pub keeps_one : (l : DeviceLineData) (d : Device) (old new : Option FilesState) → Returns l.config.kind d.medium old new → KeepsEach (l ∷ []) (d ∷ []) old new

@@ -30,6 +30,12 @@ get_take (suc n) [] i h = refl
 get_take (suc n) (x ∷ xs) zero h = refl
 get_take (suc n) (x ∷ xs) (suc i) h = get_take n xs i (omega arith)
 
+pub get_taken : {X : Type 0} (xs : List X) (n i : ℕ) (x : X) → slice_get (take n xs) i ≡ Some x → slice_get xs i ≡ Some x
+get_taken xs zero i x e = absurd (cc)
+get_taken [] (suc n) i x e = absurd (cc)
+get_taken (y ∷ xs) (suc n) zero x e = e
+get_taken (y ∷ xs) (suc n) (suc i) x e = get_taken xs n i x e
+
 pub get_drop : {X : Type 0} (n : ℕ) (xs : List X) (i : ℕ) → slice_get (drop n xs) i ≡ slice_get xs (n + i)
 get_drop zero xs i = ap (slice_get xs) (omega arith)
 get_drop (suc n) [] i = refl

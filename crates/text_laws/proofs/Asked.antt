@@ -28,8 +28,9 @@ use Rattle.text_laws.specs.Carried.{IsCarriedWhat}
 use Rattle.text_laws.specs.Lines.{CarriesBytes, made}
 use Rattle.text_laws.specs.Replays.{lines_of}
 use Rattle.text_laws.proofs.Accepted.{accepts_one, makes_accepts}
-use Rattle.text_laws.proofs.Sets.{every_get, every_set}
+use Rattle.text_laws.proofs.Sets.{every_set}
 use Rattle.tcmu_model.proofs.Draining.{all_todo}
+use Rattle.tcmu_model.proofs.Indexed.{every_at}
 
 -- ---- lines that send commands
 
@@ -198,7 +199,7 @@ replays_asked R n ds ends [] es few h is replays =
     record { entries = all.0; sends_these = all.1; rest = all.2; count = all.3 }
 replays_asked R n ds ends (l ∷ lines) es few h is replays =
     let lt = slice_get_within ds l.device replays.2 replays.5 in
-    let one = plays R (length ds) n l l.what replays.2 replays.3 replays.0 lt (omega (arith, few)) (every_get (HasAccepted n) ds l.device replays.2 h replays.5) is.0.0 is.0.1 replays.6 in
+    let one = plays R (length ds) n l l.what replays.2 replays.3 replays.0 lt (omega (arith, few)) (every_at (HasAccepted n) ds l.device replays.2 h replays.5) is.0.0 is.0.1 replays.6 in
     let later = every_set (HasAccepted (n + 1)) ds l.device replays.3 (every-weaker (HasAccepted n) (HasAccepted (n + 1)) ds (λ d k. more_accepted n (n + 1) d (omega arith) k) h) one.after in
     let rest = replays_asked R (n + 1) (slice_set ds l.device replays.3) ends lines replays.1 (omega (arith, few)) later is.1 replays.7 in
     let same = length-set ds l.device replays.3 in

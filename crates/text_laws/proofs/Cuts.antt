@@ -8,7 +8,7 @@ use Rattle.tcmu_model.specs.Config.{part}
 use Rattle.tcmu_model.specs.declared.faults.ConfigFault.{ConfigFault}
 use Rattle.text_laws.specs.Configs.{is_other}
 
-one_more : (n : ℕ) → 1 + n ≡ suc n
+pub one_more : (n : ℕ) → 1 + n ≡ suc n
 one_more n = omega arith
 
 next : (n : ℕ) → n + 1 ≡ suc n

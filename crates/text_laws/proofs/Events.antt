@@ -4,6 +4,7 @@ use Rattle.std.specs.List.{list_all, flat_map}
 use Rattle.std.specs.Option.{option_map, ok_or}
 use Rattle.std.specs.Fmt.{decimal}
 use Rattle.std.proofs.lemmas.Bool.{and_from, cond-true, eqb-true, eq-eqb}
+use Rattle.std.proofs.lemmas.List.{nil_from_length}
 use Rattle.tcmu_types.specs.Naming.{is_name}
 use Rattle.tcmu_types.specs.Rules.{IsCommand, is_directed, takes_payload}
 use Rattle.tcmu_types.specs.Data.{CommandData}
@@ -133,16 +134,12 @@ pub record SaysPayload (c : CommandData) (fields : List (List ℕ)) : Type 0 whe
   pub field : payload_fields fields ≡ Some payload
   pub says : payload_of payload ≡ Ok (c.sent, c.in_len)
 
-no_bytes : (xs : List ℕ) → nat_eq (length xs) 0 ≡ true → xs ≡ []
-no_bytes [] e = refl
-no_bytes (x ∷ xs) e = absurd (omega (arith, eqb-true (length (x ∷ xs)) 0 e))
-
 pub payload_again : (c : CommandData) → IsCommand c → IsCarried c → SaysPayload c (data_fields c)
 unfolding data_fields
 payload_again c is h = go (takes_payload c.cdb) is.directed
   where
     out : (t : Bool) → nat_eq (length c.sent) 0 ≡ t → c.in_len ≡ 0 → SaysPayload c (cond t [] ((codes "out=" ++ runs_text c.sent) ∷ []))
-    out true e z = record { payload = NoPayload; field = refl; says = ap (λ (x : List ℕ × ℕ). Ok x) (ap (λ (l : List ℕ). (l, 0)) (sym (no_bytes c.sent e)) ∙ ap (λ (k : ℕ). (c.sent, k)) (sym z)) }
+    out true e z = record { payload = NoPayload; field = refl; says = ap (λ (x : List ℕ × ℕ). Ok x) (ap (λ (l : List ℕ). (l, 0)) (sym (nil_from_length c.sent (eqb-true _ _ e))) ∙ ap (λ (k : ℕ). (c.sent, k)) (sym z)) }
     out false e z = record {
       payload = OutRuns (runs_text c.sent);
       field = refl;
@@ -157,11 +154,11 @@ payload_again c is h = go (takes_payload c.cdb) is.directed
     into true e z = record { payload = NoPayload; field = refl; says = ap (λ (x : List ℕ × ℕ). Ok x) (ap (λ (l : List ℕ). (l, 0)) (sym (nothing z)) ∙ ap (λ (k : ℕ). (c.sent, k)) (sym (eqb-true _ _ e))) }
       where
         nothing : length c.sent ≡ 0 → c.sent ≡ []
-        nothing y = no_bytes c.sent (eq-eqb _ _ y)
+        nothing y = nil_from_length c.sent y
     into false e z = record {
       payload = InBytes (decimal c.in_len);
       field = refl;
-      says = ap (λ o. ok_or (option_map (λ (n : ℕ). let y : List ℕ × ℕ = ([], n) in y) o) why.Number) (number_again 0 1048576 c.in_len (omega arith) is.in_len (omega arith)) ∙ ap (λ (l : List ℕ). Ok (l, c.in_len)) (sym (no_bytes c.sent (eq-eqb _ _ z)));
+      says = ap (λ o. ok_or (option_map (λ (n : ℕ). let y : List ℕ × ℕ = ([], n) in y) o) why.Number) (number_again 0 1048576 c.in_len (omega arith) is.in_len (omega arith)) ∙ ap (λ (l : List ℕ). Ok (l, c.in_len)) (sym (nil_from_length c.sent z));
     }
 
     go : (t : Bool) → cond t (nat_eq c.in_len 0) (nat_eq (length c.sent) 0) ≡ true → SaysPayload c (cond t (cond (nat_eq (length c.sent) 0) [] ((codes "out=" ++ runs_text c.sent) ∷ [])) (cond (nat_eq c.in_len 0) [] ((codes "in=" ++ decimal c.in_len) ∷ [])))

@@ -15,6 +15,7 @@ use Rattle.tcmu_model.specs.Text.{answer_text}
 use Rattle.tcmu_model.specs.Several.{Journaled, IsLegalEach}
 use Rattle.tcmu_model.specs.Sound.{Every, IsSound}
 use Rattle.tcmu_model.proofs.Everies.{every-weaker}
+use Rattle.tcmu_model.proofs.Indexed.{every_at}
 use Rattle.tcmu_model.proofs.Readings.{same_some}
 use Rattle.tcmu_model.proofs.Runs.{sound_step}
 use Rattle.tcmu_types.proofs.Places.{get_within, get_set, get_set_other}
@@ -31,7 +32,7 @@ use Rattle.text_laws.proofs.PrintValues.{all_values}
 use Rattle.text_laws.proofs.Prints.{own_text, entries_journal, undumped, entries_again, every_undumped, journal_list}
 use Rattle.text_laws.proofs.Replays.{opened_count, accepted_none, journal_named, journal_asks}
 use Rattle.text_laws.proofs.SameEvent.{same_event}
-use Rattle.text_laws.proofs.Sets.{every_get, every_set}
+use Rattle.text_laws.proofs.Sets.{every_set}
 use Rattle.text_laws.proofs.Spoken.{is_telling, told_lines, IsReadable, spoken_whole}
 use Rattle.text_laws.proofs.Telling.{two_parts, devices_told, Tells, AllTell, lines_tell}
 use Rattle.text_laws.proofs.WholeLines.{Named, told_device}
@@ -127,7 +128,7 @@ behind R ls ds j js ends h =
       rest = record {
         count = length-set ds j.entry.device step.mid ∙ h.count;
         last = h.last;
-        sound = every_set (λ d. IsSound d.state) ds j.entry.device step.mid h.sound (sound_step R first.0 step.mid j.entry (every_get (λ d. IsSound d.state) ds j.entry.device first.0 h.sound first.1) step.step);
+        sound = every_set (λ d. IsSound d.state) ds j.entry.device step.mid h.sound (sound_step R first.0 step.mid j.entry (every_at (λ d. IsSound d.state) ds j.entry.device first.0 h.sound first.1) step.step);
         within = h.within.1;
         legal = step.rest;
       };
@@ -157,7 +158,7 @@ journals_same R Q ls ds es (j ∷ js) (f ∷ fs) ends lasts alike h k e =
     let b = behind Q ls es f fs lasts k in
     let b_found : slice_get es j.entry.device ≡ Some b.device = ap (slice_get es) tells.device ∙ b.found in
     let same = alike j.entry.device a.device b.device a.found b_found in
-    let one = step_same R Q tells.line.settings.qfull a.device b.device a.mid b.mid j f same (every_get (λ d. IsSound d.state) ds j.entry.device a.device h.sound a.found) (every_get (λ d. IsSound d.state) es f.entry.device b.device k.sound b.found)
+    let one = step_same R Q tells.line.settings.qfull a.device b.device a.mid b.mid j f same (every_at (λ d. IsSound d.state) ds j.entry.device a.device h.sound a.found) (every_at (λ d. IsSound d.state) es f.entry.device b.device k.sound b.found)
     tells.device tells.event tells.answer a.step b.step a.log b.log in
     let later = alike_set ds es j.entry.device a.device b.device a.mid b.mid alike a.found b_found one.1 in
     let goes = subst (λ (n : ℕ). GoesOn Q ls (slice_set es n b.mid) fs lasts) (sym tells.device) b.rest in

@@ -6,6 +6,7 @@ use Rattle.tcmu_model.specs.ScenarioData.{DeviceLineData}
 use Rattle.tcmu_model.specs.Sound.{Every}
 use Rattle.tcmu_model.specs.Steps.{HandlerRelation, accepted_by}
 use Rattle.tcmu_model.proofs.Everies.{every-filter}
+use Rattle.tcmu_model.proofs.Indexed.{every_at}
 use Rattle.tcmu_types.proofs.Places.{get_within}
 use Rattle.text_laws.specs.Devices.{IsSpelledDevice}
 use Rattle.text_laws.specs.Dumps.{IsDumpValue}
@@ -16,7 +17,6 @@ use Rattle.text_laws.proofs.Asked.{HasAccepted, more_accepted, step_accepts}
 use Rattle.text_laws.proofs.Legal.{each_of}
 use Rattle.text_laws.proofs.Pictured.{picture_value}
 use Rattle.text_laws.proofs.Replays.{opened_count, accepted_none}
-use Rattle.text_laws.proofs.Sets.{every_get}
 
 run_values : (R : HandlerRelation) (n : ℕ) (d d' : Device) (ps : List Printed) → HasAccepted n d → IsNumber (n + length ps) → Every HasEventValue ps → RunPrints R d ps d' → Every IsValue ps
 run_values R n d d' [] h lt v r = tt
@@ -41,5 +41,5 @@ all_values R ls opened ps ends text sp values is = each_of device_of IsValue (le
     own k lt =
         let first = get_within opened k (omega (arith, lt, opened_count ls opened is.list.opens)) in
         let last = get_within ends k (omega (arith, lt, is.list.count)) in
-        let start = every_get (HasAccepted 0) opened k first.0 (accepted_none ls opened sp is.list.opens) first.1 in
+        let start = every_at (HasAccepted 0) opened k first.0 (accepted_none ls opened sp is.list.opens) first.1 in
         run_values R 0 first.0 last.0 (filter (is_about k) ps) start (omega (arith, fewer (is_about k) ps, values.few)) (every-filter (is_about k) HasEventValue ps values.events) (is.pictures k first.0 last.0 first.1 last.1)

@@ -22,7 +22,9 @@ use Rattle.tcmu_model.specs.Said.{has_name, same_file, device_at, Adds, Opens}
 use Rattle.tcmu_model.specs.Scenario.{bytes_in, bytes_out, with_name, with_initiator, initiators, initiators_from, breaks_dump, breaks_many, with_line, with_device, is_not_yet, with_said, with_text, with_lines, nothing_yet, scenario_of}
 use Rattle.tcmu_model.specs.Text.{spaced, line, device_text, event_text, answer_text, completion_text, event_line, entry_text, end_text}
 use Rattle.tcmu_model.proofs.Everies.{every-weaker, every-none}
+use Rattle.tcmu_model.proofs.Indexed.{every_at}
 use Rattle.tcmu_model.proofs.Readings.{same_bytes}
+use Rattle.tcmu_model.proofs.ScenarioLaws.{initiators_append}
 use Rattle.tcmu_types.proofs.Places.{get_within}
 use Rattle.text_laws.specs.Configs.{is_other}
 use Rattle.text_laws.specs.Devices.{IsSpelledDevice, IsNew}
@@ -33,7 +35,6 @@ use Rattle.text_laws.proofs.Asks.{line_asks, line_value}
 use Rattle.text_laws.proofs.Comments.{comments_ignored, empty_ignored}
 use Rattle.text_laws.proofs.Devices.{devices_again, same_text}
 use Rattle.text_laws.proofs.Events.{events_again}
-use Rattle.text_laws.proofs.Sets.{every_get}
 use Rattle.text_laws.proofs.Unbroken.{Unbroken}
 use Rattle.text_laws.proofs.WholeLines.{Named, done_fields, done_line, end_line, told_event, told_line, told_device, device_told_line}
 
@@ -118,10 +119,6 @@ grows : (d : ℕ) (names : List (List ℕ)) (ls : List LineData) → length name
 grows d names [] = omega arith
 grows d names (l ∷ ls) = omega (arith, grows_with d names l, grows d (with_initiator d names l) ls)
 
-initiators_append : (d : ℕ) (names : List (List ℕ)) (xs ys : List LineData) → initiators_from d names (xs ++ ys) ≡ initiators_from d (initiators_from d names xs) ys
-initiators_append d names [] ys = refl
-initiators_append d names (x ∷ xs) ys = initiators_append d (with_initiator d names x) xs ys
-
 sum_front : (f : LineData → ℕ) (xs ys : List LineData) → sum_by f xs ≤ sum_by f (xs ++ ys)
 sum_front f xs ys = omega (arith, sum_by-append f xs ys)
 
@@ -197,7 +194,7 @@ reads_journal ls (j ∷ js) front rest t pairs spelled within named fits k =
     let next : front ++ made e.device e.event ∷ [] ++ lines_of (entries_of js) ≡ front ++ made e.device e.event ∷ lines_of (entries_of js) = append_assoc front (made e.device e.event ∷ []) (lines_of (entries_of js)) in
     let fits_next = subst Fits (sym next) fits in
     let later = reads_journal ls js (front ++ made e.device e.event ∷ []) rest t pairs spelled within.1 named.1 fits_next (subst (λ (xs : List LineData). Reads (so_far ls xs) rest t) (sym next) k) in
-    let sp = every_get IsSpelledDevice ls e.device l spelled found.1 in
+    let sp = every_at IsSpelledDevice ls e.device l spelled found.1 in
     let one = reads_entry ls l front j (flat_map (journaled_text ls) js ++ rest) t pairs found.1 sp.line.name within.0.event within.0.bytes named.0 (fits_front (front ++ made e.device e.event ∷ []) (lines_of (entries_of js)) fits_next) later in
     let text_is : journaled_text ls j ≡ entry_text l.name l.settings.qfull j.entry j.completions = ap (λ o. elim o [ Some m ↦ entry_text m.name m.settings.qfull j.entry j.completions | None ↦ [] ]) found.1 in
     subst (λ text. Reads (so_far ls front) text t)

@@ -21,6 +21,7 @@ use Rattle.tcmu_model.specs.Several.{Journaled, is_of, RunLogs, IsLegalEach, Dra
 use Rattle.tcmu_model.specs.Journals.{Has, WasAccepted}
 use Rattle.tcmu_model.specs.Sound.{Every}
 use Rattle.tcmu_model.proofs.Everies.{every-weaker, every-mapped}
+use Rattle.tcmu_model.proofs.Indexed.{every_at}
 use Rattle.tcmu_model.proofs.Journals.{run_senders, HasSender}
 use Rattle.tcmu_model.proofs.SoundEvents.{sound_opening}
 use Rattle.tcmu_model.proofs.ScenarioLaws.{scenario_is}
@@ -35,7 +36,7 @@ use Rattle.text_laws.proofs.Carried.{carried_read, spelled_read}
 use Rattle.text_laws.proofs.Kept.{replay_keeps}
 use Rattle.text_laws.proofs.Legal.{first_step, run_entries, completions_keep, each_of}
 use Rattle.text_laws.proofs.Reading.{reads_whole}
-use Rattle.text_laws.proofs.Sets.{every_get, same_items}
+use Rattle.text_laws.proofs.Sets.{same_items}
 use Rattle.text_laws.proofs.WholeLines.{Named}
 
 -- ---- the initiators of completions are names
@@ -104,7 +105,7 @@ journal_named R ls opened js ends text is = each_of (λ (j : Journaled). j.entry
     own k lt =
         let first = get_within opened k (omega (arith, lt, opened_count ls opened is.opens)) in
         let last = get_within ends k (omega (arith, lt, is.count)) in
-        run_named R first.0 last.0 (filter (is_of k) js) (every_get Opened opened k first.0 (each_opened ls opened is.opens) first.1) (is.legal k first.0 last.0 first.1 last.1)
+        run_named R first.0 last.0 (filter (is_of k) js) (every_at Opened opened k first.0 (each_opened ls opened is.opens) first.1) (is.legal k first.0 last.0 first.1 last.1)
 
 pub journal_asks : (R : HandlerRelation) (ls : List DeviceLineData) (opened : List Device) (js : List Journaled) (ends : List Device) (text : List ℕ) → IsJournalOf R ls opened js ends text → Every (λ j. AsksCommand j.entry.event) js
 journal_asks R ls opened js ends text is = each_of (λ (j : Journaled). j.entry.device) (λ j. AsksCommand j.entry.event) (length ls) js is.devices own

@@ -8,11 +8,6 @@ every_set P [] k y h p = tt
 every_set P (z ∷ xs) zero y h p = (p, h.1)
 every_set P (z ∷ xs) (suc k) y h p = (h.0, every_set P xs k y h.1 p)
 
-pub every_get : {X : Type 0} (P : X → Type 0) (xs : List X) (k : ℕ) (x : X) → Every P xs → slice_get xs k ≡ Some x → P x
-every_get P [] k x h e = absurd (cc)
-every_get P (z ∷ xs) zero x h e = subst P (same_some z x e) h.0
-every_get P (z ∷ xs) (suc k) x h e = every_get P xs k x h.1 e
-
 -- lists of one length with the same items are the same
 pub same_items : {X : Type 0} (xs ys : List X) → length xs ≡ length ys → ((at : ℕ) (x y : X) → slice_get xs at ≡ Some x → slice_get ys at ≡ Some y → y ≡ x) → ys ≡ xs
 same_items [] [] l e = refl

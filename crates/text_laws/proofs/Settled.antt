@@ -23,13 +23,14 @@ use Rattle.tcmu_model.specs.Text.{device_text, answer_text}
 use Rattle.tcmu_model.proofs.Readings.{same_some}
 use Rattle.block_engine.specs.Determined.{IsInMemory}
 use Rattle.block_engine.proofs.Settling.{stays_in_memory}
+use Rattle.tcmu_model.proofs.Indexed.{every_at}
 use Rattle.tcmu_types.proofs.Places.{get_within}
 use Rattle.text_laws.specs.Replays.{entries_of}
 use Rattle.text_laws.specs.Settled.{OneText}
 use Rattle.text_laws.proofs.Carried.{spelled_read}
 use Rattle.text_laws.proofs.OneReading.{entry_same, GoesOn, EntriesTell, journals_same, opened_alike, opened_sound}
 use Rattle.text_laws.proofs.Replays.{opened_count, replay_journal}
-use Rattle.text_laws.proofs.Sets.{every_get, every_set}
+use Rattle.text_laws.proofs.Sets.{every_set}
 
 -- ==== one event
 
@@ -172,7 +173,7 @@ one_replay ds (l ∷ ls) es fs ends lasts m h k =
     let d = k.2 in
     let one : h.2 ≡ d = same_some h.2 d (sym h.5 ∙ k.5) in
     let plays = subst (λ (x : Device). Plays Serves l.device x l.what h.0 h.3) one h.6 in
-    let first = one_play l.device d l.what h.0 k.0 h.3 k.3 (every_get (λ x. IsInMemory x.medium) ds l.device d m k.5) plays k.6 in
+    let first = one_play l.device d l.what h.0 k.0 h.3 k.3 (every_at (λ x. IsInMemory x.medium) ds l.device d m k.5) plays k.6 in
     let later = subst (λ (x : Device). ReplaysEach Serves (slice_set ds l.device x) ls h.1 ends) first.1 h.7 in
     let rest = one_replay (slice_set ds l.device k.3) ls h.1 k.1 ends lasts (every_set (λ x. IsInMemory x.medium) ds l.device k.3 m first.2) later k.7 in
     (h.4 ∙ joined h.0 h.1 k.0 k.1 first.0 rest.0 ∙ sym k.4, rest.1)

@@ -16,6 +16,7 @@ use Rattle.tcmu_model.specs.declared.words.Subtype.{Subtype}
 use Rattle.tcmu_model.specs.declared.words.Subtype.TheVariants.{Mem, File, Ro, Fail}
 use Rattle.tcmu_model.proofs.Readings.{same_ok, step, read_step, both, mapped, passed}
 use Rattle.tcmu_model.proofs.Everies.{every-filter}
+use Rattle.text_laws.proofs.Cuts.{one_more}
 use Rattle.text_laws.specs.Configs.{is_other, FileLacks}
 
 -- ---- texts in which a byte does not stand
@@ -142,9 +143,6 @@ config_lacks at text c h e = go (position is_colon text) e
     go None e = let sound = parts_lack at text c h e in sound.0
 
 -- ---- the fields before a hash
-
-one_more : (n : ℕ) → 1 + n ≡ suc n
-one_more n = omega arith
 
 hash_free : (text : List ℕ) → Lacks 35 (before_hash text)
 unfolding before_hash

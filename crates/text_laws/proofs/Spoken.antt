@@ -17,6 +17,7 @@ use Rattle.tcmu_model.specs.Several.{Journaled, journaled_text, ends_text}
 use Rattle.tcmu_model.specs.Sound.{Every}
 use Rattle.tcmu_model.specs.Text.{spaced, line, device_spelling, device_text, event_text, command_text, completion_text, event_line, entry_text, end_text, dump_text}
 use Rattle.tcmu_model.proofs.Everies.{every-append, filter_all}
+use Rattle.tcmu_model.proofs.Indexed.{every_at}
 use Rattle.tcmu_types.proofs.Places.{get_within}
 use Rattle.text_laws.specs.Devices.{IsSpelledDevice}
 use Rattle.text_laws.specs.Printed.{Printed, AnEntry, ADump, device_of, printed_text, IsValue}
@@ -24,7 +25,6 @@ use Rattle.text_laws.specs.Values.{IsEventValue}
 use Rattle.text_laws.proofs.Asks.{AsksCommand}
 use Rattle.text_laws.proofs.Dumped.{item_line, held_line, box_line, dump_lines, dump_cut}
 use Rattle.text_laws.proofs.Reading.{first_line}
-use Rattle.text_laws.proofs.Sets.{every_get}
 use Rattle.text_laws.proofs.Unbroken.{Unbroken}
 use Rattle.text_laws.proofs.WholeLines.{Named, done_fields, done_line, end_line, told_event, told_line, told_device, device_told_line}
 
@@ -198,7 +198,7 @@ one_speaks : (ls : List DeviceLineData) (p : Printed) → Every IsSpelledDevice 
 one_speaks ls (AnEntry j) sp h =
     let found = get_within ls j.entry.device h.device in
     let l = found.0 in
-    let one = entry_speaks l j (every_get IsSpelledDevice ls j.entry.device l sp found.1) h.asks h.value h.named in
+    let one = entry_speaks l j (every_at IsSpelledDevice ls j.entry.device l sp found.1) h.asks h.value h.named in
     let text_is : journaled_text ls j ≡ entry_text l.name l.settings.qfull j.entry j.completions = ap (λ o. elim o [ Some m ↦ entry_text m.name m.settings.qfull j.entry j.completions | None ↦ [] ]) found.1 in
     subst (λ (text : List ℕ). Speaks text (told ls j ∷ [])) (sym text_is) (subst (λ (t : List ℕ). Speaks (entry_text l.name l.settings.qfull j.entry j.completions) (t ∷ [])) (sym (told_is ls l j found.1)) one)
 one_speaks ls (ADump at d) sp h =
@@ -206,7 +206,7 @@ one_speaks ls (ADump at d) sp h =
     let l = found.0 in
     let text_is : printed_text ls (ADump at d) ≡ dump_text l.name d = ap (λ o. elim o [ Some m ↦ dump_text m.name d | None ↦ [] ]) found.1 in
     subst (λ (text : List ℕ). Speaks text (told_lines ls (ADump at d))) (sym text_is)
-    (subst (λ (ts : List (List ℕ)). Speaks (dump_text l.name d) ts) (sym (dump_told_is ls l at d found.1)) (dump_speaks l.name d (every_get IsSpelledDevice ls at l sp found.1).line.name))
+    (subst (λ (ts : List (List ℕ)). Speaks (dump_text l.name d) ts) (sym (dump_told_is ls l at d found.1)) (dump_speaks l.name d (every_at IsSpelledDevice ls at l sp found.1).line.name))
 
 spoken_list : (ls : List DeviceLineData) (ps : List Printed) → Every IsSpelledDevice ls → Every (IsReadable (length ls)) ps → Speaks (flat_map (printed_text ls) ps) (flat_map (told_lines ls) ps)
 spoken_list ls [] sp h = nothing_speaks

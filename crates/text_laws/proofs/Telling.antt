@@ -1,6 +1,7 @@
 -- What the lines of a text tell: the devices, each entry's device and event and the text of its answer, and each dump.
 use Rattle.std.proofs.Common.{◌≡◌, ◌≢◌, ℕ, ◌<◌, false, List, [], ◌∷◌, ◌++◌, length, map, drop, slice_get, Some, None, refl, sym, ap, ◌∙◌, subst, arith, codes}
 use Rattle.std.specs.List.{flat_map, AllPairs}
+use Rattle.tcmu_model.proofs.Indexed.{every_at}
 use Rattle.tcmu_types.specs.Dumps.{DumpData}
 use Rattle.tcmu_types.specs.Events.{EventData}
 use Rattle.tcmu_model.specs.Said.{device_at}
@@ -18,7 +19,6 @@ use Rattle.text_laws.proofs.Devices.{devices_again}
 use Rattle.text_laws.proofs.Dumped.{first_of_dump, dump_lines, dump_lines_told}
 use Rattle.text_laws.proofs.EventLines.{event_told}
 use Rattle.text_laws.proofs.Reading.{so_far, opens, its_number}
-use Rattle.text_laws.proofs.Sets.{every_get}
 use Rattle.text_laws.proofs.Spoken.{is_comment, is_device_line, begins_dump, event_marks, inner_lines, inner_comments, told, told_is, told_lines, dump_told_is, IsReadable, device_lines, no_device_lines}
 use Rattle.text_laws.proofs.WholeLines.{told_event, told_device}
 
@@ -68,7 +68,7 @@ entry_told ls j f pairs sp h k e =
     let m = found'.0 in
     let same : told_event l.name l.settings.qfull j.entry.event j.entry.answer ≡ told_event m.name m.settings.qfull f.entry.event f.entry.answer = sym (told_is ls l j found.1) ∙ e ∙ told_is ls m f found'.1 in
     let both = event_told l.name m.name j.entry.event f.entry.event (answer_text l.settings.qfull j.entry.event j.entry.answer) (answer_text m.settings.qfull f.entry.event f.entry.answer)
-    (every_get IsSpelledDevice ls j.entry.device l sp found.1).line.name (every_get IsSpelledDevice ls f.entry.device m sp found'.1).line.name h.asks h.value k.asks k.value same in
+    (every_at IsSpelledDevice ls j.entry.device l sp found.1).line.name (every_at IsSpelledDevice ls f.entry.device m sp found'.1).line.name h.asks h.value k.asks k.value same in
     let device_is : j.entry.device ≡ f.entry.device = same_place ls j.entry.device f.entry.device l m pairs found.1 found'.1 both.0 in
     let l_is : m ≡ l = same_some m l (sym found'.1 ∙ ap (slice_get ls) (sym device_is) ∙ found.1) in
     let aligned : told_event l.name l.settings.qfull j.entry.event j.entry.answer ≡ told_event l.name l.settings.qfull j.entry.event f.entry.answer =
@@ -114,7 +114,7 @@ one_told ls (ADump at d) (ADump to c) xs ys pairs sp h k a b e =
     let first : first_of_dump l.name d ≡ first_of_dump m.name c = ap (head_or []) same in
     let inner = fronts_told is_comment (inner_lines d) xs (inner_lines c) ys (inner_comments d) a (inner_comments c) b (ap (λ (t : List (List ℕ)). drop 1 t) same) in
     let lines : dump_lines l.name d ≡ dump_lines m.name c = ap (λ (t : List ℕ). t ∷ inner_lines d) first ∙ ap (λ (ts : List (List ℕ)). first_of_dump m.name c ∷ ts) inner.0 in
-    let both = dump_lines_told l.name m.name d c (every_get IsSpelledDevice ls at l sp found.1).line.name (every_get IsSpelledDevice ls to m sp found'.1).line.name h.value k.value lines in
+    let both = dump_lines_told l.name m.name d c (every_at IsSpelledDevice ls at l sp found.1).line.name (every_at IsSpelledDevice ls to m sp found'.1).line.name h.value k.value lines in
     ((same_place ls at to l m pairs found.1 found'.1 both.0, both.1), inner.1)
 
 -- ---- lists of them

@@ -5,7 +5,7 @@ use Rattle.std.specs.Fmt.{decimal}
 use Rattle.std.specs.Str.Parse.{digits_value}
 use Rattle.std.proofs.lemmas.Bool.{ltb-true, eqb-true}
 use Rattle.std.proofs.lemmas.Fmt.{decimal_is_IsNumeral}
-use Rattle.std.proofs.lemmas.List.{append-nil}
+use Rattle.std.proofs.lemmas.List.{append-nil, nil_from_length}
 use Rattle.tcmu_types.specs.Data.{SenseData, ReplyData}
 use Rattle.tcmu_types.specs.declared.answer.Handle.TheVariants as handle_answer
 use Rattle.tcmu_model.specs.Fields.{pieces}
@@ -105,16 +105,12 @@ positive : (a : List ℕ) → nat_eq (length a) 0 ≡ false → 0 < length a
 positive [] e = absurd (cc)
 positive (x ∷ a) e = omega arith
 
-nothing : (a : List ℕ) → nat_eq (length a) 0 ≡ true → a ≡ []
-nothing [] e = refl
-nothing (x ∷ a) e = absurd (omega (arith, eqb-true (length (x ∷ a)) 0 e))
-
 pub payload_told : (a b : List ℕ) → length a < 2 ^ 64 → length b < 2 ^ 64 → payload_text a ≡ payload_text b → a ≡ b
 unfolding payload_text
 payload_told a b few less e = go (nat_eq (length a) 0) (nat_eq (length b) 0) refl refl e
   where
     go : (x y : Bool) → nat_eq (length a) 0 ≡ x → nat_eq (length b) 0 ≡ y → cond {A = List ℕ} x (45 ∷ []) (runs_text a) ≡ cond y (45 ∷ []) (runs_text b) → a ≡ b
-    go true true p q e = nothing a p ∙ sym (nothing b q)
+    go true true p q e = nil_from_length a (eqb-true _ _ p) ∙ sym (nil_from_length b (eqb-true _ _ q))
     go true false p q e = absurd (omega (arith, runs_first b (positive b q), ap (λ (l : List ℕ). get_or l 0 0) e))
     go false true p q e = absurd (omega (arith, runs_first a (positive a p), ap (λ (l : List ℕ). get_or l 0 0) e))
     go false false p q e = runs_told a b few less (positive a p) (positive b q) e

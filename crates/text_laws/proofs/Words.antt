@@ -8,6 +8,7 @@ use Rattle.std.proofs.lemmas.List.Folds.{list_all-append}
 use Rattle.std.proofs.lemmas.List.Sums.{AllPass-from_list_all}
 use Rattle.tcmu_model.specs.Lines.{is_blank, is_allowed, before_hash, fields_of}
 use Rattle.tcmu_model.specs.Text.{spaced}
+use Rattle.text_laws.proofs.Cuts.{one_more}
 use Rattle.text_laws.specs.Words.{is_field_byte, IsWord, AreWords}
 
 pub weaker : (p q : ℕ → Bool) → ((x : ℕ) → p x ≡ true → q x ≡ true) → (xs : List ℕ) → list_all p xs ≡ true → list_all q xs ≡ true
@@ -76,9 +77,6 @@ all_unhashed : (w : List ℕ) (fs : List (List ℕ)) → IsWord w → AreWords f
 all_unhashed w fs h t =
     let front = list_all-append unhashed w (flat_map (λ x. 32 ∷ x) fs) ∙ and_from _ _ (weaker is_field_byte unhashed word_unhashed w h.bytes) (fields_unhashed fs t) in
     list_all-append unhashed (spaced w fs) (32 ∷ []) ∙ and_from _ _ front refl
-
-one_more : (n : ℕ) → 1 + n ≡ suc n
-one_more n = omega arith
 
 before : (text rest : List ℕ) → list_all unhashed text ≡ true → before_hash (text ++ 35 ∷ rest) ≡ text
 unfolding before_hash

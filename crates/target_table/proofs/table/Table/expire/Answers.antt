@@ -1,10 +1,11 @@
 use Rattle.std.proofs.Common.{◌-◌, Some, slice_set, sym, refl, ◌∙◌, arith}
-use Rattle.target_table.proofs.Changes.{Expiring, none-some, waiting-found, expiring, expired-kept, expired-rows, expired-fits}
+use Rattle.std.proofs.lemmas.Option.{none-some}
+use Rattle.target_table.proofs.Changes.{Expiring, waiting-found, expiring, expired-kept, expired-rows, expired-fits}
 use Rattle.target_table.proofs.table.Table.expire.Goals as goal
 
 pub unreachable-requires : goal.unreachable-requires
 unreachable-requires c =
-    none-some (sym c.in-None.is ∙ c.vacate.ensures.found ∙ waiting-found _ _ _ _ _ c.self.invariant.kept (rw (← c.self.view_is) at c.requires))
+    none-some _ (sym c.in-None.is ∙ c.vacate.ensures.found ∙ waiting-found _ _ _ _ _ c.self.invariant.kept (rw (← c.self.view_is) at c.requires))
 
 pub overflow_add-self : goal.overflow_add-self
 overflow_add-self c = let f = expired-fits _ _ _ _ c.self.invariant.kept in record { fits = omega arith }

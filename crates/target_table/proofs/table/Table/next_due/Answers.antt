@@ -1,6 +1,6 @@
 use Rattle.std.proofs.Common.{Some, slice_get, sym, ap, ◌∙◌}
 use Rattle.std.specs.Option.{option_map, option_copied}
-use Rattle.target_table.proofs.Changes.{none-some}
+use Rattle.std.proofs.lemmas.Option.{none-some}
 use Rattle.target_table.proofs.Places.{no-due, rank-pending, is-first-due, first-not-due}
 use Rattle.target_table.proofs.table.Table.next_due.Goals as goal
 
@@ -14,7 +14,7 @@ pub unreachable-requires : goal.unreachable-requires
 unreachable-requires c =
     let s = rank-pending c.self.inside.places.items c.self.inside.order.items c.self.inside.expired c.in-Some.id c.self.invariant.kept.stand
     (ap (λ xs. option_map (λ o. o.id) (slice_get xs c.self.inside.expired)) (sym c.deref.ensures.value) ∙ sym c.id_at.ensures ∙ c.in-Some.is) in
-    none-some (sym (ap option_copied c.in-None-get.is) ∙ rw (← c.self.view_is) at c.get.ensures ∙ s)
+    none-some _ (sym (ap option_copied c.in-None-get.is) ∙ rw (← c.self.view_is) at c.get.ensures ∙ s)
 
 pub returns-then-has_passed : goal.returns-then-has_passed
 returns-then-has_passed c =
