@@ -10,11 +10,11 @@ pub served_else : {E : Type 0} (test : Bool) (First Second : Outcome) (n : ℕ) 
     → test ≡ false → Served Second n old new before after result → Served (Either test First Second) n old new before after result
 served_else test First Second n old new before after result e s =
     let P : Bool → Type 0 = λ t. IfOk result (λ r. MatchBool t (First r new) (Second r new)) in
-    record { allowed = subst P (sym e) s.allowed; fits = s.fits; caused = s.caused; later = s.later; same = s.same; counted = s.counted }
+    record { allowed = subst P (sym e) s.allowed; fits = s.fits; caused = s.caused; exact = s.exact; later = s.later; same = s.same; counted = s.counted }
 
 pub served_within : {E : Type 0} (Meaning : Outcome) (few n : ℕ) (old new : MediumState) (before after : ℕ) (result : Result ReplyData E)
     → few ≤ n → Served Meaning few old new before after result → Served Meaning n old new before after result
 served_within Meaning few n old new before after (Ok r) h s =
-    record { allowed = s.allowed; fits = omega (arith, h, s.fits); caused = s.caused; later = s.later; same = s.same; counted = s.counted }
+    record { allowed = s.allowed; fits = omega (arith, h, s.fits); caused = s.caused; exact = s.exact; later = s.later; same = s.same; counted = s.counted }
 served_within Meaning few n old new before after (Err e) h s =
-    record { allowed = s.allowed; fits = s.fits; caused = s.caused; later = s.later; same = s.same; counted = s.counted }
+    record { allowed = s.allowed; fits = s.fits; caused = s.caused; exact = s.exact; later = s.later; same = s.same; counted = s.counted }

@@ -2,15 +2,17 @@
 use Rattle.std.specs.Prelude.{◌≡◌, ℕ, ◌≤◌, true, length, Result, IfOk, OnErr}
 use Rattle.tcmu_types.specs.Data.{ReplyData}
 use Rattle.tcmu_types.specs.Numbered.{Rose}
+use Rattle.edge.specs.Outside.{CountsFailed}
 use Rattle.tcmu_model.specs.MediumState.{MediumState}
 use Rattle.tcmu_model.specs.Scsi.{Outcome, is_medium_error}
 
--- The reply and the medium after it are what the meaning allows, the payload is no longer than may be answered, sense data say that
--- a call of the medium failed only where the count of faults rose, and after want of memory nothing changed.
+-- The reply and the medium after it are what the meaning allows, and the payload is no longer than may be answered. Sense data say that
+-- a call of the medium failed exactly where one more is counted. After want of memory nothing changed.
 pub record Served {E : Type 0} (Meaning : Outcome) (in_len : ℕ) (old new : MediumState) (before after : ℕ) (result : Result ReplyData E) : Type 0 where
   pub allowed : IfOk result (λ r. Meaning r new)
   pub fits : IfOk result (λ r. length r.payload ≤ in_len)
   pub caused : IfOk result (λ r. is_medium_error r.sense ≡ true → Rose before after)
+  pub exact : IfOk result (λ r. CountsFailed before (is_medium_error r.sense) after)
   pub later : before ≤ after
   pub same : OnErr result (new ≡ old)
   pub counted : OnErr result (after ≡ before)

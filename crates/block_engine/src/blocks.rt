@@ -1,6 +1,7 @@
 //! READ, WRITE, SYNCHRONIZE CACHE and WRITE SAME.
 ghost use Rattle.std.specs.Prelude.{◌≡◌, ◌+◌, ◌*◌, ◌%◌, ◌≤◌, ◌<◌, length, is_err, IfOk, replicate, []};
 ghost use Rattle.tcmu_types.specs.Numbered.{HasCause};
+ghost use Rattle.edge.specs.Outside.{CountsFailed};
 ghost use Rattle.tcmu_model.specs.Medium.{Reads, Fills};
 ghost use Rattle.tcmu_model.specs.Scsi.{ReadsBytes, ServesRead, WritesBytes, ServesWrite, ServesSync, ServesWriteSame, Calls, write_error};
 ghost use Rattle.block_engine.specs.Serving.{Served};
@@ -29,6 +30,7 @@ pub fn read_into<M: Medium>(medium: &mut M, at: u64, into: &mut Vec<u8>) -> Resu
     ensures length { length into.new.items ≡ length into.old.items }
     ensures blocks { (M.state medium.new).blocks ≡ (M.state medium.old).blocks }
     ensures cause { HasCause (M.faults medium.old) (M.faults medium.new) result }
+    ensures count { CountsFailed (M.faults medium.old) (is_err result) (M.faults medium.new) }
 {
     medium.read(at, into)
 }

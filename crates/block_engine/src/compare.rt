@@ -1,6 +1,7 @@
 //! COMPARE AND WRITE.
 ghost use Rattle.std.specs.Prelude.{◌≡◌, ◌+◌, ◌*◌, ◌%◌, ◌≤◌, ◌<◌, length, true};
 ghost use Rattle.tcmu_types.specs.Numbered.{Rose};
+ghost use Rattle.edge.specs.Outside.{CountsFailed};
 ghost use Rattle.tcmu_model.specs.Scsi.{ComparesBytes, ComparesBlocks, ServesCompareWrite, Compared, is_medium_error};
 ghost use Rattle.block_engine.specs.Serving.{Served};
 
@@ -28,6 +29,7 @@ fn write_second<M: Medium>(
     requires both { length sent.now ≡ 2 * n }
     ensures allowed { Compared (M.state medium.old) at n sent.now read.now result (M.state medium.new) }
     ensures caused { is_medium_error result.sense ≡ true → Rose (M.faults medium.old) (M.faults medium.new) }
+    ensures exact { CountsFailed (M.faults medium.old) (is_medium_error result.sense) (M.faults medium.new) }
     ensures later { M.faults medium.old ≤ M.faults medium.new }
     ensures empty { length result.payload ≡ 0 }
 {

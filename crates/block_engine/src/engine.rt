@@ -1,6 +1,7 @@
 //! The engine: one handler for every medium.
 ghost use Rattle.std.specs.Prelude.{◌≡◌, ◌≤◌, true, length, IfOk, OnErr};
 ghost use Rattle.tcmu_types.specs.Numbered.{Rose};
+ghost use Rattle.edge.specs.Outside.{CountsFailed};
 ghost use Rattle.tcmu_model.specs.Decoding.{IsDecoded};
 ghost use Rattle.tcmu_model.specs.Scsi.{Serves, ServesOp, is_medium_error};
 ghost use Rattle.block_engine.specs.Serving.{Served};
@@ -80,8 +81,9 @@ impl<M: Medium + Drop> Handler for Engine<M> {
         ensures fits { IfOk result (λ reply. length reply.payload ≤ request.now.in_len) }
         ensures same_medium { OnErr result (M.state self.new.medium ≡ M.state self.old.medium) }
         ensures same_faults { OnErr result (M.faults self.new.medium ≡ M.faults self.old.medium) }
-        // Sense data say that a call of the medium failed only where the medium's count of faults rose.
+        // Sense data say that a call of the medium failed exactly where the medium counts one more.
         ensures caused { IfOk result (λ reply. is_medium_error reply.sense ≡ true → Rose (M.faults self.old.medium) (M.faults self.new.medium)) }
+        ensures exact { IfOk result (λ reply. CountsFailed (M.faults self.old.medium) (is_medium_error reply.sense) (M.faults self.new.medium)) }
     {
         match decode(&request.cdb) {
             Ok(op) => serve(

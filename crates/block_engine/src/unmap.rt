@@ -2,6 +2,7 @@
 ghost use Rattle.std.specs.Prelude.{◌≡◌, ◌≢◌, ◌+◌, ◌*◌, ◌-◌, ◌/◌, ◌^◌, ◌≤◌, ◌<◌, length, is_err, IfOk, IfSome, None, false, []};
 ghost use Rattle.std.specs.List.{sum_by, list_any};
 ghost use Rattle.tcmu_types.specs.Numbered.{HasCause};
+ghost use Rattle.edge.specs.Outside.{CountsFailed};
 ghost use Rattle.tcmu_model.specs.Scsi.{extents_from, extents_of, Unmaps, UnmapsOne, UnmapsList, ServesUnmap, list_checks, first_failed, is_beyond, is_bad_list, has_bad_lengths};
 ghost use Rattle.block_engine.specs.Serving.{Served};
 
@@ -74,6 +75,7 @@ fn unmap_one<M: Medium>(medium: &mut M, extent: Extent) -> Result<(), Failed>
     ensures value { UnmapsOne extent (M.state medium.old) (is_err result) (M.state medium.new) }
     ensures blocks { (M.state medium.new).blocks ≡ (M.state medium.old).blocks }
     ensures cause { HasCause (M.faults medium.old) (M.faults medium.new) result }
+    ensures count { CountsFailed (M.faults medium.old) (is_err result) (M.faults medium.new) }
 {
     if extent.count == 0 {
         return Ok(());
@@ -88,6 +90,7 @@ fn unmap_all<M: Medium>(medium: &mut M, extents: &[Extent]) -> Result<(), Failed
     requires { list_any (is_beyond (M.state medium.old).blocks) extents.now ≡ false }
     ensures value { Unmaps extents.now (M.state medium.old) (is_err result) (M.state medium.new) }
     ensures cause { HasCause (M.faults medium.old) (M.faults medium.new) result }
+    ensures count { CountsFailed (M.faults medium.old) (is_err result) (M.faults medium.new) }
 {
     for extent in extents {
         unmap_one(medium, *extent)?;

@@ -1,6 +1,5 @@
 -- Blocks that are taken, or given back, one after another.
-use Rattle.std.proofs.Common.{◌≡◌, ◌≢◌, ℕ, ◌+◌, ◌<◌, Bool, true, false, not, ◌||◌, ◌&&◌, ◌==◌, max, List, [], ◌∷◌, ◌++◌, length, length-append, slice_index, take, drop, drop-cons, add-one, refl, sym, ap, subst, ◌∙◌, arith, suc, zero}
-use Rattle.std.proofs.lemmas.List.Folds.{list_any-append}
+use Rattle.std.proofs.Common.{◌≡◌, ◌≢◌, ℕ, ◌+◌, ◌<◌, Bool, true, false, not, ◌||◌, ◌&&◌, max, List, [], ◌∷◌, ◌++◌, length, length-append, slice_index, take, drop, drop-cons, add-one, refl, sym, ap, subst, ◌∙◌, arith, suc, zero}
 use Rattle.tcmu_model.specs.Lists.{above_all}
 use Rattle.tcmu_model.specs.Events.{is_among}
 use Rattle.tcmu_model.specs.BlockLists.{free_from}

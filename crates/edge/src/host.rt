@@ -2,6 +2,8 @@
 ghost use Rattle.std.specs.Prelude.{◌≡◌, ◌≤◌, ◌%◌, ◌^◌, ◌+◌, None, length, is_err, IfOk, OnErr};
 ghost use Rattle.tcmu_types.specs.Numbered.{HasCause, next_call};
 ghost use Rattle.edge.specs.Outside.{CountsFailed};
+ghost use Rattle.edge.specs.Stores.{Opened};
+ghost use Rattle.edge.specs.Host.{IsFresh, untold};
 
 use crate::files::has_medium_size;
 use crate::{Failed, FetchOk, Files, Store};
@@ -36,6 +38,7 @@ impl HostStore {
         ensures kept { self.new ≡ record self.old { calls = next_call self.old.calls; faults = self.new.faults } }
         ensures cause { HasCause self.old.faults self.new.faults result }
         ensures count { CountsFailed self.old.faults (is_err result) self.new.faults }
+        ensures same { is_err result ≡ is_err outcome }
     {
         self.calls = self.calls.saturating_add(1);
         match outcome {
@@ -128,7 +131,13 @@ impl<R: fs::Files<File = File> + Drop> Files for HostFiles<R> {
 
     ghost faults = { λ f. f };
 
-    fn fetch(&mut self, _alloc: Global, name: &[u8]) -> Result<FetchOk<HostStore>, Failed> {
+    fn fetch(&mut self, _alloc: Global, name: &[u8]) -> Result<FetchOk<HostStore>, Failed>
+        ensures fetched { IfOk result (λ given. elim given [ FetchOk.File s ↦ Opened name.now (untold s) None None | FetchOk.NoMemory ↦ ⊥ ]) }
+        ensures cause { HasCause self.old self.new result }
+        ensures count { CountsFailed self.old (is_err result) self.new }
+        // Of the store that is given no call was made yet.
+        ensures fresh { IfOk result IsFresh }
+    {
         match open(&self.runtime, name) {
             Some((file, length)) if has_medium_size(length) => Ok(FetchOk::File(HostStore {
                 file,

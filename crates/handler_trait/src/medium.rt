@@ -1,6 +1,7 @@
 //! What a handler serves its device's bytes from.
 ghost use Rattle.std.specs.Prelude.{◌≡◌, ℕ, ◌+◌, ◌*◌, ◌%◌, ◌^◌, ◌<◌, ◌≤◌, length, is_err, OnOk};
 ghost use Rattle.tcmu_types.specs.Numbered.{HasCause};
+ghost use Rattle.edge.specs.Outside.{CountsFailed};
 ghost use Rattle.tcmu_model.specs.MediumState.{MediumState};
 ghost use Rattle.tcmu_model.specs.Medium.{Reads, Writes, Fills, Syncs};
 
@@ -32,7 +33,8 @@ pub trait Medium {
         ensures reads { Reads at into.new (state self.old) (is_err result) (state self.new) }
         ensures blocks { (state self.new).blocks ≡ (state self.old).blocks }
         ensures protected { (state self.new).protected ≡ (state self.old).protected }
-        ensures cause { HasCause (faults self.old) (faults self.new) result };
+        ensures cause { HasCause (faults self.old) (faults self.new) result }
+        ensures count { CountsFailed (faults self.old) (is_err result) (faults self.new) };
 
     /// Writes whole blocks, at least one, from a block's start on. After a failed call only bytes of this range may differ.
     fn write(&mut self, at: u64, bytes: &[u8]) -> Result<(), Failed>
@@ -43,7 +45,8 @@ pub trait Medium {
         ensures writes { Writes at bytes.now (state self.old) (is_err result) (state self.new) }
         ensures blocks { (state self.new).blocks ≡ (state self.old).blocks }
         ensures protected { (state self.new).protected ≡ (state self.old).protected }
-        ensures cause { HasCause (faults self.old) (faults self.new) result };
+        ensures cause { HasCause (faults self.old) (faults self.new) result }
+        ensures count { CountsFailed (faults self.old) (is_err result) (faults self.new) };
 
     /// Writes `count` copies of a block, at least one, from a block's start on. After a failed call only bytes of this range may differ.
     fn fill(&mut self, at: u64, block: &[u8; 512], count: u64) -> Result<(), Failed>
@@ -53,7 +56,8 @@ pub trait Medium {
         ensures fills { Fills at block.now count (state self.old) (is_err result) (state self.new) }
         ensures blocks { (state self.new).blocks ≡ (state self.old).blocks }
         ensures protected { (state self.new).protected ≡ (state self.old).protected }
-        ensures cause { HasCause (faults self.old) (faults self.new) result };
+        ensures cause { HasCause (faults self.old) (faults self.new) result }
+        ensures count { CountsFailed (faults self.old) (is_err result) (faults self.new) };
 
     /// Brings all that was written before to what is below (SYNCHRONIZE CACHE). The bytes of the medium stay as they are.
     fn sync(&mut self) -> Result<(), Failed>
@@ -61,5 +65,6 @@ pub trait Medium {
         ensures reached { OnOk result (synced self.old self.new) }
         ensures blocks { (state self.new).blocks ≡ (state self.old).blocks }
         ensures protected { (state self.new).protected ≡ (state self.old).protected }
-        ensures cause { HasCause (faults self.old) (faults self.new) result };
+        ensures cause { HasCause (faults self.old) (faults self.new) result }
+        ensures count { CountsFailed (faults self.old) (is_err result) (faults self.new) };
 }

@@ -1,6 +1,7 @@
 //! The calls that a medium numbers itself, and its count of faults.
 ghost use Rattle.std.specs.Prelude.{◌≡◌, [], is_err, OnOk};
 ghost use Rattle.tcmu_types.specs.Numbered.{HasCause, is_listed, next_call};
+ghost use Rattle.edge.specs.Outside.{CountsFailed};
 
 use edge::Failed;
 use tcmu_types::Serials;
@@ -32,8 +33,8 @@ impl OwnCalls {
         ensures exact { is_err result ≡ is_listed self.old.fails.items self.old.made }
         ensures made { self.new.made ≡ next_call self.old.made }
         ensures fails { self.new.fails ≡ self.old.fails }
-        ensures faults { OnOk result (self.new.faults ≡ self.old.faults) }
         ensures cause { HasCause self.old.faults self.new.faults result }
+        ensures count { CountsFailed self.old.faults (is_err result) self.new.faults }
     {
         self.made = self.made.saturating_add(1);
         if self.fails.contains(self.made) {
@@ -49,6 +50,7 @@ impl OwnCalls {
         ensures made { self.new.made ≡ self.old.made }
         ensures fails { self.new.fails ≡ self.old.fails }
         ensures cause { HasCause self.old.faults self.new.faults result }
+        ensures count { CountsFailed self.old.faults (is_err result) self.new.faults }
     {
         if reached.is_err() {
             self.faults = self.faults.saturating_add(1);

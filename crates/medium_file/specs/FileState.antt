@@ -1,9 +1,9 @@
 -- What a medium over a store shows.
-use Rattle.std.specs.Prelude.{◌≡◌, ℕ, ◌*◌, ◌^◌, ◌≤◌, false, Some, []}
+use Rattle.std.specs.Prelude.{◌≡◌, ℕ, ◌+◌, ◌*◌, ◌^◌, ◌<◌, ◌≤◌, false, List, Option, Some, []}
 use Rattle.std.specs.Option.{option_map}
 use Rattle.tcmu_model.specs.MediumState.{Span, Below, MediumState, file}
-use Rattle.tcmu_model.specs.Medium.{blanked}
-use Rattle.edge.specs.Stores.{StoreState}
+use Rattle.tcmu_model.specs.Medium.{blanked, repeated}
+use Rattle.edge.specs.Stores.{StoreState, Puts, Spoils}
 use Rattle.medium_file.specs.declared.file.Lost.{Lost}
 
 abbrev pub lost_span : Lost → Span
@@ -25,3 +25,11 @@ pub record IsFile (blocks : ℕ) (s : StoreState) (lost : Span) : Type 0 where
   pub most : blocks ≤ 2 ^ 35
   pub ordered : lost.start ≤ lost.end
   pub inside : lost.end ≤ s.size
+
+-- copies of a block were put from a place on, in order, up to the one whose call failed
+pub record PutsInPart (at : ℕ) (block : List ℕ) (count : ℕ) (old new : Option (List ℕ)) : Type 0 where
+  pub done : ℕ
+  pub fewer : done < count
+  pub middle : Option (List ℕ)
+  pub put : Puts at (repeated done block) old middle
+  pub spoiled : Spoils (at + 512 * done) 512 middle new

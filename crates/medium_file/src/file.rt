@@ -3,8 +3,9 @@ ghost use Rattle.std.specs.Prelude.{◌≡◌, ◌+◌, ◌*◌, ◌/◌, ◌%�
 ghost use Rattle.std.specs.Option.{option_map};
 ghost use Rattle.tcmu_types.specs.Numbered.{HasCause, next_call};
 ghost use Rattle.tcmu_model.specs.Medium.{Reads, Writes, Fills, repeated, narrowed, widened, span_of, empty_span, blanked};
+ghost use Rattle.edge.specs.Outside.{CountsFailed};
 ghost use Rattle.edge.specs.Stores.{Shows, Puts, Spoils};
-ghost use Rattle.medium_file.specs.FileState.{file_state, lost_span, IsFile};
+ghost use Rattle.medium_file.specs.FileState.{file_state, lost_span, IsFile, PutsInPart};
 
 use crate::filling::fill_store;
 use edge::{Failed, Store};
@@ -112,6 +113,7 @@ impl<S: Store + Drop> Medium for FileMedium<S> {
             (file_state self.new.blocks (S.state self.new.store) (lost_span self.new.lost) self.new.calls) }
         ensures blocks { self.new.blocks ≡ self.old.blocks }
         ensures cause { HasCause (S.faults self.old.store) (S.faults self.new.store) result }
+        ensures count { CountsFailed (S.faults self.old.store) (is_err result) (S.faults self.new.store) }
         // What the store tells, in the lost range too, and no byte changes.
         ensures exact { OnOk result (Shows (S.state self.old.store).bytes at into.new) }
         ensures kept { (S.state self.new.store).bytes ≡ (S.state self.old.store).bytes }
@@ -129,6 +131,7 @@ impl<S: Store + Drop> Medium for FileMedium<S> {
             (file_state self.new.blocks (S.state self.new.store) (lost_span self.new.lost) self.new.calls) }
         ensures blocks { self.new.blocks ≡ self.old.blocks }
         ensures cause { HasCause (S.faults self.old.store) (S.faults self.new.store) result }
+        ensures count { CountsFailed (S.faults self.old.store) (is_err result) (S.faults self.new.store) }
         // Of the store's own bytes, in the lost range too, only those of this range change.
         ensures put { OnOk result (Puts at bytes.now (S.state self.old.store).bytes (S.state self.new.store).bytes) }
         ensures spoiled { OnErr result (Spoils at (length bytes.now) (S.state self.old.store).bytes (S.state self.new.store).bytes) }
@@ -155,8 +158,9 @@ impl<S: Store + Drop> Medium for FileMedium<S> {
             (file_state self.new.blocks (S.state self.new.store) (lost_span self.new.lost) self.new.calls) }
         ensures blocks { self.new.blocks ≡ self.old.blocks }
         ensures cause { HasCause (S.faults self.old.store) (S.faults self.new.store) result }
+        ensures count { CountsFailed (S.faults self.old.store) (is_err result) (S.faults self.new.store) }
         ensures put { OnOk result (Puts at (repeated count block.now) (S.state self.old.store).bytes (S.state self.new.store).bytes) }
-        ensures spoiled { OnErr result (Spoils at (512 * count) (S.state self.old.store).bytes (S.state self.new.store).bytes) }
+        ensures spoiled { OnErr result (PutsInPart at block.now count (S.state self.old.store).bytes (S.state self.new.store).bytes) }
     {
         self.calls = self.calls.saturating_add(1);
         match fill_store(&mut self.store, at, block, count) {

@@ -2,7 +2,9 @@
 ghost use Rattle.std.specs.Prelude.{◌≡◌, ◌+◌, ◌*◌, ◌≤◌, is_err, OnOk, OnErr};
 ghost use Rattle.tcmu_types.specs.Numbered.{Tries, HasCause};
 ghost use Rattle.tcmu_model.specs.Medium.{repeated};
+ghost use Rattle.edge.specs.Outside.{CountsFailed};
 ghost use Rattle.edge.specs.Stores.{Puts, Spoils};
+ghost use Rattle.medium_file.specs.FileState.{PutsInPart};
 
 use edge::{Failed, Store};
 
@@ -16,9 +18,11 @@ pub fn fill_store<S: Store>(
     requires { at + 512 * count ≤ (S.state store.old).size }
     ensures put { OnOk result (Puts at (repeated count block.now) (S.state store.old).bytes (S.state store.new).bytes) }
     ensures failed { OnErr result (Spoils at (512 * count) (S.state store.old).bytes (S.state store.new).bytes) }
+    ensures front { OnErr result (PutsInPart at block.now count (S.state store.old).bytes (S.state store.new).bytes) }
     ensures size { (S.state store.new).size ≡ (S.state store.old).size }
     ensures calls { Tries count (S.state store.old).calls (is_err result) (S.state store.new).calls }
     ensures cause { HasCause (S.faults store.old) (S.faults store.new) result }
+    ensures count { CountsFailed (S.faults store.old) (is_err result) (S.faults store.new) }
 {
     // It shows that the places fit a u64.
     let _length = store.length();

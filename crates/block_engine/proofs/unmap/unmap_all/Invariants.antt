@@ -1,4 +1,4 @@
-use Rattle.std.proofs.Common.{◌≡◌, ◌≤◌, false, drop}
+use Rattle.std.proofs.Common.{◌≡◌, false, drop}
 use Rattle.std.specs.List.{list_any}
 use Rattle.tcmu_model.specs.Scsi.{is_beyond}
 use Rattle.block_engine.proofs.Unmapping.{GoesOn}
@@ -12,5 +12,5 @@ invariant-loop-extent g l =
     record {
       goes_on : GoesOn l.extents old rest now;
       inside : list_any (is_beyond now.blocks) rest ≡ false;
-      later : g.M.Medium.faults l.initial.medium ≤ g.M.Medium.faults l.medium;
+      calm : g.M.Medium.faults l.medium ≡ g.M.Medium.faults l.initial.medium;
     }

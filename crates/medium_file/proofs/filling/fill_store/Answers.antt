@@ -4,7 +4,7 @@ use Rattle.medium_file.proofs.StoreCalls.{tries_none, tries_more, tries_stop, tr
 use Rattle.medium_file.proofs.filling.fill_store.Goals as goal
 
 pub loop-k-init : goal.loop-k-init
-loop-k-init g c = record { size = refl; calls = tries_none _; bytes = puts_none c.args.at c.args.block.now _; faults = omega arith }
+loop-k-init g c = record { size = refl; calls = tries_none _; bytes = puts_none c.args.at c.args.block.now _; faults = refl }
 
 pub loop-k-preserved : goal.loop-k-preserved
 loop-k-preserved g c =
@@ -14,12 +14,23 @@ loop-k-preserved g c =
       size = c.in-Ok.ensures.size ∙ c.loop-k.invariant.size;
       calls = tries_more _ _ _ c.loop-k.k c.loop-k.invariant.calls c.in-Ok.ensures.exact c.in-Ok.ensures.calls;
       bytes = puts_more c.args.at c.loop-k.k c.args.block.now _ _ _ _ block room (g.S.Store.sized c.args.store.now) c.loop-k.invariant.bytes c.in-Ok.ensures.put;
-      faults = omega (arith, c.loop-k.invariant.faults, c.in-Ok.ensures.cause.later);
+      faults = c.in-Ok.ensures.count ∙ c.loop-k.invariant.faults;
     }
 
 pub returns-in-Err-clause-calls : goal.returns-in-Err-clause-calls
 returns-in-Err-clause-calls g c =
     tries_stop _ _ _ c.loop-k.k c.args.count c.loop-k.invariant.calls c.loop-k-test.true c.in-Err.ensures.exact c.in-Err.ensures.calls
+
+pub returns-in-Err-clause-front : goal.returns-in-Err-clause-front
+returns-in-Err-clause-front g c =
+    let block : length c.args.block.now ≡ 512 = search rules in
+    record {
+      done = c.loop-k.k;
+      fewer = c.loop-k-test.true;
+      middle = (g.S.Store.state c.loop-k.store).bytes;
+      put = c.loop-k.invariant.bytes;
+      spoiled = subst (λ n. Spoils (c.args.at + 512 * c.loop-k.k) n (g.S.Store.state c.loop-k.store).bytes (g.S.Store.state c.write_at.new.self).bytes) block c.in-Err.ensures.failed;
+    }
 
 pub returns-in-Err-clause-failed : goal.returns-in-Err-clause-failed
 returns-in-Err-clause-failed g c =
