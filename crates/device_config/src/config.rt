@@ -46,13 +46,13 @@ impl Model for Config {
 
 /// What the path of a config text says.
 #[derive(Debug, Drop)]
-struct Path {
+struct MediumPath {
     kind: MediumKind,
     protected: bool,
     fails: Serials,
 }
 
-impl Model for Path {
+impl Model for MediumPath {
     ghost use Rattle.tcmu_model.specs.Config.{PathData};
     ghost use Rattle.device_config.specs.Views.{medium_data};
 
@@ -136,7 +136,7 @@ fn medium_of(alloc: Global, text: &[u8]) -> Result<Option<MediumKind>, NoMemory>
 
 /// The calls that fail, and the medium whose calls they are.
 #[tactic(auto, unfolding(tcmu_model::specs::Config::path_of))]
-fn failing_path(alloc: Global, text: &[u8]) -> Result<Option<Path>, NoMemory>
+fn failing_path(alloc: Global, text: &[u8]) -> Result<Option<MediumPath>, NoMemory>
     ensures { IfOk result (λ o. o ≡ path_of Subtype.Fail text.now) }
 {
     let Some((numbers, rest)) = cut(text, b'/') else {
@@ -148,18 +148,18 @@ fn failing_path(alloc: Global, text: &[u8]) -> Result<Option<Path>, NoMemory>
     let Some(kind) = medium_of(alloc, rest)? else {
         return Ok(None);
     };
-    Ok(Some(Path {
+    Ok(Some(MediumPath {
         kind,
         protected: false,
         fails,
     }))
 }
 
-fn plain_path(alloc: Global, kind: Option<MediumKind>, protected: bool) -> Option<Path>
+fn plain_path(alloc: Global, kind: Option<MediumKind>, protected: bool) -> Option<MediumPath>
     ensures { result ≡ option_map (λ m. record { kind = m; protected = protected; fails = [] }) (option_map medium_data kind) }
 {
     let kind = kind?;
-    Some(Path {
+    Some(MediumPath {
         kind,
         protected,
         fails: Serials::new(alloc),
@@ -167,7 +167,7 @@ fn plain_path(alloc: Global, kind: Option<MediumKind>, protected: bool) -> Optio
 }
 
 #[tactic(auto, unfolding(tcmu_model::specs::Config::path_of))]
-fn path_of(alloc: Global, subtype: Subtype, text: &[u8]) -> Result<Option<Path>, NoMemory>
+fn path_of(alloc: Global, subtype: Subtype, text: &[u8]) -> Result<Option<MediumPath>, NoMemory>
     ensures { IfOk result (λ o. o ≡ path_of subtype text.now) }
 {
     match subtype {
@@ -211,7 +211,7 @@ fn parts_of(alloc: Global, text: &[u8]) -> Result<Config, ConfigFault>
     let (name, rest) = name_part(rest)?;
     let (subtype, rest) = subtype_part(rest)?;
     let path = path_of(alloc, subtype, rest)?.ok_or(ConfigFault::Path)?;
-    let Path {
+    let MediumPath {
         kind,
         protected,
         fails,

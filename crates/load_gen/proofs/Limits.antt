@@ -8,7 +8,7 @@ use Rattle.tcmu_model.specs.ScenarioData.{DeviceLineData, LineData, ScenarioData
 use Rattle.tcmu_model.specs.ScenarioData as line
 use Rattle.tcmu_model.specs.Scenario.{with_name, is_dump, bytes_in, bytes_out, initiators, initiators_from, with_initiator}
 use Rattle.tcmu_model.specs.ScenarioRules.{IsScenario, IsDeviceLine, IsLine}
-use Rattle.tcmu_model.specs.Load.{load_command, load_writes, load_place, load_count, load_fill, load_line, load_step, load_lines, load_device, load_config, load_settings, load_scenario_data, random_of}
+use Rattle.tcmu_model.specs.Load.{load_command, load_writes, load_lba, load_count, load_fill, load_line, load_step, load_lines, load_device, load_config, load_settings, load_scenario_data, random_of}
 use Rattle.load_gen.proofs.Sendable.{IsLoad, write_is, read_is}
 use Rattle.tcmu_model.proofs.ScenarioLaws.{initiators_append}
 
@@ -23,8 +23,8 @@ unfolding load_command
 command_is tag x = go (load_writes x) refl
   where
     go : (b : Bool) → load_writes x ≡ b → IsLoad (load_command tag x)
-    go true e = rw e (write_is tag (load_place x) (load_count x) (load_fill x) (count_few x))
-    go false e = rw e (read_is tag (load_place x) (load_count x) (count_few x))
+    go true e = rw e (write_is tag (load_lba x) (load_count x) (load_fill x) (count_few x))
+    go false e = rw e (read_is tag (load_lba x) (load_count x) (count_few x))
 
 abbrev pub submit_line : ℕ → ℕ → LineData
 submit_line i x = load_line (line.Makes (ev.Submit (load_command i x)))

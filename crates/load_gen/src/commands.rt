@@ -4,7 +4,7 @@ ghost use Rattle.tcmu_types.specs.Data.{CommandData};
 ghost use Rattle.tcmu_types.specs.Rules.{is_sendable};
 ghost use Rattle.tcmu_model.specs.Load.{load_cdb, load_command, load_fill, load_count};
 
-use crate::numbers::{load_count, load_fill, load_place, load_writes};
+use crate::numbers::{load_count, load_fill, load_lba, load_writes};
 use std::alloc::Global;
 use tcmu_types::{Bytes, Cdb, Command, Name, NoMemory};
 
@@ -66,13 +66,13 @@ pub fn load_command(alloc: Global, tag: u32, x: u64) -> Result<Command, NoMemory
     ensures { IfOk result (λ c. c ≡ load_command tag x) }
 {
     let count = load_count(x);
-    let place = load_place(x);
+    let lba = load_lba(x);
     if load_writes(x) {
         let sent = filled(alloc, load_fill(x), count)?;
-        let cdb = cdb_of(WRITE_10, place, count);
+        let cdb = cdb_of(WRITE_10, lba, count);
         return Ok(command_of(tag, cdb, sent, 0));
     }
     let in_len = u32::from(count) * u32::from(BLOCK_BYTES);
-    let cdb = cdb_of(READ_10, place, count);
+    let cdb = cdb_of(READ_10, lba, count);
     Ok(command_of(tag, cdb, Bytes::new(alloc), in_len))
 }

@@ -1,6 +1,6 @@
 //! The numbers behind a seed, and what each of them asks for.
 ghost use Rattle.std.specs.Prelude.{◌≡◌, ◌≤◌, ◌<◌};
-ghost use Rattle.tcmu_model.specs.Load.{next_random, load_count, load_place, load_fill, load_writes};
+ghost use Rattle.tcmu_model.specs.Load.{next_random, load_count, load_lba, load_fill, load_writes};
 
 /// The next of the 64-bit pseudo-random numbers of a load: a linear congruential generator (Knuth's MMIX) modulo 2^64.
 #[tactic(auto, using(crate::proofs::Remainders::one_remainder), unfolding(tcmu_model::specs::Load::next_random))]
@@ -22,9 +22,9 @@ pub fn load_count(x: u64) -> u16
 }
 
 /// The first logical block that a number asks for; the others follow it.
-#[tactic(auto, unfolding(tcmu_model::specs::Load::load_place))]
-pub fn load_place(x: u64) -> u32
-    ensures { result ≡ load_place x }
+#[tactic(auto, unfolding(tcmu_model::specs::Load::load_lba))]
+pub fn load_lba(x: u64) -> u32
+    ensures { result ≡ load_lba x }
 {
     ((x >> 33) % 4089) as u32
 }

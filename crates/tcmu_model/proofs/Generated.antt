@@ -2,18 +2,18 @@
 use Rattle.std.proofs.Common.{refl}
 use Rattle.std.specs.Fmt.{digits}
 use Rattle.tcmu_model.specs.Text.{hex_byte, runs, run_text, runs_text, numbers_text, flags_text, medium_text, kind_text, config_text, last_text, settings_text, device_spelling, data_fields, command_text, event_text}
-use Rattle.tcmu_model.specs.Load.{next_random, random_of, load_count, load_place, load_fill, load_writes, load_cdb, load_command, load_step, load_lines, load_config, load_settings, load_device, summary_text, FirstNumber, FirstCommand, FirstLine, DeviceLine, DrainBehindSixteen, EmptySummary, OneSummary}
+use Rattle.tcmu_model.specs.Load.{next_random, random_of, load_count, load_lba, load_fill, load_writes, load_cdb, load_command, load_step, load_lines, load_config, load_settings, load_device, summary_text, FirstNumber, FirstCommand, FirstLine, DeviceLine, DrainBehindSixteen, EmptySummary, OneSummary}
 
 pub first_number : FirstNumber
 unfolding next_random random_of
 first_number = refl
 
 pub first_command : FirstCommand
-unfolding next_random random_of load_count load_place load_fill load_writes load_cdb load_command
+unfolding next_random random_of load_count load_lba load_fill load_writes load_cdb load_command
 first_command = refl
 
 pub first_line : FirstLine
-unfolding next_random random_of load_count load_place load_fill load_writes load_cdb load_command hex_byte runs run_text runs_text data_fields command_text event_text digits
+unfolding next_random random_of load_count load_lba load_fill load_writes load_cdb load_command hex_byte runs run_text runs_text data_fields command_text event_text digits
 first_line = refl
 
 pub device_line : DeviceLine

@@ -33,8 +33,8 @@ random_of seed (suc i) = next_random (random_of seed i)
 unfoldable pub load_count : ℕ → ℕ
 load_count x = 1 + x / 2 ^ 60 % 8
 
-unfoldable pub load_place : ℕ → ℕ
-load_place x = x / 2 ^ 33 % 4089
+unfoldable pub load_lba : ℕ → ℕ
+load_lba x = x / 2 ^ 33 % 4089
 
 unfoldable pub load_fill : ℕ → ℕ
 load_fill x = x / 2 ^ 40 % 256
@@ -50,8 +50,8 @@ load_cdb code place count = (code ∷ 0 ∷ []) ++ big_bytes 4 place ++ (0 ∷ [
 unfoldable pub load_command : ℕ → ℕ → CommandData
 load_command tag x =
     if load_writes x
-    then record { init = codes "a"; tag = tag; cdb = load_cdb 0x2a (load_place x) (load_count x); sent = replicate (load_count x * 512) (load_fill x); in_len = 0 }
-    else record { init = codes "a"; tag = tag; cdb = load_cdb 0x28 (load_place x) (load_count x); sent = []; in_len = load_count x * 512 }
+    then record { init = codes "a"; tag = tag; cdb = load_cdb 0x2a (load_lba x) (load_count x); sent = replicate (load_count x * 512) (load_fill x); in_len = 0 }
+    else record { init = codes "a"; tag = tag; cdb = load_cdb 0x28 (load_lba x) (load_count x); sent = []; in_len = load_count x * 512 }
 
 -- ==== the scenario
 

@@ -77,10 +77,6 @@ with_rules s (Adds l) = with_line s l
 
 -- ---- the last rule: what is not served yet
 
--- the subtype `mem`
-abbrev pub is_plain_memory : ConfigData → Bool
-is_plain_memory c = elim (c.kind) [ InMemory n ↦ not c.protected && (length c.fails == 0) | InFile name ↦ false ]
-
 -- dumps
 unfoldable pub is_not_yet : ScenarioData → Said → Bool
 is_not_yet s (Opens d) = false

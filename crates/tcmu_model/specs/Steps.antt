@@ -133,7 +133,3 @@ pub record Step (R : HandlerRelation) (d : Device) (e : EntryData) (d' : Device)
 abbrev pub Run : HandlerRelation → Device → List EntryData → Device → Type 0
 Run R d [] d' = d' ≡ d
 Run R d (e ∷ es) d' = (mid : Device) × Step R d e mid × Run R mid es d'
-
--- a journal from this opening is legal where it has a run
-abbrev pub IsLegal : HandlerRelation → Device → List EntryData → Type 0
-IsLegal R d es = (end : Device) × Run R d es end

@@ -16,7 +16,7 @@ use tcmu_types::{Bytes, Command, Done, NoMemory, Reply, ScsiStatus, Sense};
 
 /// What a reply says beside its bytes.
 #[derive(Clone, Copy, Debug)]
-pub struct Head {
+pub struct ReplyHead {
     pub status: ScsiStatus,
     pub sense: Option<Sense>,
 }
@@ -29,7 +29,7 @@ pub struct Row {
     state: CommandState,
     deadline: Option<u64>,
     expired: bool,
-    head: Option<Head>,
+    head: Option<ReplyHead>,
     buffer: Bytes,
 }
 
@@ -133,7 +133,7 @@ impl Row {
         ensures { self.new ≡ with_reply reply.now self.old }
     {
         self.state = CommandState::Handled;
-        self.head = Some(Head {
+        self.head = Some(ReplyHead {
             status: reply.status,
             sense: reply.sense,
         });

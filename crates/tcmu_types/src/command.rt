@@ -8,7 +8,7 @@ use std::alloc::Global;
 use std::marker::Model;
 
 /// The most bytes that a command carries, in either direction.
-const MOST_BYTES: usize = 1_048_576;
+const MOST_PAYLOAD: usize = 1_048_576;
 
 /// A SCSI command: its initiator and task tag (SAM-5), its command descriptor block, the bytes sent with it, and how many bytes
 /// it asks for. Data goes in one direction alone.
@@ -44,7 +44,7 @@ impl Command {
         if sends && in_len > 0 || !sends && sent.len() > 0 {
             return None;
         }
-        if sent.len() > MOST_BYTES || in_len as usize > MOST_BYTES {
+        if sent.len() > MOST_PAYLOAD || in_len as usize > MOST_PAYLOAD {
             return None;
         }
         Some(Command {
