@@ -1,4 +1,4 @@
-//! COMPARE AND WRITE.
+//! COMPARE AND WRITE (SBC-3).
 ghost use Rattle.std.specs.Prelude.{◌≡◌, ◌+◌, ◌*◌, ◌%◌, ◌≤◌, ◌<◌, length, true};
 ghost use Rattle.tcmu_types.specs.Numbered.{Rose};
 ghost use Rattle.edge.specs.Outside.{CountsFailed};

@@ -27,12 +27,12 @@ pub fn one_reply_in_memory()
     ensures { OneReplyInMemory }
 {}
 
-/// A medium in memory of which nothing is lost stays one behind each request, and the request has one reply.
+/// A medium in memory of which nothing is lost stays one after each request, and the request has one reply.
 pub fn stays_in_memory()
     ensures { StaysInMemory }
 {}
 
-/// A medium in a file stays one behind each request, and tells its bytes as it did before.
+/// A medium in a file stays one after each request, and tells its bytes as it did before.
 pub fn stays_in_file()
     ensures { StaysInFile }
 {}

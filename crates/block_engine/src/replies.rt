@@ -32,7 +32,7 @@ pub fn refused(alloc: Global, sense: Sense) -> Reply
     }
 }
 
-/// The reply behind a call of the medium: good with this payload, or refused with this sense data where the call failed.
+/// The reply after a call of the medium: good with this payload, or refused with this sense data where the call failed.
 pub fn after_call(alloc: Global, outcome: Result<(), Failed>, payload: Bytes, sense: Sense) -> Reply
     ensures { result ≡ (if is_err outcome then refused sense else good payload.items) }
 {

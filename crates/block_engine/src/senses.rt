@@ -1,4 +1,4 @@
-//! Sense data (SPC-4, sense key and additional sense code assignments).
+//! Sense data (SPC-4, 4.5.6).
 ghost use Rattle.std.specs.Prelude.{◌≡◌, ◌≢◌};
 ghost use Rattle.tcmu_model.specs.Scsi.{fault_sense};
 
@@ -19,7 +19,7 @@ pub const UNRECOVERED_READ_ERROR: Sense = Sense {
     ascq: 0,
 };
 
-/// MEDIUM ERROR, WRITE ERROR: a write or a sync of the medium failed.
+/// MEDIUM ERROR, WRITE ERROR: a write, a fill or a sync of the medium failed.
 pub const WRITE_ERROR: Sense = Sense {
     key: 0x3,
     asc: 0x0c,

@@ -1,4 +1,4 @@
-//! UNMAP.
+//! UNMAP (SBC-3): its parameter list checked, and its ranges filled with zeros.
 ghost use Rattle.std.specs.Prelude.{◌≡◌, ◌≢◌, ◌+◌, ◌*◌, ◌-◌, ◌/◌, ◌^◌, ◌≤◌, ◌<◌, length, is_err, IfOk, IfSome, None, false, []};
 ghost use Rattle.std.specs.List.{sum_by, list_any};
 ghost use Rattle.tcmu_types.specs.Numbered.{HasCause};

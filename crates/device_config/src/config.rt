@@ -1,4 +1,4 @@
-//! `tcm-user/<hba_num>/<device_name>/<subtype>/<path>`.
+//! Config texts, `tcm-user/<hba_num>/<device_name>/<subtype>/<path>`, read into a `Config` or their first fault.
 ghost use Rattle.std.specs.Prelude.{◌≡◌, ◌==◌, ℕ, List, Some, None, IfOk, IfSome, IfNone, length, bytes_eq, [], nat_le, ◌&&◌};
 ghost use Rattle.std.specs.List.{list_all, position};
 ghost use Rattle.std.specs.Option.{option_map};

@@ -18,8 +18,8 @@ pub trait Source {
     /// How many calls have failed; the count stops at 2^64 - 1.
     ghost faults: { Self → ℕ };
 
-    /// Takes bytes from the front of those that are left, puts them at the front of `into`, and answers how many. None for a
-    /// piece that is not empty is the end of the source. A failed call takes none.
+    /// Takes bytes from the front of those that are left, puts them at the front of `into`, and answers how many. `Ok(0)` for an
+    /// `into` that is not empty means the end of the source. A failed call takes no byte.
     fn read(&mut self, into: &mut [u8]) -> Result<usize, Failed>
         ensures within { IfOk result (λ n. n ≤ length into.new) }
         ensures takes { IfOk result (λ n. Gave (left self.old) (take n into.new) (left self.new)) }

@@ -40,7 +40,7 @@ impl<R: Read> Source for StdSource<R> {
     ghost faults = { λ s. s.faults };
 
     /// One read of the reader. Where the reader tells what it has left, a call that did not fail took just what it gave from the front
-    /// of it, and none for a piece that is not empty only at its end; a failed call took none.
+    /// of it, and `Ok(0)` for an `into` that is not empty comes only at its end; a failed call took no byte.
     fn read(&mut self, into: &mut [u8]) -> Result<usize, Failed>
         ensures within { IfOk result (λ n. n ≤ length into.new) }
         ensures cause { HasCause self.old.faults self.new.faults result }

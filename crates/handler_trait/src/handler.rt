@@ -29,6 +29,7 @@ pub trait Handler {
     /// The device's name.
     ghost name: { Self → List ℕ };
 
+    /// The medium that it serves from, as its calls left it.
     ghost medium: { Self → MediumState };
 
     /// How many calls of what is below have failed.
@@ -38,7 +39,8 @@ pub trait Handler {
     /// medium after. It belongs to the type.
     ghost relation: { List ℕ → MediumState → Asked → ReplyData → MediumState → Type 0 };
 
-    /// Serves one command. No call changes the name, the count of faults never falls, and after want of memory nothing changed.
+    /// Serves one command. The reply has at most `in_len` bytes. No call changes the name, the count of faults never falls, and after
+    /// want of memory nothing changed.
     fn handle(&mut self, alloc: Global, request: &Request) -> Result<Reply, NoMemory>
         ensures same_name { name self.new ≡ name self.old }
         ensures faults { faults self.old ≤ faults self.new }

@@ -9,12 +9,13 @@ use edge::Failed;
 
 /// Logical blocks of 512 bytes (SBC-3). Places are offsets in bytes. No call changes the number of blocks or the protected bit.
 pub trait Medium {
+    /// The number of blocks, the protected bit, the bytes where they are told, and the calls made.
     ghost state: { Self → MediumState };
 
     /// How many calls have failed; the count stops at 2^64 - 1.
     ghost faults: { Self → ℕ };
 
-    /// What stands between a medium and itself behind a sync that did not fail: what is below was asked for one more sync.
+    /// What stands between a medium and itself after a sync that did not fail: what is below was asked for one more sync.
     ghost synced: { Self → Self → Type 0 };
 
     /// How many logical blocks there are.

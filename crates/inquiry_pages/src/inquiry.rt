@@ -1,4 +1,4 @@
-//! INQUIRY data.
+//! INQUIRY data: the standard data, and the pages of vital product data.
 ghost use Rattle.std.specs.Prelude.{◌≡◌, ◌≤◌, ◌<◌, ◌++◌, length, IsTrue, IfOk};
 ghost use Rattle.tcmu_model.specs.Pages.{standard_inquiry, vpd_page, vital_page, designator, vendor, block_limits};
 ghost use Rattle.tcmu_model.specs.Decoding.{is_vpd_page};
@@ -54,7 +54,8 @@ fn block_limits() -> [u8; 60]
     limits
 }
 
-/// The page of vital product data 00h, 80h or 83h (SPC-4) or B0h (SBC-3) of the device of this name, with its header.
+/// The page of vital product data of the device of this name, with its header: 00h Supported VPD Pages, 80h Unit Serial Number or 83h
+/// Device Identification (SPC-4), or B0h Block Limits (SBC-3).
 #[tactic(auto, unfolding(tcmu_model::specs::Pages::vpd_page))]
 pub fn vpd_page(alloc: Global, name: &Name, page: u8) -> Result<Bytes, NoMemory>
     requires { IsTrue (is_vpd_page page) }

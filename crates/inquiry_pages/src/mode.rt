@@ -1,4 +1,4 @@
-//! Mode data.
+//! MODE SENSE(6) data: the header, and the caching and control pages.
 ghost use Rattle.std.specs.Prelude.{◌≡◌, ◌≤◌, ◌+◌, ◌++◌, [], ◌∷◌, length, IsTrue, IfOk, if◌then◌else◌};
 ghost use Rattle.tcmu_model.specs.Pages.{mode_sense, mode_pages};
 ghost use Rattle.tcmu_model.specs.Decoding.{is_mode_page};
@@ -29,7 +29,8 @@ fn with_header(
     Ok(Bytes::from_vec(bytes))
 }
 
-/// MODE SENSE(6) data (SPC-4) of page 08h (caching, SBC-3), 0Ah (control) or 3Fh (both), with WP where the medium is protected.
+/// MODE SENSE(6) data (SPC-4) of the Caching (08h, SBC-3) or the Control mode page (0Ah, SPC-4), or of both (3Fh), with WP where the
+/// medium is protected.
 #[tactic(auto, unfolding(tcmu_model::specs::Pages::mode_sense))]
 pub fn mode_sense(alloc: Global, page: u8, protected: bool) -> Result<Bytes, NoMemory>
     requires { IsTrue (is_mode_page page) }

@@ -1,4 +1,4 @@
-//! The command of a number.
+//! The READ(10) or WRITE(10) that each number of a load stands for.
 ghost use Rattle.std.specs.Prelude.{◌≡◌, ◌⊎◌, ◌*◌, replicate, IfOk, codes, true};
 ghost use Rattle.tcmu_types.specs.Data.{CommandData};
 ghost use Rattle.tcmu_types.specs.Rules.{is_sendable};

@@ -61,7 +61,7 @@ pub fn load_device(alloc: Global) -> DeviceLine
     }
 }
 
-/// Appends the i-th command, and behind each sixteenth a drain.
+/// Appends the i-th command, and after each sixteenth a drain.
 #[tactic(auto, unfolding(tcmu_model::specs::Load::load_step))]
 fn push_step(alloc: Global, lines: &mut Vec<Line>, i: u32, x: u64) -> Result<(), NoMemory>
     ensures { OnOk result (lines.new.items ≡ lines.old.items ++ load_step i x) }
@@ -80,7 +80,7 @@ fn push_step(alloc: Global, lines: &mut Vec<Line>, i: u32, x: u64) -> Result<(),
     Ok(())
 }
 
-/// The lines of the first `count` commands, at most 10,000, that follow from a seed: a submit each, and a drain behind each sixteenth.
+/// The lines of the first `count` commands, at most 10,000, that follow from a seed: a submit each, and a drain after each sixteenth.
 #[tactic(auto, using(crate::proofs::Following::steps))]
 pub fn load_lines(alloc: Global, seed: u64, count: u32) -> Result<Lines, NoMemory>
     requires { count ≤ 10000 }
@@ -96,7 +96,7 @@ pub fn load_lines(alloc: Global, seed: u64, count: u32) -> Result<Lines, NoMemor
 }
 
 /// A scenario of so many reads and writes on one device over 4096 logical blocks of memory, all of them sent by one initiator, with a
-/// drain behind each sixteenth. They follow from the seed.
+/// drain after each sixteenth. They follow from the seed.
 #[tactic(auto, using(crate::proofs::Limits::scenario_is), unfolding(tcmu_model::specs::Load::load_scenario_data))]
 pub fn load_scenario(alloc: Global, seed: u64, count: u32) -> Result<Scenario, NoMemory>
     requires { count ≤ 10000 }

@@ -36,7 +36,7 @@ fn the_first_command(rt: HostRuntime) -> Result<(), Fail> {
     Ok(())
 }
 
-/// One device, and a drain behind each sixteenth command.
+/// One device, and a drain after each sixteenth command.
 #[test]
 fn drains_behind_sixteen(rt: HostRuntime) -> Result<(), Fail> {
     let scenario = load_scenario(rt.alloc(), 0, 16)?;

@@ -1,4 +1,4 @@
-//! The replay of a load: its lines are played on its device without a journal, and summed up behind the last.
+//! The replay of a load: its lines are played on its device without a journal, and summed up after the last.
 ghost use Rattle.std.specs.Prelude.{◌≡◌, ◌+◌, ◌^◌, ◌≤◌, ◌<◌, ◌++◌, [], ◌∷◌, length, OnOk, OnErr, IfOk};
 ghost use Rattle.tcmu_types.specs.Views.{event_data, answer_data};
 ghost use Rattle.tcmu_model.specs.Drain.{Drains};
@@ -90,7 +90,7 @@ fn play_line<P: Path>(
     }
 }
 
-/// Makes what the lines ask for of their one device, and drains it behind the last.
+/// Makes what the lines ask for of their one device, and drains it after the last.
 pub fn play_lines<P: Path>(
     alloc: Global,
     path: &mut P,

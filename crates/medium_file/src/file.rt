@@ -18,7 +18,7 @@ struct Lost {
     end: u64,
 }
 
-/// What stays lost behind a success over `n` bytes from `at` on.
+/// What stays lost after a success over `n` bytes from `at` on.
 fn narrowed(lost: Lost, at: u64, n: u64) -> Lost
     requires { at + n < 2 ^ 64 }
     ensures { lost_span result ≡ narrowed (lost_span lost) (span_of at n) }
@@ -30,7 +30,7 @@ fn narrowed(lost: Lost, at: u64, n: u64) -> Lost
     }
 }
 
-/// What is lost behind a failure over `n` bytes from `at` on.
+/// What is lost after a failure over `n` bytes from `at` on.
 fn widened(lost: Lost, at: u64, n: u64) -> Lost
     requires { at + n < 2 ^ 64 }
     ensures { lost_span result ≡ widened (lost_span lost) (span_of at n) }

@@ -1,4 +1,4 @@
-//! Blocks that are written to a store one behind the other.
+//! Blocks that are written to a store one after the other.
 ghost use Rattle.std.specs.Prelude.{◌≡◌, ◌+◌, ◌*◌, ◌≤◌, is_err, OnOk, OnErr};
 ghost use Rattle.tcmu_types.specs.Numbered.{Tries, HasCause};
 ghost use Rattle.tcmu_model.specs.Medium.{repeated};

@@ -1,4 +1,4 @@
-//! Examples of a device's events: the calls with their answers, and what is logged behind them.
+//! Examples of a device's events: the calls with their answers, and what is logged after them.
 use crate::rows::{Call, Finished, Sent, Told};
 use tcmu_types::{Enter, Publish, Reset, Respond, Stat, Submit, Tmr};
 
@@ -692,7 +692,7 @@ pub const NOTES_LOG: [Finished; 2] = [
     },
 ];
 
-/// Behind 31 entries of 128 bytes.
+/// After 31 entries of 128 bytes.
 pub const FULL_RING: [(Call, Told); 1] = [(
     Call::Submit(READ_ONE),
     Told::Submit(Submit::FullRing {
@@ -701,7 +701,7 @@ pub const FULL_RING: [(Call, Told); 1] = [(
     }),
 )];
 
-/// Behind 30 entries of 128 bytes: one of 120, one that ends 8 bytes before the ring does, and one for which they are padding.
+/// After 30 entries of 128 bytes: one of 120, one that ends 8 bytes before the ring does, and one for which they are padding.
 pub const EXACT_FIT: [(Call, Told); 5] = [
     (
         Call::Stat,

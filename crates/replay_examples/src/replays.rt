@@ -48,7 +48,7 @@ pub fn over_file(
     replay(alloc, input, 0, &mut files)
 }
 
-/// The exit status of a replay over the file `img`, and what that has behind it. The sink's write of this number fails.
+/// The exit status of a replay over the file `img`, and what that has after it. The sink's write of this number fails.
 pub fn left_in_file(alloc: Global, input: &str, write: u64) -> Result<(u8, Bytes), Fail> {
     let mut files = files_with(alloc, 0, 0)?;
     let (code, _) = replay(alloc, input, write, &mut files)?;

@@ -13,8 +13,9 @@ ghost use Rattle.ring_laws.specs.CalledOn.{CalledOn, region_called};
 ghost use Rattle.ring_laws.specs.RingKept.{RingKept};
 ghost use Rattle.ring_laws.specs.Calls.{CallLogs, CallMade, Called, CanCall, CleanLogs, Emptied, HasSerial, IsDoneOf, IsRowOf, StopsAt, TargetCall, TargetSound, Unchanged, accepted_along, is_given, is_reset, target_called, times_delayed, times_pending};
 
-/// The target is sound as it opens, and each of its calls keeps it so, on a region of any bytes and any area; so it is behind any list of calls. No call takes
-/// a completion back, and the bytes of each new one are the first along its own command's blocks in the region at that call.
+/// The target is sound as it opens, and each of its calls keeps it so, on a region of any bytes and any area; so it is after any list of
+/// calls. No call takes a completion back, and the bytes of each new one are the first along its own command's blocks in the region at that
+/// call.
 pub fn calls_law()
     ensures opening { (s : SettingsData) → TargetSound (opening_target s) }
     ensures each { (r : RegionState) (t : TargetState) (call : TargetCall) → TargetSound t → CanCall t call → TargetSound (target_called r t call) }
@@ -22,8 +23,8 @@ pub fn calls_law()
     ensures logs { (r : RegionState) (t : TargetState) (call : TargetCall) → TargetSound t → CallLogs r t (target_called r t call) }
 {}
 
-/// Over any list of calls, and any bytes written between them: no serial is logged twice, and each accepted one is once logged, or once pending and not
-/// expired, or once delayed, and no other is. A pending command that expired is in the log.
+/// Over any list of calls, and any bytes written between them: no serial is logged twice, and each accepted one is once logged, or once
+/// pending and not expired, or once delayed, and no other is. A pending command that expired is in the log.
 pub fn serials_law()
     ensures once { (s : SettingsData) (calls : List CallMade) (t : TargetState) → Called (opening_target s) calls t → Differ (map (λ e. e.serial) t.log) }
     ensures given { (s : SettingsData) (calls : List CallMade) (t : TargetState) → Called (opening_target s) calls t → Every (λ e. (1 ≤ e.serial) × (e.serial ≤ t.accepted)) t.log }
@@ -41,9 +42,9 @@ pub fn held_law()
     ensures below { (s : SettingsData) (calls : List CallMade) (t : TargetState) → Called (opening_target s) calls t → Every (λ n. n < s.blocks) (blocks_held t.rows) }
 {}
 
-/// Over the same, the serial of the k-th command that was accepted is k. Each pending command has its command's initiator, tag and data-in length, and as
-/// many blocks as its command needs; each that waits is as it was accepted; and each completion is for its command's initiator and tag, with no more bytes
-/// than its command asked for.
+/// Over the same, the serial of the k-th command that was accepted is k. Each pending command has its command's initiator, tag and data-in
+/// length, and as many blocks as its command needs; each that waits is as it was accepted; and each completion is for its command's
+/// initiator and tag, with no more bytes than its command asked for.
 pub fn commands_law()
     ensures count { (s : SettingsData) (calls : List CallMade) (t : TargetState) → Called (opening_target s) calls t → length (accepted_along (opening_target s) calls) ≡ t.accepted }
     ensures rows { (s : SettingsData) (calls : List CallMade) (t : TargetState) → Called (opening_target s) calls t →
@@ -53,8 +54,9 @@ pub fn commands_law()
     ensures log { (s : SettingsData) (calls : List CallMade) (t : TargetState) → Called (opening_target s) calls t → Every (IsDoneOf (accepted_along (opening_target s) calls)) t.log }
 {}
 
-/// On the one region that was made with the target's settings, whose area the target alone grows and shrinks, the area has all blocks that are held and at
-/// most as many as the settings allow, and the bytes before it stay as many, whatever the user side writes and lends between two calls. All other laws here hold of these calls too.
+/// On the one region that was made with the target's settings, whose area the target alone grows and shrinks, the area has all blocks that
+/// are held and at most as many as the settings allow, and the bytes before it stay as many, whatever the user side writes and lends
+/// between two calls. All other laws here hold of these calls too.
 pub fn area_law()
     ensures called { (r : RegionState) (t : TargetState) (calls : List CallMade) (left : RegionState) (after : TargetState) → CalledOn r t calls left after → Called t calls after }
     ensures held { (s : SettingsData) (calls : List CallMade) (r : RegionState) (t : TargetState) → CalledOn (opening_region s) (opening_target s) calls r t →
@@ -65,8 +67,8 @@ pub fn area_law()
         IsSettings s → CalledOn (opening_region s) (opening_target s) calls r t → length r.front ≡ data_start s.ring }
 {}
 
-/// The target's record of its items leaves a byte of the ring and begins at a place of it, over any list of calls. So an item that is laid, with the padding
-/// before it, stands whole in the ring, and the bytes before the data area stay as many.
+/// The target's record of its items leaves a byte of the ring and begins at a place of it, over any list of calls. So an item that is laid,
+/// with the padding before it, stands whole in the ring, and the bytes before the data area stay as many.
 pub fn any_ring_law()
     ensures all { (s : SettingsData) (calls : List CallMade) (t : TargetState) → IsSettings s → Called (opening_target s) calls t → RingKept t }
     ensures each { (r : RegionState) (t : TargetState) (call : TargetCall) → IsSettings t.settings → TargetSound t → RingKept t → RingKept (target_called r t call) }
@@ -76,8 +78,9 @@ pub fn any_ring_law()
         length (region_called r t call).front ≡ length r.front }
 {}
 
-/// Whatever the region holds, a clean logs completions of commands that it takes out, each with the first bytes along its own blocks, and no others.
-/// With a kept id, which stays up to a reset, or with a tail that is no item's end, it changes nothing. An id that it stops at is no command's.
+/// Whatever the region holds, a clean logs completions of commands that it takes out, each with the first bytes along its own blocks, and
+/// no others. With a kept id, which stays up to a reset, or with a tail that is no item's end, it changes nothing. An id that it stops at
+/// is no command's.
 pub fn any_clean_law()
     ensures logs { (r : RegionState) (t : TargetState) → TargetSound t → CleanLogs r t (target_cleaned r t) }
     ensures kept { (r : RegionState) (t : TargetState) (id : ℕ) → t.broken ≡ Some id → (target_clean_answer r t ≡ Broken id) × Unchanged r t }
@@ -86,7 +89,7 @@ pub fn any_clean_law()
     ensures stops { (r : RegionState) (t : TargetState) (id : ℕ) → t.broken ≡ None → target_clean_answer r t ≡ Broken id → StopsAt id (target_cleaned r t) }
 {}
 
-/// A reset empties the target, whatever the region holds: behind what a clean would log, all that is left is logged.
+/// A reset empties the target, whatever the region holds: after what a clean would log, all that is left is logged.
 pub fn any_reset_law()
     ensures empties { (r : RegionState) (t : TargetState) (level : ℕ) → Emptied (target_cleaned r t) level (target_reset r t level) }
 {}

@@ -13,8 +13,9 @@ pub fn attach_law()
     ensures ring { (r : RegionState) (u : UserState) → user_attached r ≡ Ok u → HasRing r u }
 {}
 
-/// A next keeps the user side sound, on a region of any bytes that has its ring's size, and leaves the sizes of all parts of the region. Before the data area
-/// it changes nothing but the lowest bit of byte 7 of entries whose operation code is none of the three; of the blocks just those of a job's iovecs are lent.
+/// A next keeps the user side sound, on a region of any bytes that has its ring's size, and leaves the sizes of all parts of the region.
+/// Before the data area it changes nothing but the lowest bit of byte 7 of entries whose operation code is none of the three; of the blocks
+/// just those of a job's iovecs are lent.
 pub fn next_law()
     ensures sound { (r : RegionState) (u : UserState) → UserSound u → HasRing r u → UserSound (nexted r u).user }
     ensures ring { (r : RegionState) (u : UserState) → UserSound u → HasRing r u → HasRing (nexted r u).region (nexted r u).user }

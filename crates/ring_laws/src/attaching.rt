@@ -12,8 +12,8 @@ ghost use Rattle.tcmu_model.specs.Represents.{RingStands};
 ghost use Rattle.tcmu_model.specs.UserSteps.{region_abandoned, region_reattached, user_attached, user_mailbox};
 ghost use Rattle.ring_laws.specs.Attached.{attached_user};
 
-/// The mailbox reads back as the device's, so no call of the user side finds a bad one. It is attached with the ring, the pages and the flags
-/// of the device's settings, and is reattached, the blocks of its parked jobs going back.
+/// The mailbox reads back as the device's, so no call of the user side finds a bad one. It is attached with the ring, the pages and the
+/// flags of the device's settings, and is reattached, the blocks of its parked jobs going back.
 pub fn attaching_law()
     ensures mailbox { (r : RegionState) (items : List Recorded) (d : DeviceState) (lists : List Taken) →
         IsSound d → RingStands r.front items d lists → user_mailbox r ≡ Ok (device_mailbox d.settings.flags d.ring.size (head d.ring) (tail d.ring)) }

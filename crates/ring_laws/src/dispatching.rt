@@ -12,8 +12,8 @@ ghost use Rattle.tcmu_model.specs.Owned.{ListsSound};
 ghost use Rattle.ring_laws.specs.Dispatched.{AnswersDispatch, CanDispatch, hand_dispatched};
 
 /// The user side of an attached device passes the padding in front of the next item and reads that item, so no fault is answered, and
-/// nothing exactly where the device answers nothing. A command's blocks are at home, so its job has them: just they are lent then. The
-/// job is the last given and the last in hand, and the offset of its entry is kept. A note is answered with its type and with the ids, in its
+/// nothing exactly where the device answers nothing. A command's blocks are at home, so its job has them: just they are lent then. The job
+/// is the last given and the last in hand, and the offset of its entry is kept. A note is answered with its type and with the ids, in its
 /// order, of those of its commands that are running.
 pub fn dispatch_law()
     ensures answer { (r : RegionState) (t : TargetState) (user : UserState) (hand : List InHand) (d : DeviceState) (lists : List Taken) →

@@ -11,7 +11,8 @@ ghost use Rattle.tcmu_model.specs.Represents.{RingStands, IdsStand, NotesStand, 
 ghost use Rattle.tcmu_model.specs.HandSteps.{hand_answered};
 ghost use Rattle.tcmu_model.specs.Owned.{ListsSound};
 
-/// A command that is out gets its reply, which stands in no entry yet; its blocks stay lent. The job in hand under its serial has the reply.
+/// A command that is out gets its reply, which stands in no entry yet; its blocks stay lent. The job in hand under its serial has the
+/// reply.
 pub fn handle_law()
     ensures ring { (front : List ℕ) (items : List Recorded) (d : DeviceState) (lists : List Taken) (s : ℕ) (u : Unfinished) (reply : ReplyData) →
         IsSound d → command_out d s ≡ Some u → RingStands front items d lists → RingStands front items (after_handle d s reply) lists }

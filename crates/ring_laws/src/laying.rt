@@ -14,8 +14,8 @@ ghost use Rattle.tcmu_model.specs.Represents.{BlocksStand, IdsStand, IsId, JobsS
 ghost use Rattle.ring_laws.specs.Sizes.{IsSized};
 
 /// A command is laid, at a submit or when it enters, under an id that none has. The ring stands, with the ids in it; a note's id that is
-/// left over may be the new command's, which is laid behind the note. The blocks stand with their data, where the new ones are cleared or have the
-/// payload, and keep their size. No job is given, both sides' records follow, and the block lists stay sound.
+/// left over may be the new command's, which is laid behind the note. The blocks stand with their data, where the new ones are cleared or
+/// have the payload, and keep their size. No job is given, both sides' records follow, and the block lists stay sound.
 pub fn laying_law()
     ensures ring { (r : RegionState) (t : TargetState) (d : DeviceState) (lists : List Taken) (s : ℕ) (c : CommandData) (id : ℕ) →
         IsSound d → ListsSound d lists → RingStands r.front t.items d lists → TargetKeeps t d lists → HasRoom d c → IsId id →

@@ -14,8 +14,8 @@ ghost use Rattle.tcmu_model.specs.Represents.{BlocksStand, IdsStand, IsJobOf, Jo
 ghost use Rattle.tcmu_model.specs.Owned.{ListsSound};
 ghost use Rattle.ring_laws.specs.Placed.{CanAnswer, CanFill, parked_in};
 
-/// A command that is handled is parked: nothing is written, and its blocks stay lent. The user side has the job with its reply, and it is out
-/// of hand. Behind it answers can be placed, and the command is found among the parked ones.
+/// A command that is handled is parked: nothing is written, and its blocks stay lent. The user side has the job with its reply, and it is
+/// out of hand. After it answers can be placed, and the command is found among the parked ones.
 pub fn parking_law()
     ensures ring { (front : List ℕ) (items : List Recorded) (d : DeviceState) (lists : List Taken) (s : ℕ) → RingStands front items d lists → RingStands front items (parked_in d s) lists }
     ensures ids { (front : List ℕ) (rows : List PendingRow) (d : DeviceState) (s : ℕ) → IdsStand front rows d → IdsStand front rows (parked_in d s) }

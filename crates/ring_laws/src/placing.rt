@@ -12,7 +12,7 @@ ghost use Rattle.ring_laws.specs.Placed.{CanAnswer, CanFill, CanPlace, placed_in
 /// The answer of a parked command is placed in the first entry that is not yet used, whosever it is, before its turn or in it. The ring
 /// stands with the answer in it, and so do the ids, of which that entry now has the answer's, and the blocks, which the job gives back
 /// with the payload in them. The offsets that are left are those of the entries that are left, and each side keeps its records. What
-/// placing rests on holds of each sound device, and of the device behind it, so that one respond places any number.
+/// placing rests on holds of each sound device, and of the device after it, so that one respond places any number.
 pub fn placing_law()
     ensures ring { (r : RegionState) (user : UserState) (items : List Recorded) (rows : List PendingRow) (d : DeviceState) (lists : List Taken) (s : ℕ) (u : Unfinished)
         (p : Parked) (parts : List (List ℕ)) (rest : List GivenJob) →

@@ -15,7 +15,7 @@ ghost use Rattle.ring_laws.specs.Cleaned.{CanClean};
 ghost use Rattle.ring_laws.specs.Emptied.{reset_answered};
 
 /// Both sides answer what the device answers: a reset is made where the target is blocked and no job is in hand or parked. The target then
-/// logs what a clean logs, behind it what was open, and last what was delayed, as the device does. No block list is left, so none of the
+/// logs what a clean logs, after it what was open, and last what was delayed, as the device does. No block list is left, so none of the
 /// points rests on one. The user side is attached as when the device opened, and no block goes back at that.
 pub fn reset_law()
     ensures answer { (r : RegionState) (t : TargetState) (user : UserState) (hand : List InHand) (d : DeviceState) (lists : List Taken) (level : ℕ) →

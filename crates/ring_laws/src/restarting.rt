@@ -12,9 +12,10 @@ ghost use Rattle.tcmu_model.specs.Owned.{ListsSound};
 ghost use Rattle.ring_laws.specs.Restarted.{region_restarted, restarted_answer};
 ghost use Rattle.ring_laws.specs.Sizes.{IsSized};
 
-/// The jobs in hand and the parked ones go back with their blocks as they are, so every block is at home again, with the payload that it had
-/// in its job; no command is in hand any more. Entries and ids stay, and with them the answers that are placed, which their commands
-/// keep as they turn Lost. The target does not notice. How many commands turn Lost follows from what the user side counts and from the jobs.
+/// The jobs in hand and the parked ones go back with their blocks as they are, so every block is at home again, with the payload that it
+/// had in its job; no command is in hand any more. Entries and ids stay, and with them the answers that are placed, which their commands
+/// keep as they turn Lost. The target does not notice. How many commands turn Lost follows from what the user side counts and from the
+/// jobs.
 pub fn restart_law()
     ensures answer { (user : UserState) (hand : List InHand) (rows : List PendingRow) (d : DeviceState) (lists : List Taken) →
         IsSound d → JobsStand user hand rows d lists → UserKeeps user d → restarted_answer d.attached hand user ≡ restart_answer d }

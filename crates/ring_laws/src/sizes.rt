@@ -11,9 +11,8 @@ ghost use Rattle.tcmu_model.specs.UserNext.{nexted};
 ghost use Rattle.tcmu_model.specs.UserSteps.{region_abandoned, region_published, user_responded, with_job_back};
 ghost use Rattle.ring_laws.specs.Sizes.{IsSized};
 
-/// Each block at home keeps the size of a block, whatever the bytes are. For a respond, and for jobs that go back, the jobs have to
-/// stand: what comes home are the blocks that were lent. The laws of
-/// laying, submit, enter, note and restart say the same of their steps.
+/// Each block at home keeps the size of a block, whatever the bytes are. For a respond, and for jobs that go back, the jobs have to stand:
+/// what comes home are the blocks that were lent. The laws of laying, submit, enter, note and restart say the same of their steps.
 pub fn sizes_law()
     ensures opening { (s : SettingsData) → IsSized (opening_region s) }
     ensures next { (r : RegionState) (user : UserState) → IsSized r → IsSized (nexted r user).region }

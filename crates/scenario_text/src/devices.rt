@@ -1,4 +1,5 @@
-//! What the other lines ask of the devices that are there. A scenario has at most 16 of them, so a file is found by a scan.
+//! What a line asks of the devices before it: whether a file is taken, and whether a device is small enough for a dump. A scenario has
+//! at most 16 of them, so a file is found by a scan.
 ghost use Rattle.std.specs.Prelude.{◌≡◌};
 ghost use Rattle.std.specs.List.{list_any};
 ghost use Rattle.tcmu_model.specs.Said.{same_file};

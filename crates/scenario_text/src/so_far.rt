@@ -102,7 +102,7 @@ impl SoFar {
         any_in_file(self.devices.as_slice(), kind)
     }
 
-    /// What the lines said, behind the last of them.
+    /// What the lines said, after the last of them.
     pub fn into_scenario(self) -> Scenario
         ensures { result ≡ self }
     {
@@ -112,7 +112,7 @@ impl SoFar {
         }
     }
 
-    /// With this line behind the others.
+    /// With this line after the others.
     #[tactic(auto, unfolding(tcmu_model::specs::Scenario::with_line))]
     pub fn with_line(self, line: Line) -> Result<SoFar, LineFault>
         requires { line.device < length self.devices }
@@ -151,7 +151,7 @@ impl SoFar {
         })
     }
 
-    /// With this device behind the others.
+    /// With this device after the others.
     #[tactic(auto, unfolding(tcmu_model::specs::Scenario::with_device))]
     pub fn with_device(self, alloc: Global, device: DeviceLine) -> Result<SoFar, LineFault>
         requires { IsNewName self device }

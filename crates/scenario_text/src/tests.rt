@@ -155,7 +155,7 @@ fn device_lines(rt: HostRuntime) -> Result<(), Fail> {
     Ok(())
 }
 
-/// Lines behind a device line, with and without the last line feed.
+/// Lines after a device line, with and without the last line feed.
 #[test]
 fn other_lines(rt: HostRuntime) -> Result<(), Fail> {
     let alloc = rt.alloc();
@@ -294,7 +294,7 @@ fn file_device(alloc: Global, number: u32) -> Result<String, Fail> {
     )?)
 }
 
-/// Device lines behind others: up to 16 of them, before the first other line, each with a name and a file of its own.
+/// Device lines after others: up to 16 of them, before the first other line, each with a name and a file of its own.
 #[test]
 fn more_devices(rt: HostRuntime) -> Result<(), Fail> {
     let alloc = rt.alloc();
@@ -328,7 +328,7 @@ fn more_devices(rt: HostRuntime) -> Result<(), Fail> {
     Ok(())
 }
 
-/// A 17th initiator of a device and a 17th device are one too many, and no device line stands behind another line.
+/// A 17th initiator of a device and a 17th device are one too many, and no device line stands after another line.
 #[test]
 fn sixteen(rt: HostRuntime) -> Result<(), Fail> {
     let alloc = rt.alloc();

@@ -8,7 +8,7 @@ use std::{env, io};
 use tcmu_top::{Status, tcmu_top};
 use tcmu_types::{Bytes, NoMemory, Words};
 
-/// The words behind the program's name. Words that are no text are none that the program knows: then there is no word.
+/// The words after the program's name. Words that are no text are none that the program knows: then there is no word.
 fn words_of(rt: &HostRuntime) -> Result<Words, NoMemory> {
     let alloc = rt.alloc();
     let mut words = Words::new(alloc);

@@ -31,21 +31,37 @@ pub enum ConfigFault {
 /// and whose serving is not built yet.
 #[derive(Clone, Copy, Debug, Drop, PartialEq, Eq)]
 pub enum Why {
+    /// The text has more than 4,194,304 bytes; it has line 0.
     TooLong,
+    /// A byte before the `#` is no blank, tab or carriage return, and not from 21h to 7Eh.
     Byte,
+    /// The first field is no verb.
     Verb,
+    /// The number of fields, or a field's prefix, is wrong.
     Fields,
+    /// A device line's name is no name, or one that is there; another line's is of no device.
     Name,
+    /// No config text, or one with another name, or with the file of another device.
     Config,
+    /// No number within its limits, or no list of serials.
     Number,
+    /// No list of flags.
     Flags,
+    /// No name of an initiator.
     Init,
+    /// No command descriptor block.
     Cdb,
+    /// No runs of bytes.
     Runs,
+    /// A device line after another line.
     Order,
+    /// Data in the direction that the operation code has not.
     Direction,
+    /// The 17th dump, or one of a device that is too large for it.
     Dump,
+    /// More devices, initiators of a device, lines or bytes than a scenario may have.
     Many,
+    /// A dump: it breaks no rule, and is not served yet.
     NotYet,
 }
 

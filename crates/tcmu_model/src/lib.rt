@@ -1,5 +1,6 @@
 //! The abstract SCSI device of TCMU, the scenario language, and the definitions round them. They stand in specs/, where the contracts
-//! of every crate cite them; here are the code types that they cite and the plain functions that compute with them, and the laws of the device.
+//! of every crate cite them; here are the code types that they cite and the plain functions that compute with them, and the laws of
+//! the device.
 #![tactic(auto)]
 
 mod entry;

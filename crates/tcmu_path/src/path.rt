@@ -29,10 +29,10 @@ pub trait Path {
     /// The data blocks of each command, where this way of keeping a device tells them.
     ghost lists: { Self → Option (List Taken) } = { λ _. None };
 
-    /// An initiator sends a command. `Busy` on a blocked device; `TooBig` for an entry over half the ring (bytes) or more blocks than
-    /// the device's limit (data blocks); without a queue-full time, `FullRing` or `FullBlocks` where room lacks now; with one, the
-    /// command is `Delayed` where room lacks or another command is; otherwise it is `Queued`. A device has accepted fewer than 2^63
-    /// commands before.
+    /// An initiator sends a command. The first that applies: `Busy` on a blocked device; `TooBig` for an entry over half the ring
+    /// (bytes), or else for more blocks than the device's limit (data blocks); without a queue-full time `FullRing`, or else
+    /// `FullBlocks`, where room lacks now; with one `Delayed` where room lacks or another command is delayed; else `Queued`. It asks
+    /// that fewer than 2^63 commands were accepted before.
     fn submit(&mut self, alloc: Global, command: &Command) -> Result<Submit, NoMemory>
         requires { (device self.old).state.accepted < 2 ^ 63 }
         ensures step { IfOk result (λ a. Submits (device self.old) command.now a (device self.new)) }
@@ -74,8 +74,8 @@ pub trait Path {
         ensures lists { GoesOn (lists self.old) (device self.old) ev.Clean (ev.Logged result) (device self.new) (lists self.new) }
         ensures accepts { Accepts 0 (device self.old) (device self.new) };
 
-    /// The moment grows by `n` ticks; commands whose deadline is reached expire, and delayed ones whose time is up leave. The answer
-    /// is how many completions that logged.
+    /// The clock moves on by `n` ticks, and stops at 2^63; commands whose deadline is reached expire, and delayed ones whose time is up
+    /// leave. The answer is how many completions that logged.
     fn tick(&mut self, n: u32) -> u64
         ensures step { Ticks (device self.old) n result (device self.new) }
         ensures lists { GoesOn (lists self.old) (device self.old) (ev.Tick n) (ev.Logged result) (device self.new) (lists self.new) }
@@ -94,7 +94,7 @@ pub trait Path {
         ensures accepts { Accepts 0 (device self.old) (device self.new) };
 
     /// The ring is reset: what is open is logged, BUSY at level 1 and an internal target failure at level 2, and a user side is attached.
-    /// `NotBlocked` on a device that is not blocked, `HandlersOut` where handlers still have commands.
+    /// `NotBlocked` on a device that is not blocked, `HandlersOut` where commands are out, handled or parked; then nothing changes.
     fn reset(&mut self, level: u8) -> Reset
         requires low { 1 ≤ level }
         requires high { level ≤ 2 }
@@ -108,9 +108,9 @@ pub trait Path {
         ensures lists { GoesOn (lists self.old) (device self.old) ev.Restart (ev.Lost result) (device self.new) (lists self.new) }
         ensures accepts { Accepts 0 (device self.old) (device self.new) };
 
-    /// A task management note on these serials, which rise, of a kind from 1 (ABORT TASK) to 7 (TARGET COLD RESET), is laid in the ring. `Off`
-    /// where the device has no such notes, `Busy` on a blocked device, `Unknown` for the first serial that has no command in the
-    /// ring, `FullRing` where room lacks.
+    /// A task management note on these serials, which rise, of a kind from 1 (ABORT TASK) to 7 (TARGET COLD RESET), is laid in the
+    /// ring. `Off` where the device has no such notes, `Busy` on a blocked device, `Unknown` with the first serial that no unfinished
+    /// command in the ring has, `FullRing` where room lacks.
     fn tmr(&mut self, alloc: Global, kind: u8, serials: &Serials) -> Result<Tmr, NoMemory>
         requires low { 1 ≤ kind }
         requires high { kind ≤ 7 }

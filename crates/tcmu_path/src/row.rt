@@ -160,7 +160,7 @@ impl Row {
         }
     }
 
-    /// Whether its handler has the command, or the user side that waits with its answer.
+    /// Whether the command is out, handled or parked: dispatched, and its answer not placed.
     pub fn is_in_hand(&self) -> bool
         ensures { result ≡ is_in_hand self.now }
     {

@@ -298,7 +298,7 @@ pub fn count_expired(rows: &VecDeque<Row>) -> u32
     rows.iter().filter(|row| row.is_expired()).count() as u32
 }
 
-/// How many commands handlers hold.
+/// How many commands are out, handled or parked: what keeps a reset from being made.
 pub fn handlers_out(rows: &VecDeque<Row>) -> usize
     ensures { result ≡ count_by is_in_hand rows.now.items }
 {

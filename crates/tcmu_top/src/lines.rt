@@ -19,7 +19,7 @@ use std::alloc::Global;
 use tcmu_path::{Path, make_event, next_event};
 use tcmu_types::{Done, Event};
 
-/// The completions behind the first so many.
+/// The completions after the first so many.
 fn behind(log: &[Done], before: usize) -> &[Done]
     requires { before ≤ length log.now }
     ensures { result.now ≡ drop before log.now }

@@ -37,7 +37,7 @@ fn open_device<F: Files>(
     Ok(PlainPath::new(alloc, device.settings, engine))
 }
 
-/// Opens the device of a device line behind those that are open. At an `Err` its file is given back as it was.
+/// Opens the device of a device line after those that are open. At an `Err` its file is given back as it was.
 fn open_next<F: Files>(
     alloc: Global,
     device: &DeviceLine,

@@ -90,7 +90,7 @@ fn drain_each<P: Path, K: Sink>(
     Ok(())
 }
 
-/// Makes and writes what the lines ask for of their devices, and drains each device behind the last.
+/// Makes and writes what the lines ask for of their devices, and drains each device after the last.
 fn replay_lines<P: Path, K: Sink>(
     alloc: Global,
     devices: &[DeviceLine],

@@ -1,4 +1,4 @@
-//! How a run ends.
+//! The status of a run, and its exit code.
 ghost use Rattle.std.specs.Prelude.{◌≡◌};
 ghost use Rattle.tcmu_top.specs.Top.{code_of};
 

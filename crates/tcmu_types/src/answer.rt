@@ -11,10 +11,10 @@ pub enum Answer {
     Publish(Publish),
     /// Of a clean or a tick: how many completions it logged.
     Logged(u64),
-    /// Of a block or an unblock: whether the device was not so before.
+    /// Of a block or an unblock: false where the device already was so.
     Changed(bool),
     Reset(Reset),
-    /// Of a restart: how many commands lost the user side that had them, or an answer of theirs that was not published.
+    /// Of a restart: how many commands turned Lost: those out, handled or parked, and those placed but not published.
     Lost(u64),
     Tmr(Tmr),
     Stat(Stat),
@@ -39,7 +39,8 @@ pub enum Submit {
 pub enum Dispatch {
     /// The command of this serial goes to its handler.
     Job(u64),
-    /// A task management function of this type, and those commands named in it that a handler has or had, before their answers.
+    /// A task management function of this type (`TCMU_TMR_*`), and those of its serials whose commands are Out or Handled: dispatched,
+    /// and not responded.
     Note { kind: u8, serials: Serials },
     /// All items are dispatched.
     Nothing,

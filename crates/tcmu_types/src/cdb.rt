@@ -33,7 +33,7 @@ impl Model for Cdb {
     ghost invariant = { λ a. IsCdb a.bytes.items };
 }
 
-/// How many bytes a block has whose first byte is this, by its group.
+/// How many bytes a block has whose first byte is this, by its group (SPC-4, 4.2.5.1); groups 3, 6 and 7 have 16.
 pub fn group_length(code: u8) -> u8
     ensures value { result ≡ group_length code }
     ensures most { result ≤ 16 }
@@ -102,7 +102,7 @@ fn is_data_out(code: u8) -> bool
     )
 }
 
-/// Whether commands of this operation code carry data out, from the initiator to the device.
+/// Whether a command with this block sends data (data-out), by its operation code.
 pub fn takes_payload(cdb: &Cdb) -> bool
     ensures { result ≡ takes_payload cdb.now }
 {

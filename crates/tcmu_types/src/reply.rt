@@ -77,7 +77,7 @@ pub fn sense_bytes(sense: Sense) -> [u8; 18]
     ]
 }
 
-/// The sense data in a sense buffer: the low half of byte 2, and bytes 12 and 13.
+/// The sense data in a sense buffer of fixed format (SPC-4, 4.5.3): the low half of byte 2, and bytes 12 and 13.
 pub fn sense_of(buffer: &[u8; 96]) -> Sense
     ensures { result ≡ sense_in buffer.now }
 {

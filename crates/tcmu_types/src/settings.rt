@@ -1,8 +1,8 @@
 //! The settings of a device.
 use std::marker::Model;
 
-/// What a device's mailbox shows: completions in any order, a length with each read's completion, and task management notes (the
-/// kernel's tcmu-design, mailbox flags).
+/// What a device's mailbox shows: completions in any order, a length with each read's completion, and task management notes
+/// (`TCMU_MAILBOX_FLAG_CAP_OOOC`, `_CAP_READ_LEN` and `_CAP_TMR` of `linux/target_core_user.h`).
 #[derive(Clone, Copy, Debug, PartialEq, Eq)]
 pub struct Flags {
     pub ooo: bool,
@@ -12,7 +12,8 @@ pub struct Flags {
 
 /// The settings of a device: the ring's size in bytes, the most data blocks, the flags, the ticks until a command expires (0 where none
 /// does), the ticks that a command waits for room (0 where it is refused at once), and the pages of 4096 bytes of a data block. Its
-/// limits are the invariant.
+/// limits are the invariant: `ring` is a multiple of 4096 from 4096 to 4,194,304; `blocks` is at least 1, `pages` is 1 to 16, and
+/// `blocks` times `pages` is at most 4096; `timeout` and `qfull` are at most 1,000,000.
 #[derive(Clone, Copy, Debug, PartialEq, Eq)]
 pub struct Settings {
     pub ring: u32,

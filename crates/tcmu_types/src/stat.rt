@@ -1,7 +1,7 @@
 //! The numbers that a device shows, and what its drain finds to do.
 
-/// The moment, the blocked and attached bits, the ring's head and used bytes, the unfinished commands by state, those that are
-/// expired, the data blocks held, and the Delayed commands.
+/// The clock (ticks), the blocked and attached bits, the ring's head (an offset in bytes) and used bytes, the unfinished commands by
+/// state, how many of these are expired, the data blocks held, and the Delayed commands.
 #[derive(Clone, Copy, Debug, PartialEq, Eq)]
 pub struct Stat {
     pub now: u64,

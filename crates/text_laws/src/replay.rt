@@ -1,4 +1,4 @@
-//! The law of replay.
+//! The law of replay, and that a text has one reading, over any handlers and media.
 ghost use Rattle.text_laws.specs.Carried.{CarriedRead, SpelledRead};
 ghost use Rattle.text_laws.specs.Readings.{HasOneReading, HasOneReadingOfAny};
 ghost use Rattle.text_laws.specs.Replays.{IsReadBack, IsReplayedAgain, IsScenarioAgain};
