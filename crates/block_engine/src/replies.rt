@@ -6,16 +6,12 @@ use edge::Failed;
 use std::alloc::Global;
 use tcmu_types::{Bytes, NoMemory, Reply, ScsiStatus, Sense};
 
-const GOOD: ScsiStatus = ScsiStatus(0x00);
-
-const CHECK_CONDITION: ScsiStatus = ScsiStatus(0x02);
-
 /// GOOD with these bytes.
 pub fn good(payload: Bytes) -> Reply
     ensures { result ≡ good payload.items }
 {
     Reply {
-        status: GOOD,
+        status: ScsiStatus::GOOD,
         sense: None,
         payload,
     }
@@ -26,7 +22,7 @@ pub fn refused(alloc: Global, sense: Sense) -> Reply
     ensures { result ≡ refused sense }
 {
     Reply {
-        status: CHECK_CONDITION,
+        status: ScsiStatus::CHECK_CONDITION,
         sense: Some(sense),
         payload: Bytes::new(alloc),
     }

@@ -10,7 +10,7 @@ ghost use Rattle.load_run.specs.Tallies.{is_good, good_bytes, numbers_in};
 use std::alloc::Global;
 use std::marker::Model;
 use tcmu_path::{Path, open_count};
-use tcmu_types::{Done, NoMemory};
+use tcmu_types::{Done, NoMemory, ScsiStatus};
 
 /// The accepted commands, the completions that are GOOD, the bytes that those moved, and the commands without a completion.
 #[derive(Clone, Copy, Debug, PartialEq, Eq)]
@@ -35,7 +35,7 @@ impl Model for Numbers {
 fn is_good(done: &Done) -> bool
     ensures { result ≡ is_good done.now }
 {
-    done.status.0 == 0
+    done.status == ScsiStatus::GOOD
 }
 
 /// The bytes that a completion moved, if it is GOOD.

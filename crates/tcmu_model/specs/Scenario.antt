@@ -5,7 +5,6 @@ use Rattle.std.specs.List.{list_any, list_all, sum_by, count_by}
 use Rattle.tcmu_types.specs.Data.{SettingsData}
 use Rattle.tcmu_model.specs.Reading.{◌>>=◌}
 use Rattle.tcmu_model.specs.Fields.{line_feed, pieces}
-use Rattle.tcmu_model.specs.Config.{ConfigData, InMemory, InFile}
 use Rattle.tcmu_model.specs.Words.{verb_of}
 use Rattle.tcmu_model.specs.Lines.{before_hash, fields_of, is_allowed}
 use Rattle.tcmu_model.specs.ScenarioData.{DeviceLineData, Makes, Drains, Dumps, LineData, ScenarioData, command_of}

@@ -7,7 +7,7 @@ ghost use Rattle.tcmu_model.specs.Device.{is_at, has_state, has_serial};
 ghost use Rattle.tcmu_model.specs.Events.{unknown_serial, is_among, is_in_hand, is_losing, lose, expire, in_state, with_reply, turned, completions, expiry, is_due};
 ghost use Rattle.tcmu_model.specs.Steps.{asked};
 
-use crate::closings::closing;
+use crate::closings::{COMMUNICATION_TIME_OUT, closing};
 use handler_trait::Request;
 use std::alloc::Global;
 use std::marker::Model;
@@ -194,12 +194,8 @@ impl Row {
     {
         closing(
             alloc,
-            0x02,
-            Some(Sense {
-                key: 0x0b,
-                asc: 0x08,
-                ascq: 0x01,
-            }),
+            ScsiStatus::CHECK_CONDITION,
+            Some(COMMUNICATION_TIME_OUT),
             self.serial,
             &self.command,
         )

@@ -9,7 +9,7 @@ use crate::closings::{closing, reset_completion};
 use std::alloc::Global;
 use std::collections::VecDeque;
 use std::marker::Model;
-use tcmu_types::{Command, Done, Listed, NoMemory};
+use tcmu_types::{Command, Done, Listed, NoMemory, ScsiStatus};
 
 /// A command that waits for room up to a moment (ticks).
 #[derive(Drop)]
@@ -38,7 +38,13 @@ impl DelayedCommand {
     fn departure(&self, alloc: Global) -> Done
         ensures { result ≡ departure self.now }
     {
-        closing(alloc, 0x28, None, self.serial, &self.command)
+        closing(
+            alloc,
+            ScsiStatus::TASK_SET_FULL,
+            None,
+            self.serial,
+            &self.command,
+        )
     }
 }
 

@@ -9,6 +9,16 @@ use std::marker::Model;
 #[derive(Clone, Copy, Debug, PartialEq, Eq)]
 pub struct ScsiStatus(pub u8);
 
+impl ScsiStatus {
+    pub const GOOD: ScsiStatus = ScsiStatus(0x00);
+
+    pub const CHECK_CONDITION: ScsiStatus = ScsiStatus(0x02);
+
+    pub const BUSY: ScsiStatus = ScsiStatus(0x08);
+
+    pub const TASK_SET_FULL: ScsiStatus = ScsiStatus(0x28);
+}
+
 /// Sense data (SPC-4, 4.5): the key, of 0h to Fh, and the additional sense code with its qualifier.
 #[derive(Clone, Copy, Debug, PartialEq, Eq)]
 pub struct Sense {
