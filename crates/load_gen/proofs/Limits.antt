@@ -6,7 +6,7 @@ use Rattle.std.proofs.lemmas.List.Elements.{All-append, All-cons}
 use Rattle.tcmu_types.specs.Events as ev
 use Rattle.tcmu_model.specs.ScenarioData.{DeviceLineData, LineData, ScenarioData, command_of}
 use Rattle.tcmu_model.specs.ScenarioData as line
-use Rattle.tcmu_model.specs.Scenario.{with_name, is_dump, bytes_in, bytes_out, initiators, initiators_from, with_initiator}
+use Rattle.tcmu_model.specs.Scenario.{with_name, is_dump, bytes_in, bytes_out, initiators, initiators_from}
 use Rattle.tcmu_model.specs.ScenarioRules.{IsScenario, IsDeviceLine, IsLine}
 use Rattle.tcmu_model.specs.Load.{load_command, load_writes, load_lba, load_count, load_fill, load_line, load_step, load_lines, load_device, load_config, load_settings, load_scenario_data, random_of}
 use Rattle.load_gen.proofs.Sendable.{IsLoad, write_is, read_is}
