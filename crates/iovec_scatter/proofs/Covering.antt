@@ -6,7 +6,7 @@ use Rattle.std.proofs.lemmas.List.{drop-drop, drop_all}
 use Rattle.iovec_scatter.proofs.Steps.{rest_of}
 use Rattle.std.proofs.lemmas.Bool.Decides.{nat_tests}
 use Rattle.tcmu_types.specs.declared.iovec.Iov.{Iov}
-use Rattle.iovec_scatter.specs.Ends.{EachBelow, EndsAlong}
+use Rattle.iovec_scatter.specs.Ends.{EndsAlong}
 use Rattle.tcmu_model.specs.Iovecs.{piece, joined, merged, iovs_along, EndBelow, total_of, along, payload_along, AreApart, Covers}
 use Rattle.iovec_scatter.specs.Growing.{grown, Ends, before}
 use Rattle.tcmu_model.proofs.Iovecs.{total_merged}

@@ -136,16 +136,17 @@ impl Parts {
         let _ = self.blocks.push(block);
     }
 
-    /// Takes the last block out.
+    /// Takes the last block out. Its place stays, as room for another.
     pub fn pop(&mut self) -> Option<Block>
         ensures items { self.old.items ≡ self.new.items ++ option_to_list result }
         ensures found { IsSome result ↔ (0 < length self.old.items) }
+        ensures spare { self.new.spare ≡ self.old.spare + length (option_to_list result) }
     {
         self.blocks.pop()
     }
 }
 
-/// Writes the first bytes along the blocks, and answers how many.
+/// Writes bytes along the blocks in order, up to the end of the last block, and answers how many were written.
 pub fn scatter(parts: &mut Parts, bytes: &[u8]) -> u64
     ensures items { parts.new.items ≡ scattered parts.old.items bytes.now }
     ensures spare { parts.new.spare ≡ parts.old.spare }
@@ -171,7 +172,7 @@ fn write_blocks(parts: &mut Parts, bytes: &[u8]) -> u64
     done as u64
 }
 
-/// Fills `into` along the blocks.
+/// Fills `into` with the first bytes along the blocks, which have at least so many.
 pub fn gather(parts: &Parts, into: &mut [u8])
     requires { length into.old ≤ room_of parts.now.items }
     ensures { into.new ≡ take (length into.old) (gathered parts.now.items) }

@@ -42,7 +42,8 @@ fn grow(grows: Option<Iov>, next: Iov, into: &mut Iovs) -> Iov
 }
 
 /// The iovecs of a payload of `len` bytes along data blocks of `pages` pages of 4096 bytes, which stand from byte `data_off` of the
-/// region on: in order, adjacent blocks merged, the last cut.
+/// region on: in order, adjacent blocks merged, the last cut. `into` is empty and has room for as many iovecs as there are blocks; the
+/// blocks are just as many as `len` needs, of 1 to 16 pages; the iovecs end below 2^64.
 pub fn iovs_of(data_off: u64, pages: u32, blocks: &BlockList, len: u32, into: &mut Iovs)
     requires empty { into.old.items ≡ [] }
     requires room { length blocks.now.items ≤ into.old.spare }

@@ -9,7 +9,6 @@ use Rattle.tcmu_types.specs.declared.iovec.Iov.{Iov}
 use Rattle.tcmu_model.specs.Regions.{RegionState, size_of, home, is_home, put_where, put_home, returned, HaveSize, can_take, taken, without, numbers_from, numbers_of, first_block, block_count, starts_block, are_whole, can_lend, named_by, StartsBlock, AreWhole, AreHome, IsOther, AreOnce, CanLend}
 use Rattle.shm_region.proofs.Sized.{set-set}
 use Rattle.std.proofs.lemmas.Bool.{and_from, and_parts}
-use Rattle.tcmu_model.proofs.Areas.{length-taken}
 
 pub home_some : (o : Option (Option (List ℕ))) (p : List ℕ) → home o ≡ Some p → o ≡ Some (Some p)
 home_some None p h = cc

@@ -1,12 +1,7 @@
 -- The bytes of a new region.
-use Rattle.std.proofs.Common.{◌≡◌, ℕ, ◌+◌, ◌-◌, List, ◌++◌, length, drop, replicate, length-append, ap, ◌∙◌, arith}
+use Rattle.std.proofs.Common.{◌≡◌, ℕ, ◌+◌, List, ◌++◌, length, drop, replicate, ap, ◌∙◌, arith}
 use Rattle.std.proofs.lemmas.List.{drop-replicate}
-use Rattle.tcmu_types.specs.Data.{SettingsData}
-use Rattle.tcmu_model.specs.Layout.{put, padded, zeros, mailbox_bytes, device_mailbox, data_start}
-use Rattle.tcmu_model.specs.Regions.{opening_region}
-use Rattle.tcmu_model.specs.declared.mailbox.Mailbox.{Mailbox}
-use Rattle.tcmu_model.proofs.Written.{lengths, length-zeros}
-use Rattle.tcmu_model.proofs.PartLengths.{length-mailbox}
+use Rattle.tcmu_model.specs.Layout.{put, padded, zeros}
 
 -- a text over zeros
 pub put-replicate : (n : ℕ) (text : List ℕ) → put (replicate n 0) 0 text ≡ padded n text

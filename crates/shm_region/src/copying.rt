@@ -110,7 +110,7 @@ impl Region {
         }
     }
 
-    /// Writes the first bytes along iovecs that lie in the region, and answers how many.
+    /// Writes bytes along iovecs that lie in the region, as many as these have room for, and answers how many.
     pub fn copy_in(&mut self, iovs: &Iovs, bytes: &[u8]) -> u64
         requires { LieInRegion self.old iovs.now.items }
         ensures region { self.new ≡ copied_in self.old iovs.now.items bytes.now }

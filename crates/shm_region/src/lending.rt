@@ -41,6 +41,7 @@ impl Region {
         requires fits { first + count < 2 ^ 64 }
         ensures region { self.new ≡ record self.old { blocks = returned self.old.blocks (numbers_from first count) (drop (length parts.old.items - count) parts.old.items) } }
         ensures parts { parts.new.items ≡ take (length parts.old.items - count) parts.old.items }
+        ensures spare { parts.new.spare ≡ parts.old.spare + count }
     {
         let mut left = count;
         while left > 0 {
@@ -63,6 +64,7 @@ impl Region {
         ensures size { OnTrue result (HaveSize (size_of self.old) into.new.items) }
         ensures region { OnFalse result (self.new ≡ self.old) }
         ensures none { OnFalse result (into.new.items ≡ into.old.items) }
+        ensures room { OnFalse result (into.old.spare ≤ into.new.spare) }
     {
         let mut done = 0;
         while done < count {
@@ -105,6 +107,7 @@ impl Region {
         requires size { HaveSize (size_of self.old) parts.old.items }
         ensures region { self.new ≡ given_back self.old iovs.now parts.old.items }
         ensures parts { parts.new.items ≡ [] }
+        ensures spare { parts.new.spare ≡ parts.old.spare + length parts.old.items }
     {
         let start = self.data_off();
         let size = self.block_len();
@@ -131,9 +134,9 @@ impl Region {
         Some(total)
     }
 
-    /// Moves the blocks of iovecs into `into`, in order, and leaves them lent; or changes nothing. It is true exactly where each iovec
-    /// begins at a block's start and has a byte, each but the last has a multiple of a block's bytes, and each block is in the area,
-    /// not lent, and named once.
+    /// Moves the blocks of iovecs into `into`, in order, and leaves them lent; or changes nothing, and `into` keeps its room. It is true
+    /// exactly where each iovec begins at a block's start and has a byte, each but the last has a multiple of a block's bytes, and each
+    /// block is in the area, not lent, and named once.
     pub fn lend(&mut self, iovs: &Iovs, into: &mut Parts) -> bool
         requires empty { into.old.items ≡ [] }
         requires room { length (named_by self.old iovs.now.items) ≤ into.old.spare }
@@ -145,6 +148,7 @@ impl Region {
         ensures size { OnTrue result (HaveSize (size_of self.old) into.new.items) }
         ensures region { OnFalse result (self.new ≡ self.old) }
         ensures none { OnFalse result (into.new.items ≡ []) }
+        ensures room { OnFalse result (into.old.spare ≤ into.new.spare) }
     {
         let start = self.data_off();
         let size = self.block_len();
@@ -166,6 +170,7 @@ impl Region {
         ensures size { OnTrue result (HaveSize (size_of self.old) into.new.items) }
         ensures region { OnFalse result (self.new ≡ self.old) }
         ensures none { OnFalse result (into.new.items ≡ []) }
+        ensures room { OnFalse result (into.old.spare ≤ into.new.spare) }
     {
         let start = self.data_off();
         let size = self.block_len();

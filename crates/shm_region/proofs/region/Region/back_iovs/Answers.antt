@@ -43,4 +43,5 @@ loop-left-preserved c =
       ap (λ (ps : List (List ℕ)). record c.back_range.new.self { blocks = returned c.back_range.new.self.blocks (numbers_of start size (take (c.loop-left.left - 1) c.args.iovs.now)) ps }) left
           ∙ back_iov_step c.loop-left.self c.back_range.new.self start size c.loop-left.left c.args.iovs.now none c.first_block.result k parts c.loop-left-test.true inv.2 first count inv.3 c.back_range.ensures.region
           ∙ inv.5,
+      omega (arith, whole, c.back_range.ensures.spare, inv.6, ap length left ∙ length-take (length parts - k) parts),
     )

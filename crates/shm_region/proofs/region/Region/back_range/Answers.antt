@@ -32,4 +32,5 @@ loop-left-preserved-in-Some c =
           ∙ ap (λ (ns : List ℕ). record c.loop-left.self { blocks = returned c.loop-left.self.blocks ns (drop L rest ++ p ∷ []) }) (sym (numbers-last c.args.first (c.loop-left.left - 1)) ∙ ap (numbers_from c.args.first) (sym place))
           ∙ ap (λ (ps : List (List ℕ)). record c.loop-left.self { blocks = returned c.loop-left.self.blocks (numbers_from c.args.first c.loop-left.left) ps }) (sym (drop-append-le L rest (p ∷ []) (omega arith)) ∙ ap (drop L) (sym popped))
           ∙ inv.4,
+      omega (arith, inv.5, place, c.in-Some.ensures.spare),
     )

@@ -13,3 +13,4 @@ invariant-loop-left l =
     × HaveSize (size_of l.fn.self) l.parts.items
     × (record l.self { blocks = returned l.self.blocks (numbers_from l.first l.left) (drop (length l.fn.parts.items - l.count) l.parts.items) }
     ≡ record l.fn.self { blocks = returned l.fn.self.blocks (numbers_from l.first l.count) (drop (length l.fn.parts.items - l.count) l.fn.parts.items) })
+    × (l.parts.spare + l.left ≡ l.fn.parts.spare + l.count)

@@ -2,7 +2,7 @@ use Rattle.std.proofs.Common.{◌≡◌, ℕ, ◌≤◌, ◌∙◌, ap, sym, ari
 use Rattle.tcmu_types.specs.declared.iovec.Iov.{Iov}
 use Rattle.tcmu_model.specs.Regions.{size_of, RegionState, numbers_of, numbers_from, first_block, block_count, returned, without, taken, can_take, HaveSize}
 use Rattle.std.proofs.Common.{get_or}
-use Rattle.shm_region.proofs.Lent.{split_first, split_more, first_room, range_step, cannot_range}
+use Rattle.shm_region.proofs.Lent.{length-numbers, split_first, split_more, first_room, range_step, cannot_range}
 use Rattle.shm_region.proofs.region.Region.lend_iovs.Goals as goal
 use Rattle.tcmu_model.proofs.Areas.{length-taken}
 
@@ -55,7 +55,10 @@ loop-done-preserved c =
     let can : c.lend_range.result ≡ true = search rules in
     let takes : can_take c.loop-done.self.blocks ms ≡ true = sym c.lend_range.ensures.answer ∙ can in
     let step = range_step c.loop-done.self c.lend_range.new.self front ms rest c.loop-done.into.items c.lend_range.new.into.items (sym inv.3) takes c.if-not-lend_range.ensures.lent c.if-not-lend_range.ensures.parts in
-    let pages : size_of c.loop-done.self ≡ size = ap (λ (r : RegionState). size_of r) inv.9 in (
+    let pages : size_of c.loop-done.self ≡ size = ap (λ (r : RegionState). size_of r) inv.9 in
+    let longer : length c.lend_range.new.into.items ≡ length c.loop-done.into.items + k =
+    ap length c.if-not-lend_range.ensures.parts ∙ length-append c.loop-done.into.items (taken c.loop-done.self.blocks ms)
+    ∙ ap (λ (n : ℕ). length c.loop-done.into.items + n) (length-taken c.loop-done.self.blocks ms ∙ length-numbers f k) in (
       inv.0,
       inv.1,
       omega arith,
@@ -68,4 +71,5 @@ loop-done-preserved c =
       step.parts ∙ ap (λ (ns : List ℕ). c.loop-done.into.items ++ taken c.loop-done.self.blocks ns) (sym split) ∙ inv.7,
       step.gone ∙ ap (λ (ns : List ℕ). record c.loop-done.self { blocks = without c.loop-done.self.blocks ns }) (sym split) ∙ inv.8,
       ap (λ (ns : List ℕ). record c.lend_range.new.self { blocks = returned c.lend_range.new.self.blocks ns c.lend_range.new.into.items }) more ∙ step.back ∙ inv.9,
+      omega (arith, inv.10, c.if-not-lend_range.ensures.spare, longer),
     )

@@ -1,4 +1,4 @@
-use Rattle.std.proofs.Common.{◌≡◌, ◌-◌, ◌≤◌, ◌++◌, length, take, drop}
+use Rattle.std.proofs.Common.{◌≡◌, ◌+◌, ◌-◌, ◌≤◌, ◌++◌, length, take, drop}
 use Rattle.tcmu_model.specs.Regions.{size_of, can_take, taken, without, returned, lent, parts_of, named_by, HaveSize, numbers_of}
 use Rattle.shm_region.proofs.region.Region.lend_iovs.Given as goal
 
@@ -19,3 +19,4 @@ invariant-loop-done l =
     × (l.into.items ++ taken l.self.blocks (numbers_of start size (drop l.done l.iovs)) ≡ parts_of l.fn.self l.iovs)
     × (record l.self { blocks = without l.self.blocks (numbers_of start size (drop l.done l.iovs)) } ≡ lent l.fn.self l.iovs)
     × (record l.self { blocks = returned l.self.blocks (numbers_of start size (take l.done l.iovs)) l.into.items } ≡ l.fn.self)
+    × (l.fn.into.spare ≤ l.into.spare + length l.into.items)
