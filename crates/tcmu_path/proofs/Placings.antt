@@ -5,7 +5,7 @@ use Rattle.std.proofs.lemmas.List.{take_more, take-append-drop}
 use Rattle.std.proofs.Math.Seq.{take-add}
 use Rattle.std.proofs.lemmas.List.Folds.{list_any-append}
 use Rattle.std.proofs.lemmas.Grind.{flat_map-append}
-use Rattle.std.proofs.lemmas.Bool.{or_parts, or_left, or_right, eq-eqb, ne_eqb, eqb-false}
+use Rattle.std.proofs.lemmas.Bool.{or_parts, or_right, ne_eqb, eqb-false}
 use Rattle.tcmu_model.specs.declared.state.CommandState.TheVariants.{Parked}
 use Rattle.tcmu_model.specs.RingState.{Item, Laid, Pad, Cmd, Tmr, serial_in, serials_in}
 use Rattle.tcmu_model.specs.Device.{Unfinished, is_at}
