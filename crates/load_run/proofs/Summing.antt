@@ -1,16 +1,14 @@
 -- The numbers of a load, from what was noted while it was played.
-use Rattle.std.proofs.Common.{◌≡◌, ℕ, zero, suc, ◌+◌, ◌-◌, ⊎_elim, Bool, true, false, cond, List, [], ◌∷◌, ◌++◌, length, get_or, Option, Some, None, refl, sym, ap, ◌∙◌, subst, arith}
-use Rattle.std.specs.List.{filter, count_by, sum_by}
-use Rattle.std.proofs.lemmas.Bool.{cases_Bool}
+use Rattle.std.proofs.Common.{◌≡◌, ℕ, zero, suc, ◌+◌, Bool, true, false, cond, List, [], ◌∷◌, length, get_or, Option, Some, None, refl, sym, ap, ◌∙◌, subst, arith}
+use Rattle.std.specs.List.{filter, sum_by}
 use Rattle.std.proofs.lemmas.List.Sums.{sum_by-cons, length-filter}
 use Rattle.tcmu_types.specs.Rules.{takes_payload}
 use Rattle.tcmu_types.specs.Data.{CommandData, DoneData}
 use Rattle.tcmu_types.specs.Events.{EntryData}
-use Rattle.tcmu_model.specs.Device.{Device, DeviceState}
+use Rattle.tcmu_model.specs.Device.{Device}
 use Rattle.tcmu_model.specs.Steps.{HandlerRelation}
-use Rattle.tcmu_model.specs.Replay.{open_count}
-use Rattle.tcmu_model.specs.Load.{accepted_as, moved_by, good_completions, LoadNumbers, load_numbers}
-use Rattle.load_run.specs.Tallies.{size_of, sizes_of, RunNumbers, is_good, moved_size, good_bytes, numbers_in}
+use Rattle.tcmu_model.specs.Load.{accepted_as, moved_by, LoadNumbers, load_numbers}
+use Rattle.load_run.specs.Tallies.{sizes_of, RunNumbers, is_good, moved_size, good_bytes, numbers_in}
 use Rattle.load_run.proofs.Tallying.{known, none_before, size_at, counted}
 
 moved_known : (o : Option CommandData) (e : DoneData) → moved_size (known o) e ≡ moved_by o e

@@ -1,5 +1,5 @@
 -- Entries that are played, and the sizes that are noted of them, as far as a replay has come.
-use Rattle.std.proofs.Common.{◌≡◌, ◌≢◌, ◌⊎◌, inl, inr, ⊎_elim, ℕ, zero, suc, ◌+◌, ◌-◌, ◌<◌, ◌≤◌, Bool, true, false, cond, nat_eq, List, [], ◌∷◌, ◌++◌, length, get_or, drop, Option, Some, None, refl, sym, ap, ◌∙◌, subst, arith, append_assoc, length-append}
+use Rattle.std.proofs.Common.{◌≡◌, ◌⊎◌, inl, inr, ⊎_elim, ℕ, zero, suc, ◌+◌, ◌<◌, ◌≤◌, Bool, true, false, cond, nat_eq, List, [], ◌∷◌, ◌++◌, length, get_or, drop, Option, Some, None, refl, sym, ap, ◌∙◌, subst, arith, append_assoc, length-append}
 use Rattle.std.specs.Prelude.{slice_get, slice_set}
 use Rattle.std.proofs.lemmas.List.{append-nil, drop_more, drop_all}
 use Rattle.std.proofs.lemmas.List.Concat.{flat_map-append}
@@ -26,17 +26,7 @@ use Rattle.tcmu_model.proofs.GoesOn.{goes_on_first, goes_on_more}
 use Rattle.tcmu_model.proofs.Logs.{makes_grows}
 use Rattle.tcmu_model.proofs.Runs.{sound_step, sound_run}
 use Rattle.tcmu_path.specs.Calls.{Accepts}
-use Rattle.tcmu_path.specs.Tasks.{IsFit, CanBeMade}
 use Rattle.std.proofs.Common.{◌&&◌, not, nat_lt, ◌*◌, ◌/◌}
-use Rattle.std.specs.Option.{option_map}
-use Rattle.std.proofs.lemmas.Bool.{ltb-true}
-use Rattle.tcmu_types.specs.Views.{event_data}
-use Rattle.tcmu_types.specs.declared.event.Event.{Event}
-use Rattle.tcmu_types.specs.declared.stat.Todo.{Todo}
-use Rattle.tcmu_model.specs.Drain.{todo_of, chosen}
-use Rattle.tcmu_model.specs.Lists.{RisesAbove, IsRising}
-use Rattle.tcmu_model.specs.Fields.{is_rising}
-use Rattle.tcmu_model.specs.ScenarioRules.{IsEvent}
 use Rattle.load_run.specs.Tallies.{size_of, size_in, sizes_of, GivesNext, Numbers, RunNumbers, IsOf, Played}
 
 -- ==== one event

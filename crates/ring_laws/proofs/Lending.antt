@@ -1,5 +1,5 @@
 -- The blocks of a command that are at home can be lent along its iovecs: the parts have what stood in them.
-use Rattle.std.proofs.Common.{◌≡◌, ℕ, ◌+◌, ◌-◌, ◌*◌, ◌%◌, ◌≤◌, ◌<◌, ◌==◌, ◌&&◌, min, true, false, List, [], ◌∷◌, ◌++◌, length, set, refl, sym, ap, ◌∙◌, arith, suc, Option, Some, None, slice_get, ⊎_elim, eqb, nat_le, nat_lt}
+use Rattle.std.proofs.Common.{◌≡◌, ℕ, ◌+◌, ◌-◌, ◌*◌, ◌%◌, ◌≤◌, ◌<◌, ◌==◌, ◌&&◌, min, true, false, List, [], ◌∷◌, ◌++◌, length, set, refl, sym, ap, ◌∙◌, arith, Option, Some, None, slice_get, ⊎_elim, eqb, nat_le, nat_lt}
 use Rattle.std.specs.Prelude.{unwrap_or}
 use Rattle.std.proofs.Math.Nat.{add-mul-mod_self_left, mod_self, mul-mod_right}
 use Rattle.std.proofs.lemmas.Bool.{cases_Bool, eqb-true, eqb-false, eq-eqb, or_parts, and_from, and_parts}
@@ -12,7 +12,6 @@ use Rattle.tcmu_model.specs.Areas.{block_bytes, bytes_along, IsHome, IsLent}
 use Rattle.tcmu_model.specs.Regions.{home, is_home, starts_block, are_whole, can_take, taken, without, HaveSize}
 use Rattle.ring_laws.proofs.Scatter.{get-set_other, get-set_same, here-other, along-same}
 use Rattle.ring_laws.proofs.AnswerData.{set-leaves}
-use Rattle.tcmu_model.proofs.Areas.{length-taken}
 
 -- ==== the iovecs are whole
 

@@ -1,19 +1,15 @@
 -- How many commands a device has accepted: a submit brings at most one, and other events bring none.
-use Rattle.std.proofs.Common.{◌≡◌, ℕ, ◌+◌, ◌≤◌, Bool, true, false, cond, ◌&&◌, nat_eq, List, [], ◌∷◌, Option, Some, None, refl, ap, ◌∙◌, arith, ⊎_elim}
-use Rattle.std.proofs.lemmas.Bool.{cases_Bool}
+use Rattle.std.proofs.Common.{◌≡◌, ℕ, ◌+◌, ◌≤◌, Bool, true, false, cond, ◌&&◌, nat_eq, List, refl, ap, ◌∙◌, arith}
 use Rattle.tcmu_types.specs.Data.{CommandData, ReplyData}
 use Rattle.tcmu_types.specs.Events.{EventData, AnswerData}
 use Rattle.tcmu_types.specs.Events as ev
 use Rattle.tcmu_types.specs.declared.answer.Submit.{Submit}
 use Rattle.tcmu_types.specs.declared.answer.Submit.TheVariants as submit
-use Rattle.tcmu_types.specs.declared.answer.Enter.{Enter}
-use Rattle.tcmu_types.specs.declared.answer.Enter.TheVariants as enter
 use Rattle.tcmu_types.specs.declared.answer.Handle.TheVariants as handle
 use Rattle.tcmu_types.specs.declared.answer.Tmr.{Tmr}
 use Rattle.tcmu_types.specs.declared.answer.Tmr.TheVariants as tmr
-use Rattle.tcmu_model.specs.RingState.{Item}
-use Rattle.tcmu_model.specs.Device.{Delayed, DeviceState, Device}
-use Rattle.tcmu_model.specs.Events.{after_submit, with_command, with_delayed, after_enter, after_entering, after_dispatch, next_item, passed, after_item, after_handle, after_respond, is_handled, after_publish, after_clean, after_tick, after_block, emptied, count_in_hand, after_reset, after_restart, with_note, after_tmr}
+use Rattle.tcmu_model.specs.Device.{DeviceState, Device}
+use Rattle.tcmu_model.specs.Events.{after_submit, with_command, with_delayed, after_handle, after_clean, after_tick, after_block, emptied, count_in_hand, after_reset, after_restart, with_note, after_tmr}
 use Rattle.tcmu_model.specs.Steps.{HandlerRelation, Makes, accepted_by}
 use Rattle.tcmu_model.proofs.Unnamed.{enter_kept, dispatch_kept, respond_kept, publish_kept}
 

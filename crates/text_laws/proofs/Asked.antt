@@ -1,5 +1,5 @@
 -- The events of a replay: those that its lines ask for, and those that its drains find to do, which are within the limits of lines.
-use Rattle.std.proofs.Common.{◌≡◌, ℕ, suc, ◌+◌, ◌<◌, ◌≤◌, Bool, true, false, cond, nat_lt, List, [], ◌∷◌, ◌++◌, length, map, slice_set, Option, Some, None, refl, sym, ap, ◌∙◌, subst, arith}
+use Rattle.std.proofs.Common.{◌≡◌, ℕ, suc, ◌+◌, ◌<◌, ◌≤◌, Bool, true, false, cond, List, [], ◌∷◌, ◌++◌, length, map, slice_set, Option, Some, None, refl, sym, ap, ◌∙◌, subst, arith}
 use Rattle.std.specs.List.{filter}
 use Rattle.std.proofs.lemmas.List.Elements.{filter-append}
 use Rattle.std.proofs.lemmas.Option.{slice_get_within}
@@ -10,9 +10,8 @@ use Rattle.tcmu_types.specs.declared.stat.Todo.{Todo}
 use Rattle.tcmu_model.specs.Lists.{first_of}
 use Rattle.tcmu_model.specs.declared.state.CommandState.TheVariants.{Out, Handled}
 use Rattle.tcmu_model.specs.Device.{Unfinished, DeviceState, Device, has_state}
-use Rattle.tcmu_model.specs.Events.{publishable}
 use Rattle.tcmu_model.specs.Steps.{HandlerRelation, Step, accepted_by}
-use Rattle.tcmu_model.specs.Drain.{least_serial, chosen, todo_of, nothing_to_do, can_enter, drain_event, Drains}
+use Rattle.tcmu_model.specs.Drain.{least_serial, chosen, todo_of, nothing_to_do, drain_event, Drains}
 use Rattle.tcmu_model.specs.ScenarioData.{LineWhat, LineData, command_of}
 use Rattle.tcmu_model.specs.ScenarioData as line
 use Rattle.tcmu_model.specs.ScenarioRules.{IsEvent, IsWhat}

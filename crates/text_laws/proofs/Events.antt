@@ -3,7 +3,7 @@ use Rattle.std.proofs.Common.{◌≡◌, ℕ, ◌<◌, ◌≤◌, Bool, true, fa
 use Rattle.std.specs.List.{list_all, flat_map}
 use Rattle.std.specs.Option.{option_map, ok_or}
 use Rattle.std.specs.Fmt.{decimal}
-use Rattle.std.proofs.lemmas.Bool.{and_from, cond-true, eqb-true, eq-eqb}
+use Rattle.std.proofs.lemmas.Bool.{and_from, cond-true, eqb-true}
 use Rattle.std.proofs.lemmas.List.{nil_from_length}
 use Rattle.tcmu_types.specs.Naming.{is_name}
 use Rattle.tcmu_types.specs.Rules.{IsCommand, is_directed, takes_payload}

@@ -1,17 +1,15 @@
 -- A picture of a sound device, with block lists that are sound, is a dump of the code: its numbers, and the lengths of its bytes, are
 -- numbers of 64 bits.
-use Rattle.std.proofs.Common.{◌≡◌, ℕ, suc, ◌+◌, ◌-◌, ◌*◌, ◌<◌, ◌≤◌, Bool, true, false, cond, nat_eq, List, [], ◌∷◌, ◌++◌, length, take, drop, map, replicate, slice_get, IfSome, Option, Some, None, refl, sym, ap, ◌∙◌, arith, length-append, length-drop}
+use Rattle.std.proofs.Common.{◌≡◌, ℕ, suc, ◌+◌, ◌-◌, ◌*◌, ◌<◌, ◌≤◌, Bool, true, false, cond, List, [], ◌∷◌, ◌++◌, length, take, drop, map, replicate, slice_get, IfSome, Option, Some, None, refl, sym, ap, ◌∙◌, arith, length-append, length-drop}
 use Rattle.std.proofs.lemmas.List.{length-take, length-replicate}
 use Rattle.std.proofs.Math.Nat.{mod-lt}
-use Rattle.tcmu_types.specs.Data.{SenseData, ReplyData, SettingsData}
+use Rattle.tcmu_types.specs.Data.{ReplyData, SettingsData}
 use Rattle.tcmu_types.specs.Rules.{IsCommand, IsSettings, takes_payload, payload_length}
-use Rattle.tcmu_types.specs.SenseBytes.{fixed_sense}
 use Rattle.tcmu_types.specs.declared.iovec.Iov.{Iov}
 use Rattle.tcmu_types.proofs.Places.{get_drop}
 use Rattle.tcmu_model.specs.declared.state.CommandState.{CommandState}
 use Rattle.tcmu_model.specs.BlockLists.{Taken, list_of, held_by}
 use Rattle.tcmu_model.specs.Device.{Unfinished, DeviceState, has_serial}
-use Rattle.tcmu_model.specs.Iovecs.{piece, joined, merged, iovs_along}
 use Rattle.tcmu_model.specs.Layout.{le, put, zeros, padded, ids_bytes, iovs_bytes, cdb_place, command_length, command_head, ring_start, data_start, mailbox_bytes, pad_bytes, command_bytes, tmr_bytes, sense_buffer, answer_bytes, response_bytes, entry_header}
 use Rattle.tcmu_model.specs.Lengths.{round_up, tmr_length, blocks_of, block_size}
 use Rattle.tcmu_model.specs.Lists.{first_of}
@@ -28,7 +26,7 @@ use Rattle.tcmu_model.proofs.Written.{lengths as writes, length-le, length-zeros
 use Rattle.text_laws.specs.Dumps.{IsItemValue, IsHeldValue, PicturesWhole}
 use Rattle.text_laws.specs.Values.{IsNumber}
 use Rattle.text_laws.proofs.Devices.{blocks_few}
-use Rattle.tcmu_model.proofs.PartLengths.{length-merged, length-iovs, length-sense}
+use Rattle.tcmu_model.proofs.PartLengths.{length-iovs, length-sense}
 
 -- ---- how many bytes are written
 
