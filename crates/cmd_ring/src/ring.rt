@@ -26,7 +26,7 @@ pub struct Place {
     pub at: u32,
 }
 
-/// The places of a command ring (the kernel's tcmu-design, "Command ring"): an item lies in one piece, behind padding where it
+/// The places of a command ring (the kernel's tcmu-design, "The Command Ring"): an item lies in one piece, behind padding where it
 /// would pass the ring's end, and one byte is never used. Each number is in bytes.
 #[derive(Debug, Drop)]
 pub struct Ring {

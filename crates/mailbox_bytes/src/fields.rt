@@ -1,4 +1,4 @@
-//! Numbers among bytes, the lowest byte first.
+//! Numbers among bytes, the lowest byte first. Each call asks that the bytes which it names lie in the slice.
 ghost use Rattle.std.specs.Prelude.{◌≡◌, ℕ, ◌+◌, ◌≤◌, length, ◌∷◌, []};
 ghost use Rattle.tcmu_model.specs.Layout.{le, field, zeros, put};
 

@@ -1,5 +1,5 @@
 //! Whole lines of a journal.
-ghost use Rattle.std.specs.Prelude.{◌≡◌, ℕ, [], ◌∷◌, ◌++◌, length, OnOk, OnErr, codes};
+ghost use Rattle.std.specs.Prelude.{◌≡◌, ℕ, ◌+◌, ◌≤◌, [], ◌∷◌, ◌++◌, length, OnOk, OnErr, codes};
 ghost use Rattle.std.specs.List.{flat_map};
 ghost use Rattle.tcmu_types.specs.Views.{event_data, answer_data};
 ghost use Rattle.tcmu_model.specs.Text.{spaced, line, payload_text, completion_text, event_line as event_spelling, entry_text as entry_spelling, end_text as end_spelling, dump_text as dump_spelling, device_text as device_spelling};
@@ -16,6 +16,7 @@ use tcmu_types::{Answer, Bytes, Done, Dump, Entry, Event, Name, NoMemory};
 fn append(into: &mut Bytes, text: &[u8]) -> Result<(), NoMemory>
     ensures ok { OnOk result (into.new.items ≡ into.old.items ++ text.now) }
     ensures err { OnErr result (into.new.items ≡ into.old.items) }
+    ensures room { into.old.spare + length into.old.items ≤ into.new.spare + length into.new.items }
 {
     into.reserve(text.len() as u64)?;
     into.extend(text);
@@ -95,6 +96,7 @@ fn push_end(alloc: Global, out: &mut Vec<u8>, name: &[u8], count: u64) -> Result
 pub fn runs_text(alloc: Global, bytes: &[u8], into: &mut Bytes) -> Result<(), NoMemory>
     ensures ok { OnOk result (into.new.items ≡ into.old.items ++ payload_text bytes.now) }
     ensures err { OnErr result (into.new.items ≡ into.old.items) }
+    ensures room { into.old.spare + length into.old.items ≤ into.new.spare + length into.new.items }
 {
     let mut text = Vec::new(alloc);
     push_payload(alloc, &mut text, bytes)?;
@@ -105,6 +107,7 @@ pub fn runs_text(alloc: Global, bytes: &[u8], into: &mut Bytes) -> Result<(), No
 pub fn device_text(alloc: Global, device: &DeviceLine, into: &mut Bytes) -> Result<(), NoMemory>
     ensures ok { OnOk result (into.new.items ≡ into.old.items ++ device_spelling device.now) }
     ensures err { OnErr result (into.new.items ≡ into.old.items) }
+    ensures room { into.old.spare + length into.old.items ≤ into.new.spare + length into.new.items }
 {
     let mut text = Vec::new(alloc);
     push_device(alloc, &mut text, device)?;
@@ -123,6 +126,7 @@ pub fn event_line(
 ) -> Result<(), NoMemory>
     ensures ok { OnOk result (into.new.items ≡ into.old.items ++ event_spelling name.now qfull (event_data event.now) (answer_data answer.now)) }
     ensures err { OnErr result (into.new.items ≡ into.old.items) }
+    ensures room { into.old.spare + length into.old.items ≤ into.new.spare + length into.new.items }
 {
     let mut text = Vec::new(alloc);
     push_line(alloc, &mut text, name.as_bytes(), qfull, event, answer)?;
@@ -138,6 +142,7 @@ pub fn completion_line(
 ) -> Result<(), NoMemory>
     ensures ok { OnOk result (into.new.items ≡ into.old.items ++ completion_text name.now done.now) }
     ensures err { OnErr result (into.new.items ≡ into.old.items) }
+    ensures room { into.old.spare + length into.old.items ≤ into.new.spare + length into.new.items }
 {
     let mut text = Vec::new(alloc);
     push_completion(alloc, &mut text, name.as_bytes(), done)?;
@@ -156,6 +161,7 @@ pub fn entry_text(
 ) -> Result<(), NoMemory>
     ensures ok { OnOk result (into.new.items ≡ into.old.items ++ entry_spelling name.now qfull entry.now logged.now) }
     ensures err { OnErr result (into.new.items ≡ into.old.items) }
+    ensures room { into.old.spare + length into.old.items ≤ into.new.spare + length into.new.items }
 {
     let mut text = Vec::new(alloc);
     push_entry(alloc, &mut text, name.as_bytes(), qfull, entry, logged)?;
@@ -166,6 +172,7 @@ pub fn entry_text(
 pub fn end_text(alloc: Global, name: &Name, count: u64, into: &mut Bytes) -> Result<(), NoMemory>
     ensures ok { OnOk result (into.new.items ≡ into.old.items ++ end_spelling name.now count) }
     ensures err { OnErr result (into.new.items ≡ into.old.items) }
+    ensures room { into.old.spare + length into.old.items ≤ into.new.spare + length into.new.items }
 {
     let mut text = Vec::new(alloc);
     push_end(alloc, &mut text, name.as_bytes(), count)?;
@@ -176,6 +183,7 @@ pub fn end_text(alloc: Global, name: &Name, count: u64, into: &mut Bytes) -> Res
 pub fn dump_text(alloc: Global, name: &Name, dump: &Dump, into: &mut Bytes) -> Result<(), NoMemory>
     ensures ok { OnOk result (into.new.items ≡ into.old.items ++ dump_spelling name.now dump.now) }
     ensures err { OnErr result (into.new.items ≡ into.old.items) }
+    ensures room { into.old.spare + length into.old.items ≤ into.new.spare + length into.new.items }
 {
     let mut text = Vec::new(alloc);
     push_dump(alloc, &mut text, name.as_bytes(), dump)?;
