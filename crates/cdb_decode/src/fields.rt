@@ -1,4 +1,4 @@
-//! Numbers in bytes, with the highest byte first.
+//! Numbers in bytes, with the highest byte first. Each call asks that the bytes which it names lie in the slice.
 ghost use Rattle.std.specs.Prelude.{◌≡◌, ◌+◌, ◌≤◌, length};
 ghost use Rattle.byteorder.specs.Endian.{big_from};
 

@@ -43,9 +43,9 @@ impl<L: Lane> Promise<L::Done> for DoneOf<L> {
     ghost kept_by = { λ p r. L.done p.about.value r };
 }
 
-/// Runs all loops beside each other, and answers when the last has ended. They are started in their order; one that
-/// cannot be started is run by the caller, before the next is started. What they give back comes in no order. Where there
-/// is no memory none is run.
+/// Runs all loops and, when the last has ended, answers what they gave back: as many results as there were loops, each as `done` says,
+/// in no order. In which order they start, and what is run where there is no memory, has no clause: the code starts them in their order,
+/// runs one that gets no thread before it starts the next, and makes room for all results before it starts the first.
 pub fn run_all<L: Lane, R: Threads + Wait + Sync>(
     rt: &R,
     alloc: Global,
@@ -94,7 +94,7 @@ where
     )
 }
 
-/// Starts each loop in its order, or runs it here.
+/// Starts each loop, or runs it here.
 fn start_all<'s, E: 's, L: Lane + 's, R: Threads + Wait + Sync>(
     rt: &'s R,
     scope: &'s Scope<'s, E>,

@@ -91,7 +91,7 @@ impl Blocks {
         number
     }
 
-    /// Takes the `count` least free blocks, which are there and have room in `into`, and appends their numbers, rising.
+    /// Takes the `count` least free blocks, which `reserve` has promised and `into` has room for, and appends their numbers, rising.
     pub fn take(&mut self, count: u32, into: &mut BlockList)
         requires spare { count ≤ self.old.spare }
         requires room { count ≤ into.old.spare }

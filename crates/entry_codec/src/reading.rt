@@ -11,7 +11,7 @@ use tcmu_types::{Cdb, Iov, group_length};
 /// Where the ring begins in the front.
 pub(crate) const RING_START: usize = 128;
 
-/// The iovec of this number, from 0, of the command's entry at ring offset `at`, whatever its bytes say.
+/// The iovec of this number, from 0, of the command's entry at ring offset `at`, which lies in `front`, whatever its bytes say.
 #[tactic(auto, unfolding(tcmu_model::specs::EntryReading::iov_at))]
 pub fn read_iov(front: &[u8], at: u32, index: u32) -> Iov
     requires { 128 + at + 64 + 16 * index ≤ length front.now }
@@ -24,7 +24,8 @@ pub fn read_iov(front: &[u8], at: u32, index: u32) -> Iov
     }
 }
 
-/// The id of this number, from 0, in the task management entry at ring offset `at` (from byte 32 on, two bytes each).
+/// The id of this number, from 0, in the task management entry at ring offset `at` (from byte 32 on, two bytes each), which lies in
+/// `front`.
 #[tactic(auto, unfolding(tcmu_model::specs::EntryReading::tmr_id_at))]
 pub fn read_tmr_id(front: &[u8], at: u32, index: u32) -> u16
     requires { 128 + at + 34 + 2 * index ≤ length front.now }
@@ -209,7 +210,8 @@ fn read_sized(
 }
 
 /// The entry at ring offset `at`, or the first rule of `EntryFault` that it breaks. `front` is the region before the data area, `area` how
-/// many bytes the data area has. Any bytes may stand there.
+/// many bytes the data area has. Any bytes may stand there. `at` is a multiple of 8 below the ring's size, `mailbox` is one that
+/// `mailbox_bytes::read` accepted, and `front` has all of the region before the data area.
 #[tactic(auto, unfolding(tcmu_model::specs::EntryReading::entry_read))]
 pub fn read_entry(
     front: &[u8],
@@ -229,7 +231,7 @@ pub fn read_entry(
     read_sized(front, area, mailbox, at, (word % 8) as u8, word - word % 8)
 }
 
-/// The response in the command's entry at ring offset `at` (its bytes 4 to 111), whatever they say.
+/// The response in the command's entry at ring offset `at` (its bytes 4 to 111), which lies in `front`, whatever these bytes say.
 #[tactic(auto, unfolding(tcmu_model::specs::EntryReading::response_at))]
 pub fn read_response(front: &[u8], at: u32) -> Response
     requires { 128 + at + 112 ≤ length front.now }

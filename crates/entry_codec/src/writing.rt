@@ -1,5 +1,5 @@
-//! Writing entries. Each writer writes just its bytes, and leaves all others. Every `at` is a byte offset in the ring, which begins
-//! at byte 128 of the front.
+//! Writing entries. Each entry that is written lies in `front`. Each writer writes just its bytes, and leaves all others. Every `at`
+//! is a byte offset in the ring, which begins at byte 128 of the front.
 ghost use Rattle.std.specs.Prelude.{◌≡◌, ℕ, ◌+◌, ◌-◌, ◌*◌, ◌%◌, ◌^◌, ◌≤◌, ◌<◌, length};
 ghost use Rattle.tcmu_model.specs.Lengths.{round_up, tmr_length};
 ghost use Rattle.tcmu_model.specs.Layout.{ring_start, put, padded, zeros, entry_header, pad_bytes, tmr_bytes, command_bytes, command_head, command_length, cdb_place, answer_bytes, iovs_bytes, ids_bytes, with_response};
@@ -19,7 +19,7 @@ fn put_header(front: &mut [u8], start: usize, op: u32, len: u32, id: u16)
     put_zeros(front, start + 6, 2);
 }
 
-/// Writes padding of `len` bytes, a multiple of 8 and not 0: its header, then zeros. It lies within `front`, as each entry that is written.
+/// Writes padding of `len` bytes, a multiple of 8 and not 0: its header, then zeros.
 pub fn write_pad(front: &mut [u8], at: u32, len: u32)
     requires least { 8 ≤ len }
     requires aligned { len % 8 ≡ 0 }
@@ -104,7 +104,7 @@ pub fn write_request(front: &mut [u8], at: u32, id: u16, blocks: u32, iovs: &Iov
     put_padded(front, start + place, cdb, cdb_len);
 }
 
-/// Writes a task management entry of a type (tcmu-design, `tmr_type`) that names these ids.
+/// Writes a task management entry of a type (`tmr_type` of `struct tcmu_tmr_entry`) that names these ids.
 pub fn write_tmr(front: &mut [u8], at: u32, kind: u8, ids: &Ids)
     requires inside { ring_start + at + tmr_length (length ids.now.items) ≤ length front.old }
     requires fits { tmr_length (length ids.now.items) < 2 ^ 32 }

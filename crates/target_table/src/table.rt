@@ -83,8 +83,8 @@ impl Table {
         Ok(())
     }
 
-    /// Adds a command behind all others in the place that was reserved, as one that is not expired, and gives its id. Its serial is above
-    /// theirs, and its deadline not before theirs.
+    /// Adds a command behind all others in a place that was reserved, as one that is not expired, and gives its id. Its serial is above
+    /// theirs. Its deadline is not before theirs, or neither it nor any of them has one.
     pub fn add(&mut self, pending: Pending) -> u16
         requires reserved { 1 ≤ self.old.spare }
         requires last { AllPrecede self.old.rows pending }

@@ -145,8 +145,9 @@ impl<K: Stepped> Turn<K> {
         desk.load::<Look>(&mut pass.seat, SERVING);
     }
 
-    /// Waits for the turn, makes one ask of the value, and answers what it was told and the length of the history after it,
-    /// in entries. What was told gives a receipt; want of memory gives none, and no entry.
+    /// Waits for the turn, asks the value, and answers what it was told and the length of the history after it, in entries. What was told
+    /// gives the pass one receipt; want of memory gives none. Each entry stands in one receipt (`close`), so a call makes at most one, and
+    /// none for want of memory. That it asks the value just once has no clause: of asks that make no entry only its last one is told.
     pub fn ask<R: Wait>(
         &self,
         rt: &R,
@@ -170,7 +171,8 @@ impl<K: Stepped> Turn<K> {
         serve(desk, seat, ask)
     }
 
-    /// Ends the turn and gives the value back, for a pass that has all parts, so that no other pass is out. All its receipts fit the history.
+    /// Ends the turn and gives the value back, for a pass that has all parts, so that no other pass is out. All its receipts fit the
+    /// history, and each entry that was made since the start stands in one of them.
     pub fn close(self, pass: Pass<K>) -> K
         requires own { pass.turn ≡ self.turn }
         requires all { pass.parts ≡ self.parts }
