@@ -21,6 +21,7 @@ use Rattle.tcmu_top.specs.Top.{Replayed, ReplayedInPart, TextWritten, CutShort, 
 use Rattle.tcmu_top.proofs.Fetching.{place_free, fetches_fails, own_files}
 use Rattle.tcmu_top.proofs.Keeping.{fetched_out}
 use Rattle.tcmu_top.proofs.GivenBack.{tell_files}
+use Rattle.tcmu_top.proofs.Whole.{opened_count}
 
 -- ==== devices as they open
 
@@ -59,9 +60,10 @@ text_written s files mid files' ds ends old new rules h r k =
     }
 
 pub cut_short : (s : ScenarioData) (files mid files' : Option FilesState) (ds ends : List Device) (old new : Option (List ℕ)) → IsScenario s → AreOpen files mid s.devices ds
-    → ReplayedInPart Serves s.devices ds s.lines ends old new → KeepsEach s.devices ends mid files' → CutShort files files' s old new
-cut_short s files mid files' ds ends old new rules h r k =
-    record { opened = ds; opens = h.opens; ends = ends; replay = r; fetched = h.fetched.none; kept = kept_files files mid files' s.devices ds ends r.made rules.files h r.legal k }
+    → length ends ≡ length ds → ReplayedInPart Serves s.devices ds s.lines ends old new → KeepsEach s.devices ends mid files' → CutShort files files' s old new
+cut_short s files mid files' ds ends old new rules h count r k =
+    let each : length ends ≡ length s.devices = count ∙ sym (opened_count s.devices ds (open_opened files s.devices ds h.opens)) in
+    record { opened = ds; opens = h.opens; ends = ends; count = each; replay = r; fetched = h.fetched.none; kept = kept_files files mid files' s.devices ds ends r.made rules.files h r.legal k }
 
 pub wanting_early : (s : ScenarioData) (files files' : Option FilesState) (old : Option (List ℕ)) → AsTheyWere s.devices files files' → Wanting files files' s old old
 wanting_early s files files' old same = inl (record { nothing = refl; same = same })

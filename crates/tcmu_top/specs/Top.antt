@@ -1,5 +1,5 @@
 -- What the top call says of what it read and wrote.
-use Rattle.std.specs.Prelude.{◌≡◌, ◌≢◌, ◌⊎◌, ℕ, true, false, List, [], ◌∷◌, ◌++◌, Option, Some, None, IfSome, Ok, Err, codes}
+use Rattle.std.specs.Prelude.{◌≡◌, ◌≢◌, ◌⊎◌, ℕ, true, false, List, [], ◌∷◌, ◌++◌, Option, Some, None, IfSome, Ok, Err, length, codes}
 use Rattle.std.specs.List.{flat_map}
 use Rattle.std.specs.Fmt.{decimal}
 use Rattle.tcmu_types.specs.Numbered.{Rose}
@@ -65,6 +65,8 @@ pub record CutShort (files files' : Option FilesState) (s : ScenarioData) (old n
   pub opened : List Device
   pub opens : OpenEach files s.devices opened
   pub ends : List Device
+  -- one for each device line
+  pub count : length ends ≡ length s.devices
   pub replay : ReplayedInPart Serves s.devices opened s.lines ends old new
   pub fetched : IfSome files (λ f. a_fetch_fails (file_names s.devices) f ≡ false)
   pub kept : KeptFiles s.devices ends files files'

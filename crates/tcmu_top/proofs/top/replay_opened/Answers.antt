@@ -39,9 +39,10 @@ returns-in-Err-WriteFault-clause-ends g c entry before after ready =
     let mid = g.F.Files.state c.args.files.now in
     let last = g.F.Files.state c.keep_files.new.files in
     let kept = subst (λ (l : List DeviceLineData). KeepsEach l ends mid last) same c.keep_files.ensures.kept in
+    let count : length ends ≡ length ds = states_count (λ d. d) c.replay_devices-ended.new.set ∙ c.replay_devices-ended.ensures.count ∙ sym (states_count (λ d. d) c.args.set) in
     let which : c.in-Err-WriteFault.field-0 ≡ stop.WriteFault = rw c.in-Err-WriteFault.is at c.in-Err-WriteFault.field-0-is in
     scenario_cut s entry last before after _ _ _ _ (c.replay_devices-ended.ensures.fault (c.in-Err-WriteFault.is ∙ ap (λ (x : Stop). Err x) which))
-    (cut_short s entry mid last ds ends _ _ c.requires.limits ready (rw c.in-Err-WriteFault.is at c.replay_devices-ended.ensures.err) kept)
+    (cut_short s entry mid last ds ends _ _ c.requires.limits ready count (rw c.in-Err-WriteFault.is at c.replay_devices-ended.ensures.err) kept)
 
 pub returns-in-Err-NoMemory-clause-ends : goal.returns-in-Err-NoMemory-clause-ends
 returns-in-Err-NoMemory-clause-ends g c entry before after ready =
@@ -52,4 +53,5 @@ returns-in-Err-NoMemory-clause-ends g c entry before after ready =
     let mid = g.F.Files.state c.args.files.now in
     let last = g.F.Files.state c.keep_files.new.files in
     let kept = subst (λ (l : List DeviceLineData). KeepsEach l ends mid last) same c.keep_files.ensures.kept in
-    scenario_wanting s entry last before after _ _ _ _ (inr (cut_short s entry mid last ds ends _ _ c.requires.limits ready (rw c.in-Err-NoMemory.is at c.replay_devices-ended.ensures.err) kept))
+    let count : length ends ≡ length ds = states_count (λ d. d) c.replay_devices-ended.new.set ∙ c.replay_devices-ended.ensures.count ∙ sym (states_count (λ d. d) c.args.set) in
+    scenario_wanting s entry last before after _ _ _ _ (inr (cut_short s entry mid last ds ends _ _ c.requires.limits ready count (rw c.in-Err-NoMemory.is at c.replay_devices-ended.ensures.err) kept))
