@@ -16,7 +16,7 @@ use Rattle.tcmu_model.specs.declared.faults.Why.TheVariants as why
 use Rattle.tcmu_top.specs.declared.status.Status.{Status}
 use Rattle.tcmu_top.specs.declared.status.Status.TheVariants as status
 use Rattle.tcmu_top.specs.Playing.{AreOpened}
-use Rattle.tcmu_top.specs.Opened.{OpenEach, file_names, AsTheyWere, KeptFiles, after_fetches, AreOpen, AFileLacks, KeepsEach}
+use Rattle.tcmu_top.specs.Opened.{OpenEach, file_names, NoneFailed, AsTheyWere, KeptFiles, after_fetches, AreOpen, AFileLacks, KeepsEach}
 use Rattle.tcmu_top.specs.Top.{Replayed, ReplayedInPart, TextWritten, CutShort, Wanting, LacksFile, Untouched, Had, too_long, ScenarioEnds, BytesEnd, Ends}
 use Rattle.tcmu_top.proofs.Fetching.{place_free, fetches_fails, own_files}
 use Rattle.tcmu_top.proofs.Keeping.{fetched_out}
@@ -65,7 +65,7 @@ cut_short s files mid files' ds ends old new rules h count r k =
     let each : length ends ≡ length s.devices = count ∙ sym (opened_count s.devices ds (open_opened files s.devices ds h.opens)) in
     record { opened = ds; opens = h.opens; ends = ends; count = each; replay = r; fetched = h.fetched.none; kept = kept_files files mid files' s.devices ds ends r.made rules.files h r.legal k }
 
-pub wanting_early : (s : ScenarioData) (files files' : Option FilesState) (old : Option (List ℕ)) → AsTheyWere s.devices files files' → Wanting files files' s old old
+pub wanting_early : (s : ScenarioData) (files files' : Option FilesState) (old : Option (List ℕ)) → AsTheyWere NoneFailed s.devices files files' → Wanting files files' s old old
 wanting_early s files files' old same = inl (record { nothing = refl; same = same })
 
 pub lacks_file : (s : ScenarioData) (files files' : Option FilesState) (faults faults' : ℕ) (old : Option (List ℕ)) → AFileLacks s.devices files files' faults faults' → Rose faults faults' × LacksFile files files' s old old

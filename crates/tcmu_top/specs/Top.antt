@@ -15,7 +15,7 @@ use Rattle.tcmu_model.specs.Words.{why_word}
 use Rattle.tcmu_model.specs.Several.{Journaled, IsLegalEach, journaled_text, IsReplayOf}
 use Rattle.tcmu_model.specs.declared.faults.Why.{Why}
 use Rattle.tcmu_model.specs.declared.faults.Why.TheVariants as why
-use Rattle.tcmu_top.specs.Opened.{OpenEach, file_names, a_fetch_fails, KeptFiles, AsTheyWere}
+use Rattle.tcmu_top.specs.Opened.{OpenEach, file_names, a_fetch_fails, KeptFiles, NoneFailed, NextFailed, AsTheyWere}
 use Rattle.tcmu_top.specs.Loads.{LoadEnds}
 use Rattle.tcmu_top.specs.declared.words.Task.{Task}
 use Rattle.tcmu_top.specs.declared.words.Task.TheVariants as task
@@ -71,20 +71,20 @@ pub record CutShort (files files' : Option FilesState) (s : ScenarioData) (old n
   pub fetched : IfSome files (λ f. a_fetch_fails (file_names s.devices) f ≡ false)
   pub kept : KeptFiles s.devices ends files files'
 
--- it did not begin: nothing was written, and each file is as it was
+-- it did not begin: nothing was written, each file is as it was, and no fetch that was made failed
 pub record NotBegun (files files' : Option FilesState) (s : ScenarioData) (old new : Option (List ℕ)) : Type 0 where
   pub nothing : new ≡ old
-  pub same : AsTheyWere s.devices files files'
+  pub same : AsTheyWere NoneFailed s.devices files files'
 
 -- want of memory stopped it, before it began or on the way
 abbrev pub Wanting : Option FilesState → Option FilesState → ScenarioData → Option (List ℕ) → Option (List ℕ) → Type 0
 Wanting files files' s old new = NotBegun files files' s old new ⊎ CutShort files files' s old new
 
--- a file could not be fetched: nothing was written, and each file is as it was
+-- A file could not be fetched: its fetch is the last that was made, and the first that failed. Nothing was written, and each file is as it was.
 pub record LacksFile (files files' : Option FilesState) (s : ScenarioData) (old new : Option (List ℕ)) : Type 0 where
   pub fails : IfSome files (λ f. a_fetch_fails (file_names s.devices) f ≡ true)
   pub nothing : new ≡ old
-  pub same : AsTheyWere s.devices files files'
+  pub same : AsTheyWere NextFailed s.devices files files'
 
 -- ==== what the source had
 
