@@ -1,5 +1,5 @@
 //! How the medium that a config names is made.
-ghost use Rattle.std.specs.Prelude.{◌≡◌, ◌≤◌, IfOk, IfErr, IfSome, true};
+ghost use Rattle.std.specs.Prelude.{◌≡◌, ◌≤◌, IfOk, IfErr, OnOk, IsErrOf, IfSome, true};
 ghost use Rattle.std.specs.Option.{option_map};
 ghost use Rattle.tcmu_types.specs.Numbered.{Rose};
 ghost use Rattle.tcmu_model.specs.ScenarioRules.{IsConfig};
@@ -38,6 +38,8 @@ fn fetch_file<F: Files>(alloc: Global, name: &[u8], files: &mut F) -> Result<F::
     ensures fetched { IfOk result (λ s. Opened name.now (F.File.state s) (F.state files.old) (F.state files.new)) }
     ensures refused { IfErr result (λ e. RefusesFetch e name.now (F.state files.old) (F.state files.new) (F.faults files.old) (F.faults files.new)) }
     ensures faults { F.faults files.old ≤ F.faults files.new }
+    ensures calm { OnOk result (F.faults files.new ≡ F.faults files.old) }
+    ensures wanting { IsErrOf result MakeFault.NoMemory → F.faults files.new ≡ F.faults files.old }
 {
     match files.fetch(alloc, name) {
         Ok(FetchOk::File(file)) => Ok(file),
@@ -56,6 +58,8 @@ pub fn make_medium<F: Files>(
     ensures opened { IfOk result (λ m. Opens config.now (F.state files.old) (F.state files.new) (⟦<Media<F::File> as Medium>⟧.state m)) }
     ensures refused { IfErr result (λ e. Refuses e config.now (F.state files.old) (F.state files.new) (F.faults files.old) (F.faults files.new)) }
     ensures faults { F.faults files.old ≤ F.faults files.new }
+    ensures calm { OnOk result (F.faults files.new ≡ F.faults files.old) }
+    ensures wanting { IsErrOf result MakeFault.NoMemory → F.faults files.new ≡ F.faults files.old }
     ensures unfailed { IfOk result (λ m. ⟦<Media<F::File> as Medium>⟧.faults m ≡ 0) }
 {
     let fails = Serials::from_slice(alloc, config.fails.as_slice())?;

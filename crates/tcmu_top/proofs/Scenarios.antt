@@ -15,6 +15,7 @@ use Rattle.tcmu_model.specs.Several.{Journaled, IsLegalEach}
 use Rattle.tcmu_model.specs.declared.faults.Why.TheVariants as why
 use Rattle.tcmu_top.specs.declared.status.Status.{Status}
 use Rattle.tcmu_top.specs.declared.status.Status.TheVariants as status
+use Rattle.tcmu_top.specs.Calls.{TookFront}
 use Rattle.tcmu_top.specs.Playing.{AreOpened}
 use Rattle.tcmu_top.specs.Opened.{OpenEach, file_names, NoneFailed, AsTheyWere, KeptFiles, after_fetches, AreOpen, AFileLacks, KeepsEach}
 use Rattle.tcmu_top.specs.Top.{Replayed, ReplayedInPart, TextWritten, CutShort, Wanting, LacksFile, Untouched, Had, too_long, ScenarioEnds, BytesEnd, Ends}
@@ -92,9 +93,9 @@ bad_of status.BadWords = too_long
 bad_of status.OpenFault = too_long
 
 -- the source had more
-pub ends_too_long : (left : Option (List ℕ)) (read read' opened wrote : ℕ) (files : Option FilesState) (old : Option (List ℕ)) → IfSome left (λ bytes. 4194304 < length bytes)
-    → Ends left read read' files files opened opened old old wrote wrote (status.BadScenario 0 why.TooLong)
-ends_too_long left read read' opened wrote files old h =
+pub ends_too_long : (left left' : Option (List ℕ)) (read read' opened wrote : ℕ) (files : Option FilesState) (old : Option (List ℕ)) → IfSome left (λ bytes. 4194304 < length bytes)
+    → TookFront left left' → read' ≡ read → Ends left left' read read' files files opened opened old old wrote wrote (status.BadScenario 0 why.TooLong)
+ends_too_long left left' read read' opened wrote files old h took calm =
     record {
       ok = λ e. absurd (cc);
       read_fault = λ e. absurd (cc);
@@ -103,29 +104,33 @@ ends_too_long left read read' opened wrote files old h =
       bad_scenario = λ line reason e. (inl (sym (ap bad_of e), subst (λ (b : Bad). IfSome left (λ bytes. scenario_of bytes ≡ Err b)) (ap bad_of e) (long_left left h)), record { wrote = refl; same = refl });
       open_fault = λ e. absurd (cc);
       words = λ e. absurd (cc);
+      taken = took;
+      calm_source = λ ne. calm;
+      calm_files = λ ne. refl;
+      calm_sink = λ ne. refl;
     }
 
 -- ==== the statuses of a scenario
 
-pub scenario_ok : (s : ScenarioData) (files files' : Option FilesState) (opened opened' : ℕ) (old new : Option (List ℕ)) (wrote wrote' : ℕ) → TextWritten files files' s old new
+pub scenario_ok : (s : ScenarioData) (files files' : Option FilesState) (opened opened' : ℕ) (old new : Option (List ℕ)) (wrote wrote' : ℕ) → opened' ≡ opened → wrote' ≡ wrote → TextWritten files files' s old new
     → ScenarioEnds s files files' opened opened' old new wrote wrote' status.Ok
-scenario_ok s files files' opened opened' old new wrote wrote' h =
-    record { ok = λ e. h; write_fault = λ e. absurd (cc); no_memory = λ e. absurd (cc); open_fault = λ e. absurd (cc); reads = λ e. absurd (cc); scenario = λ line reason e. absurd (cc); words = λ e. absurd (cc) }
+scenario_ok s files files' opened opened' old new wrote wrote' calm still h =
+    record { ok = λ e. h; write_fault = λ e. absurd (cc); no_memory = λ e. absurd (cc); open_fault = λ e. absurd (cc); reads = λ e. absurd (cc); scenario = λ line reason e. absurd (cc); words = λ e. absurd (cc); calm_files = λ ne. calm; calm_sink = λ ne. still }
 
-pub scenario_cut : (s : ScenarioData) (files files' : Option FilesState) (opened opened' : ℕ) (old new : Option (List ℕ)) (wrote wrote' : ℕ) → Rose wrote wrote' → CutShort files files' s old new
+pub scenario_cut : (s : ScenarioData) (files files' : Option FilesState) (opened opened' : ℕ) (old new : Option (List ℕ)) (wrote wrote' : ℕ) → opened' ≡ opened → Rose wrote wrote' → CutShort files files' s old new
     → ScenarioEnds s files files' opened opened' old new wrote wrote' status.WriteFault
-scenario_cut s files files' opened opened' old new wrote wrote' rose h =
-    record { ok = λ e. absurd (cc); write_fault = λ e. (rose, h); no_memory = λ e. absurd (cc); open_fault = λ e. absurd (cc); reads = λ e. absurd (cc); scenario = λ line reason e. absurd (cc); words = λ e. absurd (cc) }
+scenario_cut s files files' opened opened' old new wrote wrote' calm rose h =
+    record { ok = λ e. absurd (cc); write_fault = λ e. (rose, h); no_memory = λ e. absurd (cc); open_fault = λ e. absurd (cc); reads = λ e. absurd (cc); scenario = λ line reason e. absurd (cc); words = λ e. absurd (cc); calm_files = λ ne. calm; calm_sink = λ ne. absurd (ne refl) }
 
-pub scenario_wanting : (s : ScenarioData) (files files' : Option FilesState) (opened opened' : ℕ) (old new : Option (List ℕ)) (wrote wrote' : ℕ) → Wanting files files' s old new
+pub scenario_wanting : (s : ScenarioData) (files files' : Option FilesState) (opened opened' : ℕ) (old new : Option (List ℕ)) (wrote wrote' : ℕ) → opened' ≡ opened → wrote' ≡ wrote → Wanting files files' s old new
     → ScenarioEnds s files files' opened opened' old new wrote wrote' status.NoMemory
-scenario_wanting s files files' opened opened' old new wrote wrote' h =
-    record { ok = λ e. absurd (cc); write_fault = λ e. absurd (cc); no_memory = λ e. h; open_fault = λ e. absurd (cc); reads = λ e. absurd (cc); scenario = λ line reason e. absurd (cc); words = λ e. absurd (cc) }
+scenario_wanting s files files' opened opened' old new wrote wrote' calm still h =
+    record { ok = λ e. absurd (cc); write_fault = λ e. absurd (cc); no_memory = λ e. h; open_fault = λ e. absurd (cc); reads = λ e. absurd (cc); scenario = λ line reason e. absurd (cc); words = λ e. absurd (cc); calm_files = λ ne. calm; calm_sink = λ ne. still }
 
-pub scenario_lacks : (s : ScenarioData) (files files' : Option FilesState) (opened opened' : ℕ) (old new : Option (List ℕ)) (wrote wrote' : ℕ) → Rose opened opened' × LacksFile files files' s old new
+pub scenario_lacks : (s : ScenarioData) (files files' : Option FilesState) (opened opened' : ℕ) (old new : Option (List ℕ)) (wrote wrote' : ℕ) → wrote' ≡ wrote → Rose opened opened' × LacksFile files files' s old new
     → ScenarioEnds s files files' opened opened' old new wrote wrote' status.OpenFault
-scenario_lacks s files files' opened opened' old new wrote wrote' h =
-    record { ok = λ e. absurd (cc); write_fault = λ e. absurd (cc); no_memory = λ e. absurd (cc); open_fault = λ e. h; reads = λ e. absurd (cc); scenario = λ line reason e. absurd (cc); words = λ e. absurd (cc) }
+scenario_lacks s files files' opened opened' old new wrote wrote' still h =
+    record { ok = λ e. absurd (cc); write_fault = λ e. absurd (cc); no_memory = λ e. absurd (cc); open_fault = λ e. h; reads = λ e. absurd (cc); scenario = λ line reason e. absurd (cc); words = λ e. absurd (cc); calm_files = λ ne. absurd (ne refl); calm_sink = λ ne. still }
 
 -- where the bytes are at hand
 pub bytes_of : (bytes : List ℕ) (s : ScenarioData) (files files' : Option FilesState) (opened opened' : ℕ) (old new : Option (List ℕ)) (wrote wrote' : ℕ) (ended : Status) → scenario_of bytes ≡ Ok s
@@ -139,12 +144,14 @@ bytes_of bytes s files files' opened opened' old new wrote wrote' ended e h =
       open_fault = λ z. let x = h.open_fault z in (x.0, (s, e, x.1));
       words = h.words;
       reads = h.reads;
+      calm_files = h.calm_files;
+      calm_sink = h.calm_sink;
     }
 
 -- and where a source had them
-pub ends_of : (left : Option (List ℕ)) (read read' : ℕ) (bytes : List ℕ) (files files' : Option FilesState) (opened opened' : ℕ) (old new : Option (List ℕ)) (wrote wrote' : ℕ) (ended : Status) → Tells left bytes
-    → BytesEnd bytes files files' opened opened' old new wrote wrote' ended → Ends left read read' files files' opened opened' old new wrote wrote' ended
-ends_of left read read' bytes files files' opened opened' old new wrote wrote' ended t h =
+pub ends_of : (left left' : Option (List ℕ)) (read read' : ℕ) (bytes : List ℕ) (files files' : Option FilesState) (opened opened' : ℕ) (old new : Option (List ℕ)) (wrote wrote' : ℕ) (ended : Status) → Tells left bytes → TookFront left left' → read' ≡ read
+    → BytesEnd bytes files files' opened opened' old new wrote wrote' ended → Ends left left' read read' files files' opened opened' old new wrote wrote' ended
+ends_of left left' read read' bytes files files' opened opened' old new wrote wrote' ended t took calm h =
     record {
       ok = λ z. let x = h.ok z in (x.0, record { bytes = bytes; told = t; reads = x.1 }, x.2);
       read_fault = λ z. absurd (h.reads z);
@@ -153,6 +160,10 @@ ends_of left read read' bytes files files' opened opened' old new wrote wrote' e
       bad_scenario = λ line reason z. let x = h.bad_scenario line reason z in (inr (bytes, t, x.0), x.1);
       open_fault = λ z. let x = h.open_fault z in (x.0, (x.1.0, record { bytes = bytes; told = t; reads = x.1.1 }, x.1.2));
       words = h.words;
+      taken = took;
+      calm_source = λ ne. calm;
+      calm_files = h.calm_files;
+      calm_sink = h.calm_sink;
     }
   where
     by : Untouched files files' old new ⊎ ((s : ScenarioData) × (scenario_of bytes ≡ Ok s) × Wanting files files' s old new) → Untouched files files' old new ⊎ Had left (λ s. Wanting files files' s old new)

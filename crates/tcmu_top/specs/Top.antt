@@ -17,6 +17,7 @@ use Rattle.tcmu_model.specs.declared.faults.Why.{Why}
 use Rattle.tcmu_model.specs.declared.faults.Why.TheVariants as why
 use Rattle.tcmu_top.specs.Opened.{OpenEach, file_names, a_fetch_fails, KeptFiles, NoneFailed, NextFailed, AsTheyWere}
 use Rattle.tcmu_top.specs.Loads.{LoadEnds}
+use Rattle.tcmu_top.specs.Calls.{TookFront, Calm}
 use Rattle.tcmu_top.specs.declared.words.Task.{Task}
 use Rattle.tcmu_top.specs.declared.words.Task.TheVariants as task
 use Rattle.tcmu_top.specs.declared.status.Status.{Status}
@@ -123,9 +124,9 @@ pub record Untouched (files files' : Option FilesState) (old new : Option (List 
   pub wrote : new ≡ old
   pub same : files' ≡ files
 
--- How a replay ends, and what it wrote: by what the source had left, the faults of the source before and after, the files and their
--- faults before and after, what the sink had and has, its faults before and after, and the status.
-pub record Ends (left : Option (List ℕ)) (read read' : ℕ) (files files' : Option FilesState) (opened opened' : ℕ) (old new : Option (List ℕ)) (wrote wrote' : ℕ) (ended : Status) : Type 0 where
+-- How a replay ends, and what it wrote: by what the source had left and has, its faults before and after, the files and their faults
+-- before and after, what the sink had and has, its faults before and after, and the status.
+pub record Ends (left left' : Option (List ℕ)) (read read' : ℕ) (files files' : Option FilesState) (opened opened' : ℕ) (old new : Option (List ℕ)) (wrote wrote' : ℕ) (ended : Status) : Type 0 where
   -- the whole text of a replay of the scenario that the source had was written
   pub ok : ended ≡ status.Ok → Had left (λ s. TextWritten files files' s old new)
   -- the source failed, and nothing was written
@@ -139,6 +140,12 @@ pub record Ends (left : Option (List ℕ)) (read read' : ℕ) (files files' : Op
   -- a file could not be fetched, and nothing was written
   pub open_fault : ended ≡ status.OpenFault → Rose opened opened' × Had left (λ s. LacksFile files files' s old new)
   pub words : ended ≢ status.BadWords
+  -- however it ends, nothing but a front was taken of what the source had
+  pub taken : TookFront left left'
+  -- no fault of the source, of the files or of the sink is let be
+  pub calm_source : Calm status.ReadFault ended read read'
+  pub calm_files : Calm status.OpenFault ended opened opened'
+  pub calm_sink : Calm status.WriteFault ended wrote wrote'
 
 -- the same, where the scenario is at hand
 pub record ScenarioEnds (s : ScenarioData) (files files' : Option FilesState) (opened opened' : ℕ) (old new : Option (List ℕ)) (wrote wrote' : ℕ) (ended : Status) : Type 0 where
@@ -149,6 +156,8 @@ pub record ScenarioEnds (s : ScenarioData) (files files' : Option FilesState) (o
   pub reads : ended ≢ status.ReadFault
   pub scenario : (line : ℕ) (reason : Why) → ended ≢ status.BadScenario line reason
   pub words : ended ≢ status.BadWords
+  pub calm_files : Calm status.OpenFault ended opened opened'
+  pub calm_sink : Calm status.WriteFault ended wrote wrote'
 
 -- the same, where the bytes are at hand
 pub record BytesEnd (bytes : List ℕ) (files files' : Option FilesState) (opened opened' : ℕ) (old new : Option (List ℕ)) (wrote wrote' : ℕ) (ended : Status) : Type 0 where
@@ -159,18 +168,20 @@ pub record BytesEnd (bytes : List ℕ) (files files' : Option FilesState) (opene
   pub open_fault : ended ≡ status.OpenFault → Rose opened opened' × ((s : ScenarioData) × (scenario_of bytes ≡ Ok s) × LacksFile files files' s old new)
   pub words : ended ≢ status.BadWords
   pub reads : ended ≢ status.ReadFault
+  pub calm_files : Calm status.OpenFault ended opened opened'
+  pub calm_sink : Calm status.WriteFault ended wrote wrote'
 
 -- ==== the words
 
 -- How the program ends, by what its words ask for: a replay; a load, which reads nothing and leaves the files; or nothing, where they are
--- none that it knows.
+-- none that it knows. What is not called has no faults.
 abbrev pub TaskEnds : Option Task → (left left' : Option (List ℕ)) (read read' : ℕ) (files files' : Option FilesState) (opened opened' : ℕ) (old new : Option (List ℕ)) (wrote wrote' : ℕ) → Status → Type 0
 TaskEnds (Some task.Replay) left left' read read' files files' opened opened' old new wrote wrote' ended =
-    Ends left read read' files files' opened opened' old new wrote wrote' ended
+    Ends left left' read read' files files' opened opened' old new wrote wrote' ended
 TaskEnds (Some (task.Load seed count)) left left' read read' files files' opened opened' old new wrote wrote' ended =
-    LoadEnds seed count old new wrote wrote' ended × (left' ≡ left) × (files' ≡ files)
+    LoadEnds seed count old new wrote wrote' ended × (left' ≡ left) × (files' ≡ files) × (read' ≡ read) × (opened' ≡ opened)
 TaskEnds None left left' read read' files files' opened opened' old new wrote wrote' ended =
-    (ended ≡ status.BadWords) × (left' ≡ left) × Untouched files files' old new
+    (ended ≡ status.BadWords) × (left' ≡ left) × Untouched files files' old new × (read' ≡ read) × (opened' ≡ opened) × (wrote' ≡ wrote)
 
 -- ==== the fault line
 
