@@ -18,6 +18,7 @@ use Rattle.tcmu_model.specs.declared.faults.Why.TheVariants as why
 use Rattle.tcmu_top.specs.Opened.{OpenEach, file_names, a_fetch_fails, KeptFiles, NoneFailed, NextFailed, AsTheyWere}
 use Rattle.tcmu_top.specs.Loads.{LoadEnds}
 use Rattle.tcmu_top.specs.Calls.{TookFront, Calm}
+use Rattle.tcmu_top.specs.Playing.{AllButLast}
 use Rattle.tcmu_top.specs.declared.words.Task.{Task}
 use Rattle.tcmu_top.specs.declared.words.Task.TheVariants as task
 use Rattle.tcmu_top.specs.declared.status.Status.{Status}
@@ -33,7 +34,8 @@ pub record Replayed (R : HandlerRelation) (ls : List DeviceLineData) (opened : L
   pub gained : Gained old text new
 
 -- A front of such a text was written. Each device is the end of the run of its own entries that were made, and what was written is a
--- front of the device lines and the lines of these entries; the end lines come once all is made.
+-- front of the device lines and the lines of these entries; the end lines come once all is made. Of what was made all is written whole but
+-- the last entry: a sink that fails stops the replay at once.
 pub record ReplayedInPart (R : HandlerRelation) (ls : List DeviceLineData) (opened : List Device) (lines : List LineData) (ds' : List Device) (old new : Option (List ℕ)) : Type 0 where
   pub text : List ℕ
   pub is : IsReplayOf R ls opened lines text
@@ -43,6 +45,7 @@ pub record ReplayedInPart (R : HandlerRelation) (ls : List DeviceLineData) (open
   pub legal : IsLegalEach R opened made ds'
   pub told : (rest ≡ []) ⊎ GainedFront old (flat_map device_text ls ++ flat_map (journaled_text ls) made) new
   pub gained : GainedFront old text new
+  pub stopped : (made ≡ []) ⊎ AllButLast made (λ js. flat_map device_text ls ++ flat_map (journaled_text ls) js) old new
 
 -- ==== a scenario
 
@@ -81,7 +84,8 @@ pub record NotBegun (files files' : Option FilesState) (s : ScenarioData) (old n
 abbrev pub Wanting : Option FilesState → Option FilesState → ScenarioData → Option (List ℕ) → Option (List ℕ) → Type 0
 Wanting files files' s old new = NotBegun files files' s old new ⊎ CutShort files files' s old new
 
--- A file could not be fetched: its fetch is the last that was made, and the first that failed. Nothing was written, and each file is as it was.
+-- A file could not be fetched: its fetch is the last that was made, and the first that failed. Nothing was written, and each file is as
+-- it was.
 pub record LacksFile (files files' : Option FilesState) (s : ScenarioData) (old new : Option (List ℕ)) : Type 0 where
   pub fails : IfSome files (λ f. a_fetch_fails (file_names s.devices) f ≡ true)
   pub nothing : new ≡ old
