@@ -1,5 +1,5 @@
 -- A replay over several devices, as far as it has come.
-use Rattle.std.proofs.Common.{◌≡◌, ℕ, List, [], ◌++◌, length, slice_get, slice_set, Option, Some, refl, sym, ap, ◌∙◌, subst, append_assoc}
+use Rattle.std.proofs.Common.{◌≡◌, ℕ, List, [], ◌++◌, length, slice_get, slice_set, Option, Some, refl, sym, ap, ◌∙◌, arith, subst, append_assoc}
 use Rattle.std.specs.List.{flat_map}
 use Rattle.std.proofs.lemmas.List.{append-nil, map-append, length-set, set-set}
 use Rattle.std.proofs.lemmas.List.Concat.{flat_map-append}
@@ -13,7 +13,7 @@ use Rattle.tcmu_model.specs.Several.{Journaled, IsLegalEach, journaled_text}
 use Rattle.tcmu_model.proofs.Everies.{every-front, every-back}
 use Rattle.tcmu_model.proofs.Runs.{sound_run}
 use Rattle.tcmu_top.specs.Playing.{WroteOn, WroteOnFront, WroteEach, WroteEachFront}
-use Rattle.tcmu_top.proofs.Legal.{AreOf, piece_of, piece_text, legal_none, legal_one, legal_append}
+use Rattle.tcmu_top.proofs.Legal.{AreOf, piece_of, piece_append, piece_count, piece_text, legal_none, legal_one, legal_append}
 use Rattle.tcmu_top.proofs.RunTexts.{run_append}
 use Rattle.tcmu_top.proofs.Telling.{gained_none, gained_more, gained_as, front_behind}
 use Rattle.tcmu_model.proofs.Indexed.{every_at}
@@ -71,6 +71,14 @@ pub record Ending (R : HandlerRelation) (Next : Leads) (ds : List Device) : Type
   pub right : Next (entries_of journal) ends
   pub legal : IsLegalEach R ds journal ends
 
+-- a piece behind the texts of two journals
+gained_behind : (ls : List DeviceLineData) (old mid now : Option (List ℕ)) (xs ys : List Journaled) (piece : List ℕ) → Gained old (flat_map (journaled_text ls) xs) mid → Gained mid (flat_map (journaled_text ls) ys ++ piece) now
+    → Gained old (flat_map (journaled_text ls) (xs ++ ys) ++ piece) now
+gained_behind ls old mid now xs ys piece g h =
+    gained_as old now _ _
+    (sym (append_assoc (flat_map (journaled_text ls) xs) (flat_map (journaled_text ls) ys) piece) ∙ ap (λ (t : List ℕ). t ++ piece) (sym (flat_map-append (journaled_text ls) xs ys)))
+    (gained_more old mid now _ _ g h)
+
 -- a device stopped on the way
 pub sofar_stopped : (R : HandlerRelation) (ls : List DeviceLineData) (Next : Leads) (Then : Device → Leads) (Whole : Leads) (so : Device → List EntryData → Device → Type 0) (at : ℕ) (start ds ds' : List Device) (old mid now : Option (List ℕ))
     → SoFar R ls Next Whole start ds old mid → (w : WroteOnFront R ls at so ds ds' mid now)
@@ -84,7 +92,12 @@ sofar_stopped R ls Next Then Whole so at start ds ds' old mid now s w own step e
     let all_run : Run R w.before all x.end = run_append R w.before w.after x.end x.made x.rest x.run x.more in
     let is_own : AreOf at all = own w.before x.end all x.right in
     let sound : IsSound w.before.state = every_at (λ (d : Device). IsSound d.state) ds at w.before s.sound w.found in
-    let made = piece_of R at w.before w.after x.made x.run (every-front (λ (e : EntryData). e.device ≡ at) x.made x.rest is_own) in
+    let parts = x.stopped in
+    let made_own = every-front (λ (e : EntryData). e.device ≡ at) x.made x.rest is_own in
+    let parts_own = subst (AreOf at) parts.split made_own in
+    let told = piece_of R at w.before parts.before parts.written parts.first (every-front (λ (e : EntryData). e.device ≡ at) parts.written parts.last parts_own) in
+    let last_told = piece_of R at parts.before w.after parts.last parts.second (every-back (λ (e : EntryData). e.device ≡ at) parts.written parts.last parts_own) in
+    let made = piece_append R at w.before parts.before w.after x.made parts.written parts.last parts.split told last_told in
     let rest = piece_of R at w.after x.end x.rest x.more (every-back (λ (e : EntryData). e.device ≡ at) x.made x.rest is_own) in
     let last = ending x.end (sound_run R w.before x.end all sound all_run) in
     let now_at : IsLegalEach R ds made.journal (slice_set ds at w.after) = legal_one R ds at w.before w.after made.journal w.found made.run made.own in
@@ -109,6 +122,15 @@ sofar_stopped R ls Next Then Whole so at start ds ds' old mid now s w own step e
       whole = legal_append R start (slice_set ds at w.after) last.ends (s.sofar ++ made.journal) (rest.journal ++ last.journal) (length-set ds at w.after ∙ s.count) here more;
       wrote = front_behind old mid now (flat_map (journaled_text ls) s.sofar) (flat_map (journaled_text ls) made.journal) _ (flat_map-append (journaled_text ls) s.sofar made.journal) s.wrote
           (subst (λ (t : List ℕ). GainedFront mid t now) (piece_text R ls w.line at w.before w.after x.made made w.named) x.wrote);
+      stopped = record {
+        written = s.sofar ++ told.journal;
+        last = last_told.journal;
+        split = sym (append_assoc s.sofar told.journal last_told.journal);
+        one = omega (arith, parts.one, piece_count R at parts.before w.after parts.last last_told);
+        piece = parts.piece;
+        gained = gained_behind ls old mid now s.sofar told.journal parts.piece s.wrote
+            (gained_as mid now _ _ (ap (λ (t : List ℕ). t ++ parts.piece) (piece_text R ls w.line at w.before parts.before parts.written told w.named)) parts.gained);
+      };
     } in
     subst (λ (l : List Device). WroteEachFront R ls Whole start l old now) (sym w.others) front
   where
@@ -156,4 +178,12 @@ sofar_then_front R ls Next Whole start ds ds' old mid now s w =
       whole = subst (λ (js : List Journaled). IsLegalEach R start js w.ends) (sym (append_assoc s.sofar w.made w.rest))
           (legal_append R start ds w.ends s.sofar (w.made ++ w.rest) s.count s.legal w.whole);
       wrote = front_behind old mid now (flat_map (journaled_text ls) s.sofar) (flat_map (journaled_text ls) w.made) _ (flat_map-append (journaled_text ls) s.sofar w.made) s.wrote w.wrote;
+      stopped = record {
+        written = s.sofar ++ w.stopped.written;
+        last = w.stopped.last;
+        split = ap (λ (l : List Journaled). s.sofar ++ l) w.stopped.split ∙ sym (append_assoc s.sofar w.stopped.written w.stopped.last);
+        one = w.stopped.one;
+        piece = w.stopped.piece;
+        gained = gained_behind ls old mid now s.sofar w.stopped.written w.stopped.piece s.wrote w.stopped.gained;
+      };
     }

@@ -56,7 +56,7 @@ names_parts all ls rest l e = ap file_names e ∙ names_append (ls ++ l ∷ []) 
 
 -- ==== fetches
 
-fails_append : (xs ys : List (List ℕ)) (f : FilesState) → a_fetch_fails (xs ++ ys) f ≡ (a_fetch_fails xs f || a_fetch_fails ys (after_fetches xs f))
+pub fails_append : (xs ys : List (List ℕ)) (f : FilesState) → a_fetch_fails (xs ++ ys) f ≡ (a_fetch_fails xs f || a_fetch_fails ys (after_fetches xs f))
 fails_append [] ys f = refl
 fails_append (x ∷ xs) ys f = ap (λ b. fetch_fails x f || b) (fails_append xs ys (after_fetch x f)) ∙ regroup (fetch_fails x f) (a_fetch_fails xs (after_fetch x f)) (a_fetch_fails ys (after_fetches xs (after_fetch x f)))
   where

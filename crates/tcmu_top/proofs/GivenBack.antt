@@ -5,7 +5,7 @@ use Rattle.std.specs.Option.{option_map}
 use Rattle.std.proofs.lemmas.Bool.{cases_Bool}
 use Rattle.std.proofs.lemmas.List.{take_more, take-append-drop}
 use Rattle.std.proofs.lemmas.Option.{same_Some, slice_get_within}
-use Rattle.tcmu_types.specs.Numbered.{Numbered}
+use Rattle.tcmu_types.specs.Numbered.{Numbered, next_call}
 use Rattle.edge.specs.Stores.{StoreState, Content, Place, at_home, FilesState, fetch_fails, one_more_fetch}
 use Rattle.tcmu_model.specs.MediumState.{MediumState, Below, file}
 use Rattle.tcmu_model.specs.Medium.{opened_medium, file_below}
@@ -19,11 +19,11 @@ use Rattle.tcmu_model.proofs.Readings.{same_bytes}
 use Rattle.media.specs.Opening as made
 use Rattle.media.specs.declared.make.MakeFault.{MakeFault}
 use Rattle.media.specs.declared.make.MakeFault.TheVariants as fault
-use Rattle.tcmu_top.specs.Opened.{OpensFile, OpensKind, Opens, OpenEach, name_in, file_names, a_fetch_fails, is_named, IsLeftOf, Holds, Kept, SameFiles, AsTheyWere, after_fetches, AreOpen, Made, Unopened, OwnFiles, TellFiles, AreOut, Returns, KeepsEach}
+use Rattle.tcmu_top.specs.Opened.{OpensFile, OpensKind, Opens, OpenEach, name_in, file_names, a_fetch_fails, is_named, IsLeftOf, Holds, Kept, FetchedFront, NoneFailed, NextFailed, SameFiles, AsTheyWere, after_fetches, AreOpen, Made, Unopened, OwnFiles, TellFiles, AreOut, Returns, KeepsEach}
 use Rattle.tcmu_top.proofs.Telling.{rose_later}
 use Rattle.tcmu_top.proofs.FileRuns.{run_stays}
 use Rattle.tcmu_top.proofs.Legal.{legal_none}
-use Rattle.tcmu_top.proofs.Fetching.{names_append, fetches_append, fetches_fails, place_free, IsOwn, open_none, open_more, fetch_lacks, own_files}
+use Rattle.tcmu_top.proofs.Fetching.{names_append, fails_append, fetches_append, fetches_fails, place_free, IsOwn, open_none, open_more, fetch_lacks, own_files}
 use Rattle.tcmu_top.proofs.Keeping.{fetched_out, keeps_one}
 use Rattle.tcmu_types.proofs.Places.{get_taken}
 
@@ -84,10 +84,67 @@ named_at (x ∷ xs) name h = by x.config.kind refl h (λ k. let r = named_at xs 
 
 -- ==== all files
 
+-- which fetches were made, of those of names
+abbrev pub Fetches : Type 1
+Fetches = List (List ℕ) → FilesState → ℕ → Type 0
+
+-- they go on behind fetches that did not fail
+abbrev pub GoesBehind : Fetches → Type 0
+GoesBehind So = (xs ys : List (List ℕ)) (f : FilesState) (count : ℕ) → a_fetch_fails xs f ≡ false → So ys (after_fetches xs f) count → So (xs ++ ys) f count
+
+-- and they are those of more names
+abbrev pub IsOfMore : Fetches → Type 0
+IsOfMore So = (xs ys : List (List ℕ)) (f : FilesState) (count : ℕ) → So xs f count → So (xs ++ ys) f count
+
+front_behind : (xs ys : List (List ℕ)) (f : FilesState) → a_fetch_fails xs f ≡ false → FetchedFront ys (after_fetches xs f) → FetchedFront (xs ++ ys) f
+front_behind xs ys f none h =
+    record {
+      tried = xs ++ h.tried;
+      rest = h.rest;
+      front = ap (λ (l : List (List ℕ)). xs ++ l) h.front ∙ sym (append_assoc xs h.tried h.rest);
+      none = fails_append xs h.tried f ∙ ap (λ b. b || a_fetch_fails h.tried (after_fetches xs f)) none ∙ h.none;
+    }
+
+front_of_more : (xs ys : List (List ℕ)) (f : FilesState) → FetchedFront xs f → FetchedFront (xs ++ ys) f
+front_of_more xs ys f h =
+    record { tried = h.tried; rest = h.rest ++ ys; front = ap (λ (l : List (List ℕ)). l ++ ys) h.front ∙ append_assoc h.tried h.rest ys; none = h.none }
+
+none_behind : GoesBehind NoneFailed
+unfolding front_behind
+none_behind xs ys f count none h = record { made = front_behind xs ys f none h.made; fetches = h.fetches ∙ ap (λ (x : FilesState). x.fetches) (sym (fetches_append xs h.made.tried f)) }
+
+none_of_more : IsOfMore NoneFailed
+unfolding front_of_more
+none_of_more xs ys f count h = record { made = front_of_more xs ys f h.made; fetches = h.fetches }
+
+next_behind : GoesBehind NextFailed
+unfolding front_behind
+next_behind xs ys f count none h =
+    let same = sym (fetches_append xs h.made.tried f) in
+    record {
+      made = front_behind xs ys f none h.made;
+      lacking = h.lacking;
+      more = h.more;
+      next = h.next;
+      fails = ap (fetch_fails h.lacking) (sym same) ∙ h.fails;
+      fetches = h.fetches ∙ ap (λ (x : FilesState). next_call x.fetches) same;
+    }
+
+next_of_more : IsOfMore NextFailed
+unfolding front_of_more
+next_of_more xs ys f count h =
+    record {
+      made = front_of_more xs ys f h.made;
+      lacking = h.lacking;
+      more = h.more ++ ys;
+      next = ap (λ (l : List (List ℕ)). l ++ ys) h.next;
+      fails = h.fails;
+      fetches = h.fetches;
+    }
+
 -- they are given back to files that are as the devices' fetches left them, but for more fetches
-same_again : (f g f' : FilesState) (ls : List DeviceLineData) (ds : List Device) (names : List (List ℕ)) → OpenEach (Some f) ls ds → SameFiles names (after_fetches (file_names ls) f) g
-    → Kept ls ds g.fetches g f' → SameFiles (file_names ls ++ names) f f'
-same_again f g f' ls ds names opens s k =
+same_again : (f g f' : FilesState) (ls : List DeviceLineData) (ds : List Device) → OpenEach (Some f) ls ds → SameFiles (after_fetches (file_names ls) f) g → Kept ls ds g.fetches g f' → SameFiles f f'
+same_again f g f' ls ds opens s k =
     record {
       places = λ name.
           ⊎_elim
@@ -95,10 +152,6 @@ same_again f g f' ls ds names opens s k =
           (λ (e : is_named ls name ≡ false). k.others name e ∙ s.places name ∙ place_free (file_names ls) f name e)
           (cases_Bool (is_named ls name));
       fails = k.fails ∙ s.fails ∙ fetches_fails (file_names ls) f;
-      tried = file_names ls ++ s.tried;
-      rest = s.rest;
-      front = ap (λ (xs : List (List ℕ)). file_names ls ++ xs) s.front ∙ sym (append_assoc (file_names ls) s.tried s.rest);
-      fetches = k.fetches ∙ s.fetches ∙ ap (λ (x : FilesState). x.fetches) (sym (fetches_append (file_names ls) s.tried f));
     }
   where
     named : (name : List ℕ) → NamedAt ls name → f'.places name ≡ f.places name
@@ -106,43 +159,48 @@ same_again f g f' ls ds names opens s k =
         let d = open_at (Some f) ls ds at.0 at.1.0 opens at.1.1 in
         file_again f at.1.0 d.0 name (f'.places name) d.2 at.1.2 (k.named at.0 at.1.0 d.0 name at.1.1 d.1 at.1.2)
 
-pub as_they_were : (files mid new last : Option FilesState) (ls more : List DeviceLineData) (ds : List Device) → AreOpen files mid ls ds → OwnFiles ls → AsTheyWere more mid new → KeepsEach ls ds new last
-    → AsTheyWere (ls ++ more) files last
-as_they_were None mid new last ls more ds h own same k = tt
-as_they_were (Some f) mid new last ls more ds h own same k =
-    let here = subst (λ (x : Option FilesState). IfSome x (λ g. (g' : FilesState) × (new ≡ Some g') × SameFiles (file_names more) g g')) h.fetched.after same in
+pub as_they_were : (So : Fetches) (files mid new last : Option FilesState) (ls more : List DeviceLineData) (ds : List Device) → GoesBehind So → AreOpen files mid ls ds → OwnFiles ls → AsTheyWere So more mid new
+    → KeepsEach ls ds new last → AsTheyWere So (ls ++ more) files last
+as_they_were So None mid new last ls more ds goes h own same k = tt
+as_they_were So (Some f) mid new last ls more ds goes h own same k =
+    let here = subst (λ (x : Option FilesState). IfSome x (λ g. (g' : FilesState) × (new ≡ Some g') × SameFiles g g' × So (file_names more) g g'.fetches)) h.fetched.after same in
     let away : AreOut ls here.0 = λ at l name e kind. here.2.places name ∙ fetched_out ls f at l name e kind in
-    let x = k own (tell_files f ls ds ds [] h.opens (legal_none Serves ds)) here.0 here.1 away in
-    (x.0, x.1, subst (λ (names : List (List ℕ)). SameFiles names f x.0) (sym (names_append ls more)) (same_again f here.0 x.0 ls ds (file_names more) h.opens here.2 x.2))
+    let x = k own (tell_files f ls ds ds [] h.opens (legal_none Serves ds)) here.0 here.1 away in (
+      x.0,
+      x.1,
+      same_again f here.0 x.0 ls ds h.opens here.2 x.2,
+      subst (λ (names : List (List ℕ)). So names f x.0.fetches) (sym (names_append ls more))
+          (goes (file_names ls) (file_names more) f x.0.fetches h.fetched.none (subst (So (file_names more) (after_fetches (file_names ls) f)) (sym x.2.fetches) here.3)),
+    )
 
--- the same of more names
-wider : (names more all : List (List ℕ)) (f f' : FilesState) → all ≡ names ++ more → SameFiles names f f' → SameFiles all f f'
-wider names more all f f' e s =
-    record {
-      places = s.places;
-      fails = s.fails;
-      tried = s.tried;
-      rest = s.rest ++ more;
-      front = e ∙ ap (λ (xs : List (List ℕ)). xs ++ more) s.front ∙ append_assoc s.tried s.rest more;
-      fetches = s.fetches;
-    }
-
-all_as_they_were : (all ls rest : List DeviceLineData) (files files' : Option FilesState) → all ≡ ls ++ rest → AsTheyWere ls files files' → AsTheyWere all files files'
-all_as_they_were all ls rest None files' e h = tt
-all_as_they_were all ls rest (Some f) files' e h = (h.0, h.1, wider (file_names ls) (file_names rest) (file_names all) f h.0 (ap file_names e ∙ names_append ls rest) h.2)
+all_as_they_were : (So : Fetches) (all ls rest : List DeviceLineData) (files files' : Option FilesState) → IsOfMore So → all ≡ ls ++ rest → AsTheyWere So ls files files' → AsTheyWere So all files files'
+all_as_they_were So all ls rest None files' wider e h = tt
+all_as_they_were So all ls rest (Some f) files' wider e h =
+    (h.0, h.1, h.2, subst (λ (names : List (List ℕ)). So names f h.0.fetches) (sym (ap file_names e ∙ names_append ls rest)) (wider (file_names ls) (file_names rest) f h.0.fetches h.3))
 
 -- ==== one device more
 
+-- no fetch of these names was made
+none_tried : (names : List (List ℕ)) (f : FilesState) → FetchedFront names f
+none_tried names f = record { tried = []; rest = names; front = refl; none = refl }
+
 -- nothing came of it
-pub unchanged : (ls : List DeviceLineData) (files files' : Option FilesState) → files' ≡ files → AsTheyWere ls files files'
+pub unchanged : (ls : List DeviceLineData) (files files' : Option FilesState) → files' ≡ files → AsTheyWere NoneFailed ls files files'
+unfolding none_tried
 unchanged ls None files' e = tt
-unchanged ls (Some f) files' e = (f, e, record { places = λ name. refl; fails = refl; tried = []; rest = file_names ls; front = refl; fetches = refl })
+unchanged ls (Some f) files' e = (f, e, record { places = λ name. refl; fails = refl }, record { made = none_tried (file_names ls) f; fetches = refl })
 
 -- its fetch failed
-refused_fetch : (l : DeviceLineData) (name : List ℕ) (files files' : Option FilesState) → l.config.kind ≡ InFile name → files' ≡ option_map one_more_fetch files → AsTheyWere (l ∷ []) files files'
-refused_fetch l name None files' kind e = tt
-refused_fetch l name (Some f) files' kind e =
-    (one_more_fetch f, e, record { places = λ name. refl; fails = refl; tried = name ∷ []; rest = []; front = ap (λ (k : MediumData). name_in k []) kind; fetches = refl })
+refused_fetch : (l : DeviceLineData) (name : List ℕ) (files files' : Option FilesState) → l.config.kind ≡ InFile name → IfSome files (λ f. fetch_fails name f ≡ true) → files' ≡ option_map one_more_fetch files
+    → AsTheyWere NextFailed (l ∷ []) files files'
+unfolding none_tried
+refused_fetch l name None files' kind fails e = tt
+refused_fetch l name (Some f) files' kind fails e = (
+  one_more_fetch f,
+  e,
+  record { places = λ name. refl; fails = refl },
+  record { made = none_tried (file_names (l ∷ [])) f; lacking = name; more = []; next = ap (λ (k : MediumData). name_in k []) kind; fails = fails; fetches = refl },
+)
 
 fetch_fails_one : (l : DeviceLineData) (name : List ℕ) (files : Option FilesState) → l.config.kind ≡ InFile name → IfSome files (λ f. fetch_fails name f ≡ true) → IfSome files (λ f. a_fetch_fails (file_names (l ∷ [])) f ≡ true)
 fetch_fails_one l name None kind h = tt
@@ -154,15 +212,15 @@ unmade e l old new faults faults' r = by e l.config.kind refl r
   where
     by : (e : MakeFault) (k : MediumData) → l.config.kind ≡ k → made.RefusesKind k e old new faults faults' → Unopened e (l ∷ []) old new faults faults'
     by fault.Open (InMemory blocks) kind r = absurd r
-    by fault.Open (InFile name) kind r = record { fails = fetch_fails_one l name old kind r.fails; same = refused_fetch l name old new kind r.files; rose = r.rose }
+    by fault.Open (InFile name) kind r = record { fails = fetch_fails_one l name old kind r.fails; same = refused_fetch l name old new kind r.fails r.files; rose = r.rose }
     by fault.NoMemory (InMemory blocks) kind r = unchanged (l ∷ []) old new r
     by fault.NoMemory (InFile name) kind r = unchanged (l ∷ []) old new r
 
 -- there was no room for it
-pub unadded : (l : DeviceLineData) (d : Device) (old mid new : Option FilesState) → Made l old mid d → Returns l.config.kind d.medium mid new → AsTheyWere (l ∷ []) old new
+pub unadded : (l : DeviceLineData) (d : Device) (old mid new : Option FilesState) → Made l old mid d → Returns l.config.kind d.medium mid new → AsTheyWere NoneFailed (l ∷ []) old new
 unadded l d old mid new m r =
     let opened = open_more old old mid [] [] l m.0 (open_none old) (own_none l.config.kind) m.1 in
-    as_they_were old mid mid new (l ∷ []) [] (d ∷ []) (subst (λ (x : Device). AreOpen old mid (l ∷ []) (x ∷ [])) (sym m.2) opened) own (unchanged [] mid mid refl) (keeps_one l d mid new r)
+    as_they_were NoneFailed old mid mid new (l ∷ []) [] (d ∷ []) none_behind (subst (λ (x : Device). AreOpen old mid (l ∷ []) (x ∷ [])) (sym m.2) opened) own (unchanged [] mid mid refl) (keeps_one l d mid new r)
   where
     own_none : (k : MediumData) → IsOwn [] k
     own_none (InMemory blocks) = tt
@@ -185,9 +243,10 @@ unopened e files mid new last faults f1 f2 ls i l ds lt is own h le le' r k = by
     parts : ls ≡ (take i ls ++ l ∷ []) ++ drop (i + 1) ls
     parts = sym (take-append-drop (i + 1) ls) ∙ ap (λ (x : List DeviceLineData). x ++ drop (i + 1) ls) (take_more ls i l lt ∙ ap (λ (x : DeviceLineData). take i ls ++ x ∷ []) (sym is))
 
-    same : AsTheyWere (l ∷ []) mid new → AsTheyWere ls files last
-    same s = all_as_they_were ls (take i ls ++ l ∷ []) (drop (i + 1) ls) files last parts (as_they_were files mid new last (take i ls) (l ∷ []) ds h (own_front ls i (own_files ls own)) s k)
+    same : (So : Fetches) → GoesBehind So → IsOfMore So → AsTheyWere So (l ∷ []) mid new → AsTheyWere So ls files last
+    same So goes wider s =
+        all_as_they_were So ls (take i ls ++ l ∷ []) (drop (i + 1) ls) files last wider parts (as_they_were So files mid new last (take i ls) (l ∷ []) ds goes h (own_front ls i (own_files ls own)) s k)
 
     by : (e : MakeFault) → Unopened e (l ∷ []) mid new f1 f2 → Unopened e ls files last faults f2
-    by fault.Open r = record { fails = fetch_lacks ls (take i ls) (drop (i + 1) ls) l files mid parts h.fetched r.fails; same = same r.same; rose = rose_later faults f1 f2 le le' r.rose }
-    by fault.NoMemory r = same r
+    by fault.Open r = record { fails = fetch_lacks ls (take i ls) (drop (i + 1) ls) l files mid parts h.fetched r.fails; same = same NextFailed next_behind next_of_more r.same; rose = rose_later faults f1 f2 le le' r.rose }
+    by fault.NoMemory r = same NoneFailed none_behind none_of_more r

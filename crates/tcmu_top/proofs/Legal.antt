@@ -3,6 +3,7 @@ use Rattle.std.proofs.Common.{◌≡◌, ℕ, ◌<◌, true, false, List, [], �
 use Rattle.std.specs.List.{filter, flat_map}
 use Rattle.std.proofs.lemmas.Bool.{cases_eq, ne_eqb}
 use Rattle.std.proofs.lemmas.Option.{same_Some, slice_get_within}
+use Rattle.std.proofs.lemmas.List.{length-map, map-append}
 use Rattle.std.proofs.lemmas.List.Elements.{filter-append}
 use Rattle.tcmu_types.specs.Events.{EntryData}
 use Rattle.tcmu_model.specs.Device.{Device}
@@ -14,7 +15,7 @@ use Rattle.tcmu_model.specs.ScenarioData as line
 use Rattle.tcmu_model.specs.Replay.{Plays}
 use Rattle.tcmu_model.specs.Several.{Journaled, is_of, RunLogs, IsLegalEach, journaled_text}
 use Rattle.tcmu_model.specs.Text.{entry_text}
-use Rattle.tcmu_model.proofs.Everies.{filter_all, every-weaker}
+use Rattle.tcmu_model.proofs.Everies.{filter_all, every-append, every-weaker}
 use Rattle.tcmu_model.proofs.Logs.{makes_grows}
 use Rattle.tcmu_top.specs.Playing.{run_text}
 use Rattle.tcmu_top.proofs.RunTexts.{drop_front, text_more, text_one}
@@ -49,9 +50,22 @@ pub logs_run : (R : HandlerRelation) (d d' : Device) (js : List Journaled) → R
 logs_run R d d' [] h = h
 logs_run R d d' (j ∷ js) h = (h.0, h.1, logs_run R h.0 d' js h.3)
 
-logs_append : (R : HandlerRelation) (d m d' : Device) (xs ys : List Journaled) → RunLogs R d xs m → RunLogs R m ys d' → RunLogs R d (xs ++ ys) d'
+pub logs_append : (R : HandlerRelation) (d m d' : Device) (xs ys : List Journaled) → RunLogs R d xs m → RunLogs R m ys d' → RunLogs R d (xs ++ ys) d'
 logs_append R d m d' [] ys h k = subst (λ (x : Device). RunLogs R x ys d') h k
 logs_append R d m d' (x ∷ xs) ys h k = (h.0, h.1, h.2, logs_append R h.0 m d' xs ys h.3 k)
+
+-- the entries of two runs, one behind the other
+abbrev pub piece_append : (R : HandlerRelation) (at : ℕ) (d m d' : Device) (es xs ys : List EntryData) → es ≡ xs ++ ys → Piece R at d m xs → Piece R at m d' ys → Piece R at d d' es
+piece_append R at d m d' es xs ys e p q =
+    record {
+      journal = p.journal ++ q.journal;
+      are = map-append (λ (j : Journaled). j.entry) p.journal q.journal ∙ ap (λ (l : List EntryData). l ++ entries_of q.journal) p.are ∙ ap (λ (l : List EntryData). xs ++ l) q.are ∙ sym e;
+      run = logs_append R d m d' p.journal q.journal p.run q.run;
+      own = every-append (λ j. j.entry.device ≡ at) p.journal q.journal p.own q.own;
+    }
+
+pub piece_count : (R : HandlerRelation) (at : ℕ) (d d' : Device) (es : List EntryData) (p : Piece R at d d' es) → length p.journal ≡ length es
+piece_count R at d d' es p = sym (length-map p.journal (λ (j : Journaled). j.entry)) ∙ ap (λ (l : List EntryData). length l) p.are
 
 named_text : (ls : List DeviceLineData) (l : DeviceLineData) (j : Journaled) (o : Option DeviceLineData) → o ≡ Some l
     → (elim o [ Some k ↦ entry_text k.name k.settings.qfull j.entry j.completions | None ↦ [] ]) ≡ entry_text l.name l.settings.qfull j.entry j.completions

@@ -23,7 +23,7 @@ use Rattle.tcmu_model.specs.Text.{entry_text}
 use Rattle.tcmu_model.proofs.Draining.{work_falls}
 use Rattle.tcmu_model.proofs.GoesOn.{goes_on_first, goes_on_more, drains_run}
 use Rattle.tcmu_model.proofs.Logs.{makes_grows}
-use Rattle.tcmu_top.specs.Playing.{event_lines, run_text, MadeEvent, Told, Stopped, Wrote, WroteFront}
+use Rattle.tcmu_top.specs.Playing.{event_lines, run_text, MadeEvent, Told, Stopped, Wrote, RunAllButLast, WroteFront}
 use Rattle.tcmu_model.specs.ScenarioRules.{IsEvent}
 use Rattle.tcmu_path.specs.Tasks.{IsFit}
 use Rattle.tcmu_top.proofs.Telling.{gained_none, gained_more, gained_as, front_none, front_whole, front_behind}
@@ -142,6 +142,37 @@ draining_done R at l start d old now so none =
       wrote = so.wrote;
     }
 
+-- all that was made is written
+all_told : (R : HandlerRelation) (l : DeviceLineData) (start d : Device) (es : List EntryData) (old mid : Option (List ℕ)) → Run R start es d → Gained old (run_text l start es d) mid → RunAllButLast R l es start d old mid
+all_told R l start d es old mid run g =
+    record {
+      written = es;
+      last = [];
+      split = sym (append-nil es);
+      one = omega arith;
+      before = d;
+      first = run;
+      second = refl;
+      piece = [];
+      gained = gained_as old mid _ _ (sym (append-nil (run_text l start es d))) g;
+    }
+
+-- a piece of the last entry is written
+one_part_told : (R : HandlerRelation) (l : DeviceLineData) (start d d' : Device) (es : List EntryData) (e : EntryData) (old mid now : Option (List ℕ)) → Run R start es d → Run R d (e ∷ []) d'
+    → Gained old (run_text l start es d) mid → GainedFront mid (run_text l d (e ∷ []) d') now → RunAllButLast R l (es ++ e ∷ []) start d' old now
+one_part_told R l start d d' es e old mid now run one g f =
+    record {
+      written = es;
+      last = e ∷ [];
+      split = refl;
+      one = omega arith;
+      before = d;
+      first = run;
+      second = one;
+      piece = f.0;
+      gained = gained_more old mid now _ _ g f.3;
+    }
+
 pub draining_stopped : (R : HandlerRelation) (at : ℕ) (l : DeviceLineData) (start d d' : Device) (event : EventData) (old mid now : Option (List ℕ)) → HasOutcomes R
     → Draining R at l start d old mid → drain_event d.state ≡ Some event → Stopped R at l event d d' mid now → WroteFront R l (Drains R at start) start d' old now
 draining_stopped R at l start d d' event old mid now outcomes so picked (inl nothing) =
@@ -155,6 +186,7 @@ draining_stopped R at l start d d' event old mid now outcomes so picked (inl not
       run = so.run;
       more = drains_run R at d (rest.1) (rest.0) (rest.2);
       wrote = front_whole old mid _ [] _ (sym (append-nil (run_text l start so.sofar d))) so.wrote;
+      stopped = all_told R l start d so.sofar old mid so.run so.wrote;
     } in
     subst (λ (w : Option (List ℕ)). WroteFront R l (Drains R at start) start d' old w) (sym nothing.wrote)
     (subst (λ (x : Device). WroteFront R l (Drains R at start) start x old mid) (sym nothing.device) front)
@@ -171,6 +203,7 @@ draining_stopped R at l start d d' event old mid now outcomes so picked (inr tol
       run = run_append R start d d' so.sofar (m.entry ∷ []) so.run one;
       more = drains_run R at d' (rest.1) (rest.0) (rest.2);
       wrote = front_behind old mid now (run_text l start so.sofar d) (run_text l d (m.entry ∷ []) d') _ (text_more R l start d d' so.sofar (m.entry ∷ []) so.run one) so.wrote told.wrote;
+      stopped = one_part_told R l start d d' so.sofar m.entry old mid now so.run one so.wrote told.wrote;
     }
 
 -- each event of a drain leaves less to do
@@ -256,6 +289,7 @@ stopped_front R at l d d' event old now outcomes sound fit (inl nothing) =
       run = refl;
       more = run_one R d (m.0) m.1.entry m.1.step;
       wrote = front_none old [];
+      stopped = all_told R l d d [] old old refl (gained_none old);
     } in
     subst (λ (w : Option (List ℕ)). WroteFront R l (Plays R at d (line.Makes event)) d d' old w) (sym nothing.wrote)
     (subst (λ (x : Device). WroteFront R l (Plays R at d (line.Makes event)) d x old old) (sym nothing.device) front)
@@ -268,6 +302,7 @@ stopped_front R at l d d' event old now outcomes sound fit (inr told) =
       run = run_one R d d' told.made.entry told.made.step;
       more = refl;
       wrote = told.wrote;
+      stopped = one_part_told R l d d d' [] told.made.entry old old now refl (run_one R d d' told.made.entry told.made.step) (gained_none old) told.wrote;
     }
 
 -- ==== from what the code finds

@@ -15,12 +15,14 @@ use Rattle.tcmu_model.specs.Several.{Journaled, IsLegalEach}
 use Rattle.tcmu_model.specs.declared.faults.Why.TheVariants as why
 use Rattle.tcmu_top.specs.declared.status.Status.{Status}
 use Rattle.tcmu_top.specs.declared.status.Status.TheVariants as status
+use Rattle.tcmu_top.specs.Calls.{TookFront}
 use Rattle.tcmu_top.specs.Playing.{AreOpened}
-use Rattle.tcmu_top.specs.Opened.{OpenEach, file_names, AsTheyWere, KeptFiles, after_fetches, AreOpen, AFileLacks, KeepsEach}
+use Rattle.tcmu_top.specs.Opened.{OpenEach, file_names, NoneFailed, AsTheyWere, KeptFiles, after_fetches, AreOpen, AFileLacks, KeepsEach}
 use Rattle.tcmu_top.specs.Top.{Replayed, ReplayedInPart, TextWritten, CutShort, Wanting, LacksFile, Untouched, Had, too_long, ScenarioEnds, BytesEnd, Ends}
 use Rattle.tcmu_top.proofs.Fetching.{place_free, fetches_fails, own_files}
 use Rattle.tcmu_top.proofs.Keeping.{fetched_out}
 use Rattle.tcmu_top.proofs.GivenBack.{tell_files}
+use Rattle.tcmu_top.proofs.Whole.{opened_count}
 
 -- ==== devices as they open
 
@@ -59,11 +61,12 @@ text_written s files mid files' ds ends old new rules h r k =
     }
 
 pub cut_short : (s : ScenarioData) (files mid files' : Option FilesState) (ds ends : List Device) (old new : Option (List ℕ)) → IsScenario s → AreOpen files mid s.devices ds
-    → ReplayedInPart Serves s.devices ds s.lines ends old new → KeepsEach s.devices ends mid files' → CutShort files files' s old new
-cut_short s files mid files' ds ends old new rules h r k =
-    record { opened = ds; opens = h.opens; ends = ends; replay = r; fetched = h.fetched.none; kept = kept_files files mid files' s.devices ds ends r.made rules.files h r.legal k }
+    → length ends ≡ length ds → ReplayedInPart Serves s.devices ds s.lines ends old new → KeepsEach s.devices ends mid files' → CutShort files files' s old new
+cut_short s files mid files' ds ends old new rules h count r k =
+    let each : length ends ≡ length s.devices = count ∙ sym (opened_count s.devices ds (open_opened files s.devices ds h.opens)) in
+    record { opened = ds; opens = h.opens; ends = ends; count = each; replay = r; fetched = h.fetched.none; kept = kept_files files mid files' s.devices ds ends r.made rules.files h r.legal k }
 
-pub wanting_early : (s : ScenarioData) (files files' : Option FilesState) (old : Option (List ℕ)) → AsTheyWere s.devices files files' → Wanting files files' s old old
+pub wanting_early : (s : ScenarioData) (files files' : Option FilesState) (old : Option (List ℕ)) → AsTheyWere NoneFailed s.devices files files' → Wanting files files' s old old
 wanting_early s files files' old same = inl (record { nothing = refl; same = same })
 
 pub lacks_file : (s : ScenarioData) (files files' : Option FilesState) (faults faults' : ℕ) (old : Option (List ℕ)) → AFileLacks s.devices files files' faults faults' → Rose faults faults' × LacksFile files files' s old old
@@ -90,9 +93,9 @@ bad_of status.BadWords = too_long
 bad_of status.OpenFault = too_long
 
 -- the source had more
-pub ends_too_long : (left : Option (List ℕ)) (read read' opened wrote : ℕ) (files : Option FilesState) (old : Option (List ℕ)) → IfSome left (λ bytes. 4194304 < length bytes)
-    → Ends left read read' files files opened opened old old wrote wrote (status.BadScenario 0 why.TooLong)
-ends_too_long left read read' opened wrote files old h =
+pub ends_too_long : (left left' : Option (List ℕ)) (read read' opened wrote : ℕ) (files : Option FilesState) (old : Option (List ℕ)) → IfSome left (λ bytes. 4194304 < length bytes)
+    → TookFront left left' → read' ≡ read → Ends left left' read read' files files opened opened old old wrote wrote (status.BadScenario 0 why.TooLong)
+ends_too_long left left' read read' opened wrote files old h took calm =
     record {
       ok = λ e. absurd (cc);
       read_fault = λ e. absurd (cc);
@@ -101,29 +104,33 @@ ends_too_long left read read' opened wrote files old h =
       bad_scenario = λ line reason e. (inl (sym (ap bad_of e), subst (λ (b : Bad). IfSome left (λ bytes. scenario_of bytes ≡ Err b)) (ap bad_of e) (long_left left h)), record { wrote = refl; same = refl });
       open_fault = λ e. absurd (cc);
       words = λ e. absurd (cc);
+      taken = took;
+      calm_source = λ ne. calm;
+      calm_files = λ ne. refl;
+      calm_sink = λ ne. refl;
     }
 
 -- ==== the statuses of a scenario
 
-pub scenario_ok : (s : ScenarioData) (files files' : Option FilesState) (opened opened' : ℕ) (old new : Option (List ℕ)) (wrote wrote' : ℕ) → TextWritten files files' s old new
+pub scenario_ok : (s : ScenarioData) (files files' : Option FilesState) (opened opened' : ℕ) (old new : Option (List ℕ)) (wrote wrote' : ℕ) → opened' ≡ opened → wrote' ≡ wrote → TextWritten files files' s old new
     → ScenarioEnds s files files' opened opened' old new wrote wrote' status.Ok
-scenario_ok s files files' opened opened' old new wrote wrote' h =
-    record { ok = λ e. h; write_fault = λ e. absurd (cc); no_memory = λ e. absurd (cc); open_fault = λ e. absurd (cc); reads = λ e. absurd (cc); scenario = λ line reason e. absurd (cc); words = λ e. absurd (cc) }
+scenario_ok s files files' opened opened' old new wrote wrote' calm still h =
+    record { ok = λ e. h; write_fault = λ e. absurd (cc); no_memory = λ e. absurd (cc); open_fault = λ e. absurd (cc); reads = λ e. absurd (cc); scenario = λ line reason e. absurd (cc); words = λ e. absurd (cc); calm_files = λ ne. calm; calm_sink = λ ne. still }
 
-pub scenario_cut : (s : ScenarioData) (files files' : Option FilesState) (opened opened' : ℕ) (old new : Option (List ℕ)) (wrote wrote' : ℕ) → Rose wrote wrote' → CutShort files files' s old new
+pub scenario_cut : (s : ScenarioData) (files files' : Option FilesState) (opened opened' : ℕ) (old new : Option (List ℕ)) (wrote wrote' : ℕ) → opened' ≡ opened → Rose wrote wrote' → CutShort files files' s old new
     → ScenarioEnds s files files' opened opened' old new wrote wrote' status.WriteFault
-scenario_cut s files files' opened opened' old new wrote wrote' rose h =
-    record { ok = λ e. absurd (cc); write_fault = λ e. (rose, h); no_memory = λ e. absurd (cc); open_fault = λ e. absurd (cc); reads = λ e. absurd (cc); scenario = λ line reason e. absurd (cc); words = λ e. absurd (cc) }
+scenario_cut s files files' opened opened' old new wrote wrote' calm rose h =
+    record { ok = λ e. absurd (cc); write_fault = λ e. (rose, h); no_memory = λ e. absurd (cc); open_fault = λ e. absurd (cc); reads = λ e. absurd (cc); scenario = λ line reason e. absurd (cc); words = λ e. absurd (cc); calm_files = λ ne. calm; calm_sink = λ ne. absurd (ne refl) }
 
-pub scenario_wanting : (s : ScenarioData) (files files' : Option FilesState) (opened opened' : ℕ) (old new : Option (List ℕ)) (wrote wrote' : ℕ) → Wanting files files' s old new
+pub scenario_wanting : (s : ScenarioData) (files files' : Option FilesState) (opened opened' : ℕ) (old new : Option (List ℕ)) (wrote wrote' : ℕ) → opened' ≡ opened → wrote' ≡ wrote → Wanting files files' s old new
     → ScenarioEnds s files files' opened opened' old new wrote wrote' status.NoMemory
-scenario_wanting s files files' opened opened' old new wrote wrote' h =
-    record { ok = λ e. absurd (cc); write_fault = λ e. absurd (cc); no_memory = λ e. h; open_fault = λ e. absurd (cc); reads = λ e. absurd (cc); scenario = λ line reason e. absurd (cc); words = λ e. absurd (cc) }
+scenario_wanting s files files' opened opened' old new wrote wrote' calm still h =
+    record { ok = λ e. absurd (cc); write_fault = λ e. absurd (cc); no_memory = λ e. h; open_fault = λ e. absurd (cc); reads = λ e. absurd (cc); scenario = λ line reason e. absurd (cc); words = λ e. absurd (cc); calm_files = λ ne. calm; calm_sink = λ ne. still }
 
-pub scenario_lacks : (s : ScenarioData) (files files' : Option FilesState) (opened opened' : ℕ) (old new : Option (List ℕ)) (wrote wrote' : ℕ) → Rose opened opened' × LacksFile files files' s old new
+pub scenario_lacks : (s : ScenarioData) (files files' : Option FilesState) (opened opened' : ℕ) (old new : Option (List ℕ)) (wrote wrote' : ℕ) → wrote' ≡ wrote → Rose opened opened' × LacksFile files files' s old new
     → ScenarioEnds s files files' opened opened' old new wrote wrote' status.OpenFault
-scenario_lacks s files files' opened opened' old new wrote wrote' h =
-    record { ok = λ e. absurd (cc); write_fault = λ e. absurd (cc); no_memory = λ e. absurd (cc); open_fault = λ e. h; reads = λ e. absurd (cc); scenario = λ line reason e. absurd (cc); words = λ e. absurd (cc) }
+scenario_lacks s files files' opened opened' old new wrote wrote' still h =
+    record { ok = λ e. absurd (cc); write_fault = λ e. absurd (cc); no_memory = λ e. absurd (cc); open_fault = λ e. h; reads = λ e. absurd (cc); scenario = λ line reason e. absurd (cc); words = λ e. absurd (cc); calm_files = λ ne. absurd (ne refl); calm_sink = λ ne. still }
 
 -- where the bytes are at hand
 pub bytes_of : (bytes : List ℕ) (s : ScenarioData) (files files' : Option FilesState) (opened opened' : ℕ) (old new : Option (List ℕ)) (wrote wrote' : ℕ) (ended : Status) → scenario_of bytes ≡ Ok s
@@ -137,12 +144,14 @@ bytes_of bytes s files files' opened opened' old new wrote wrote' ended e h =
       open_fault = λ z. let x = h.open_fault z in (x.0, (s, e, x.1));
       words = h.words;
       reads = h.reads;
+      calm_files = h.calm_files;
+      calm_sink = h.calm_sink;
     }
 
 -- and where a source had them
-pub ends_of : (left : Option (List ℕ)) (read read' : ℕ) (bytes : List ℕ) (files files' : Option FilesState) (opened opened' : ℕ) (old new : Option (List ℕ)) (wrote wrote' : ℕ) (ended : Status) → Tells left bytes
-    → BytesEnd bytes files files' opened opened' old new wrote wrote' ended → Ends left read read' files files' opened opened' old new wrote wrote' ended
-ends_of left read read' bytes files files' opened opened' old new wrote wrote' ended t h =
+pub ends_of : (left left' : Option (List ℕ)) (read read' : ℕ) (bytes : List ℕ) (files files' : Option FilesState) (opened opened' : ℕ) (old new : Option (List ℕ)) (wrote wrote' : ℕ) (ended : Status) → Tells left bytes → TookFront left left' → read' ≡ read
+    → BytesEnd bytes files files' opened opened' old new wrote wrote' ended → Ends left left' read read' files files' opened opened' old new wrote wrote' ended
+ends_of left left' read read' bytes files files' opened opened' old new wrote wrote' ended t took calm h =
     record {
       ok = λ z. let x = h.ok z in (x.0, record { bytes = bytes; told = t; reads = x.1 }, x.2);
       read_fault = λ z. absurd (h.reads z);
@@ -151,6 +160,10 @@ ends_of left read read' bytes files files' opened opened' old new wrote wrote' e
       bad_scenario = λ line reason z. let x = h.bad_scenario line reason z in (inr (bytes, t, x.0), x.1);
       open_fault = λ z. let x = h.open_fault z in (x.0, (x.1.0, record { bytes = bytes; told = t; reads = x.1.1 }, x.1.2));
       words = h.words;
+      taken = took;
+      calm_source = λ ne. calm;
+      calm_files = h.calm_files;
+      calm_sink = h.calm_sink;
     }
   where
     by : Untouched files files' old new ⊎ ((s : ScenarioData) × (scenario_of bytes ≡ Ok s) × Wanting files files' s old new) → Untouched files files' old new ⊎ Had left (λ s. Wanting files files' s old new)

@@ -7,6 +7,7 @@ use Rattle.std.specs.List.{flat_map}
 use Rattle.std.proofs.lemmas.Bool.{cases_lt}
 use Rattle.tcmu_types.specs.Numbered.{Rose}
 use Rattle.edge.specs.Outside.{Tells, Gave, Gained, GainedFront}
+use Rattle.tcmu_top.specs.Calls.{TookFront}
 
 map_twice : (xs ys : List ℕ) (o : Option (List ℕ)) → option_map (λ zs. xs ++ zs) (option_map (λ zs. ys ++ zs) o) ≡ option_map (λ zs. xs ++ ys ++ zs) o
 map_twice xs ys None = refl
@@ -15,6 +16,10 @@ map_twice xs ys (Some zs) = ap (λ (l : List ℕ). Some l) (sym (append_assoc xs
 -- one piece after another
 pub gave_more : (old mid new : Option (List ℕ)) (xs ys zs : List ℕ) → Gave old xs mid → Gave mid ys new → zs ≡ xs ++ ys → Gave old zs new
 gave_more old mid new xs ys zs e f z = e ∙ ap (option_map (λ l. xs ++ l)) f ∙ map_twice xs ys new ∙ ap (λ (l : List ℕ). option_map (λ r. l ++ r) new) (sym z)
+
+-- two pieces were taken, of a scenario's length and of one read
+pub took_two : (old mid new : Option (List ℕ)) (xs ys : List ℕ) → length xs ≤ 4194304 → length ys ≤ 4096 → Gave old xs mid → Gave mid ys new → TookFront old new
+took_two old mid new xs ys long few e f = record { piece = xs ++ ys; gave = gave_more old mid new xs ys (xs ++ ys) e f refl; most = omega (arith, long, few, length-append xs ys) }
 
 -- at the end, what was given is all
 pub gave_all : (old mid : Option (List ℕ)) (xs : List ℕ) → Gave old xs mid → Tells mid [] → Tells old xs

@@ -22,7 +22,7 @@ use Rattle.tcmu_path.specs.Tasks.{IsFit, IsFitFor}
 use Rattle.tcmu_top.specs.Top.{Replayed, ReplayedInPart}
 use Rattle.tcmu_top.proofs.Endings.{ending_lines}
 use Rattle.tcmu_top.proofs.Legal.{legal_none}
-use Rattle.tcmu_top.proofs.Telling.{gained_more, front_first, front_more, front_behind}
+use Rattle.tcmu_top.proofs.Telling.{gained_more, gained_as, front_first, front_more, front_behind}
 use Rattle.text_laws.specs.Replays.{entries_of}
 
 -- ==== the parts of the text
@@ -51,6 +51,7 @@ front_of_ready R ls ds lines old new outcomes sound fit f =
       legal = legal_none R ds;
       told = inr (front_first old new (lines_text ls) [] _ refl f);
       gained = front_first old new (lines_text ls) (journal_of ls e.journal ++ ends_text ls e.ends) _ (append_assoc (lines_text ls) (journal_of ls e.journal) (ends_text ls e.ends)) f;
+      stopped = inl refl;
     }
 
 -- the journal was
@@ -70,6 +71,14 @@ front_of_run R ls ds ds' lines old mid new g w =
       told = inr (front_behind old mid new (lines_text ls) made _ refl g w.wrote);
       gained = front_more old mid new (lines_text ls) made (rest ++ last) _
           (ap (λ (x : List ℕ). lines_text ls ++ x ++ last) (flat_map-append (journaled_text ls) w.made w.rest) ∙ regroup (lines_text ls) made rest last) g w.wrote;
+      stopped = inr (record {
+        written = w.stopped.written;
+        last = w.stopped.last;
+        split = w.stopped.split;
+        one = w.stopped.one;
+        piece = w.stopped.piece;
+        gained = gained_as old new _ _ (sym (append_assoc (lines_text ls) (journal_of ls w.stopped.written) w.stopped.piece)) (gained_more old mid new _ _ g w.stopped.gained);
+      });
     }
   where
     regroup : (a b c e : List ℕ) → a ++ (b ++ c) ++ e ≡ a ++ (b ++ (c ++ e))
@@ -88,6 +97,14 @@ front_of_last R ls ds ds' lines old m1 m2 new g w f =
       legal = w.legal;
       told = inl refl;
       gained = front_behind old m2 new (lines_text ls ++ journal_of ls w.journal) (ends_text ls ds') _ refl (gained_more old m1 m2 _ _ g w.wrote) f;
+      stopped = inr (record {
+        written = w.journal;
+        last = [];
+        split = sym (append-nil w.journal);
+        one = omega arith;
+        piece = f.0;
+        gained = gained_more old m2 new _ _ (gained_more old m1 m2 _ _ g w.wrote) f.3;
+      });
     }
 
 pub whole : (R : HandlerRelation) (ls : List DeviceLineData) (ds ds' : List Device) (lines : List LineData) (old m1 m2 new : Option (List ℕ)) → Gained old (lines_text ls) m1

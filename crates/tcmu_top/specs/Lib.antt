@@ -1,6 +1,7 @@
 pub mod Playing
 pub mod Opened
 pub mod Words
+pub mod Calls
 pub mod Loads
 pub mod Top
 pub mod Laws

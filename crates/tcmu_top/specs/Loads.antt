@@ -4,6 +4,7 @@ use Rattle.tcmu_types.specs.Numbered.{Rose}
 use Rattle.edge.specs.Outside.{Gained, GainedFront}
 use Rattle.load_run.specs.Loading.{IsLoadText}
 use Rattle.tcmu_model.specs.declared.faults.Why.{Why}
+use Rattle.tcmu_top.specs.Calls.{Calm}
 use Rattle.tcmu_top.specs.declared.status.Status.{Status}
 use Rattle.tcmu_top.specs.declared.status.Status.TheVariants as status
 
@@ -29,3 +30,5 @@ pub record LoadEnds (seed count : ℕ) (old new : Option (List ℕ)) (wrote wrot
   pub scenario : (line : ℕ) (reason : Why) → ended ≢ status.BadScenario line reason
   pub words : ended ≢ status.BadWords
   pub opens : ended ≢ status.OpenFault
+  -- no fault of the sink is let be
+  pub calm : Calm status.WriteFault ended wrote wrote'

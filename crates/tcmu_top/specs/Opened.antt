@@ -2,7 +2,7 @@
 use Rattle.std.specs.Prelude.{◌≡◌, ℕ, ◌/◌, ◌%◌, ◌^◌, ◌≤◌, Bool, true, false, ◌||◌, List, [], ◌∷◌, ◌++◌, Option, Some, IfSome, is_some, slice_get, bytes_eq}
 use Rattle.std.specs.List.{list_any}
 use Rattle.std.specs.Option.{option_map}
-use Rattle.tcmu_types.specs.Numbered.{Rose}
+use Rattle.tcmu_types.specs.Numbered.{Rose, next_call}
 use Rattle.edge.specs.Stores.{StoreState, Content, store_of, Place, out, at_home, FilesState, fetch_fails, after_fetch, after_keep}
 use Rattle.media.specs.Opening as medium
 use Rattle.media.specs.declared.make.MakeFault.{MakeFault}
@@ -93,18 +93,35 @@ pub record Kept (ls : List DeviceLineData) (ends : List Device) (count : ℕ) (f
 abbrev pub KeptFiles : List DeviceLineData → List Device → Option FilesState → Option FilesState → Type 0
 KeptFiles ls ends files files' = IfSome files (λ f. (f' : FilesState) × (files' ≡ Some f') × Kept ls ends (after_fetches (file_names ls) f).fetches f f')
 
--- Each file is as it was, whichever its name. Just a front of the fetches of these names was made.
-pub record SameFiles (names : List (List ℕ)) (f f' : FilesState) : Type 0 where
-  pub places : (name : List ℕ) → f'.places name ≡ f.places name
-  pub fails : f'.fails ≡ f.fails
+-- A front of these names: none of its fetches, in order, fails.
+pub record FetchedFront (names : List (List ℕ)) (f : FilesState) : Type 0 where
   pub tried : List (List ℕ)
   pub rest : List (List ℕ)
   pub front : names ≡ tried ++ rest
-  pub fetches : f'.fetches ≡ (after_fetches tried f).fetches
+  pub none : a_fetch_fails tried f ≡ false
 
--- where the files tell: each is as it was, and at most the fetches of these device lines were made
-abbrev pub AsTheyWere : List DeviceLineData → Option FilesState → Option FilesState → Type 0
-AsTheyWere ls files files' = IfSome files (λ f. (f' : FilesState) × (files' ≡ Some f') × SameFiles (file_names ls) f f')
+-- Just the fetches of such a front were made. The count is that of all fetches, behind them.
+pub record NoneFailed (names : List (List ℕ)) (f : FilesState) (count : ℕ) : Type 0 where
+  pub made : FetchedFront names f
+  pub fetches : count ≡ (after_fetches made.tried f).fetches
+
+-- Just the fetches of such a front were made, and one more: that of the next name, which failed.
+pub record NextFailed (names : List (List ℕ)) (f : FilesState) (count : ℕ) : Type 0 where
+  pub made : FetchedFront names f
+  pub lacking : List ℕ
+  pub more : List (List ℕ)
+  pub next : made.rest ≡ lacking ∷ more
+  pub fails : fetch_fails lacking (after_fetches made.tried f) ≡ true
+  pub fetches : count ≡ next_call (after_fetches made.tried f).fetches
+
+-- each file is as it was, whichever its name
+pub record SameFiles (f f' : FilesState) : Type 0 where
+  pub places : (name : List ℕ) → f'.places name ≡ f.places name
+  pub fails : f'.fails ≡ f.fails
+
+-- where the files tell: each is as it was, and of the fetches of these device lines' files those were made that this says
+abbrev pub AsTheyWere : (List (List ℕ) → FilesState → ℕ → Type 0) → List DeviceLineData → Option FilesState → Option FilesState → Type 0
+AsTheyWere Fetches ls files files' = IfSome files (λ f. (f' : FilesState) × (files' ≡ Some f') × SameFiles f f' × Fetches (file_names ls) f f'.fetches)
 
 -- ==== how they are opened, and given back
 
@@ -126,16 +143,16 @@ pub record AreOpen (files files' : Option FilesState) (ls : List DeviceLineData)
   pub opens : OpenEach files ls ds
   pub fetched : Fetched (file_names ls) files files'
 
--- a file could not be fetched, and each is as it was
+-- A file could not be fetched: its fetch is the last that was made, and the first that failed. Each file is as it was.
 pub record AFileLacks (ls : List DeviceLineData) (files files' : Option FilesState) (faults faults' : ℕ) : Type 0 where
   pub fails : IfSome files (λ f. a_fetch_fails (file_names ls) f ≡ true)
-  pub same : AsTheyWere ls files files'
+  pub same : AsTheyWere NextFailed ls files files'
   pub rose : Rose faults faults'
 
 -- why the devices of these device lines could not be opened
 abbrev pub Unopened : MakeFault → List DeviceLineData → Option FilesState → Option FilesState → ℕ → ℕ → Type 0
 Unopened fault.Open ls files files' faults faults' = AFileLacks ls files files' faults faults'
-Unopened fault.NoMemory ls files files' faults faults' = AsTheyWere ls files files'
+Unopened fault.NoMemory ls files files' faults faults' = AsTheyWere NoneFailed ls files files'
 
 -- What is given back of a device: nothing of one in memory. The file of another, where it tells its bytes, is what the medium left.
 abbrev pub Returns : MediumData → MediumState → Option FilesState → Option FilesState → Type 0

@@ -1,5 +1,5 @@
 -- What was made of devices and written of it, as far as a replay has come.
-use Rattle.std.specs.Prelude.{◌≡◌, ◌⊎◌, ℕ, List, [], ◌∷◌, ◌++◌, map, Option, Some, length, drop, slice_get, slice_set}
+use Rattle.std.specs.Prelude.{◌≡◌, ◌⊎◌, ℕ, ◌≤◌, List, [], ◌∷◌, ◌++◌, map, Option, Some, length, drop, slice_get, slice_set}
 use Rattle.std.specs.List.{flat_map}
 use Rattle.tcmu_types.specs.Data.{DoneData}
 use Rattle.tcmu_types.specs.Events.{EventData, AnswerData, EntryData}
@@ -52,6 +52,27 @@ pub record Wrote (R : HandlerRelation) (l : DeviceLineData) (so : List EntryData
   pub run : Run R d entries d'
   pub wrote : Gained old (run_text l d entries d') new
 
+-- What was made is written whole, but for the last at most, of which a piece is written.
+pub record AllButLast {X : Type 0} (made : List X) (text : List X → List ℕ) (old new : Option (List ℕ)) : Type 0 where
+  pub written : List X
+  pub last : List X
+  pub split : made ≡ written ++ last
+  pub one : length last ≤ 1
+  pub piece : List ℕ
+  pub gained : Gained old (text written ++ piece) new
+
+-- Entries were made, of which a front is written: all whole, but for the last at most. They lead to a device, and the last from it on.
+pub record RunAllButLast (R : HandlerRelation) (l : DeviceLineData) (made : List EntryData) (d d' : Device) (old new : Option (List ℕ)) : Type 0 where
+  pub written : List EntryData
+  pub last : List EntryData
+  pub split : made ≡ written ++ last
+  pub one : length last ≤ 1
+  pub before : Device
+  pub first : Run R d written before
+  pub second : Run R before last d'
+  pub piece : List ℕ
+  pub gained : Gained old (run_text l d written before ++ piece) new
+
 -- Entries were made, of which a front is written. Others can follow them, so that all are as they are to be, and end in a device.
 pub record WroteFront (R : HandlerRelation) (l : DeviceLineData) (so : List EntryData → Device → Type 0) (d d' : Device) (old new : Option (List ℕ)) : Type 0 where
   pub made : List EntryData
@@ -61,6 +82,7 @@ pub record WroteFront (R : HandlerRelation) (l : DeviceLineData) (so : List Entr
   pub run : Run R d made d'
   pub more : Run R d' rest end
   pub wrote : GainedFront old (run_text l d made d') new
+  pub stopped : RunAllButLast R l made d d' old new
 
 -- ==== one of several devices
 
@@ -114,3 +136,4 @@ pub record WroteEachFront (R : HandlerRelation) (ls : List DeviceLineData) (so :
   pub legal : IsLegalEach R ds made ds'
   pub whole : IsLegalEach R ds (made ++ rest) ends
   pub wrote : GainedFront old (flat_map (journaled_text ls) made) new
+  pub stopped : AllButLast made (flat_map (journaled_text ls)) old new

@@ -1,5 +1,5 @@
 -- What the top call says of what it read and wrote.
-use Rattle.std.specs.Prelude.{◌≡◌, ◌≢◌, ◌⊎◌, ℕ, true, false, List, [], ◌∷◌, ◌++◌, Option, Some, None, IfSome, Ok, Err, codes}
+use Rattle.std.specs.Prelude.{◌≡◌, ◌≢◌, ◌⊎◌, ℕ, true, false, List, [], ◌∷◌, ◌++◌, Option, Some, None, IfSome, Ok, Err, length, codes}
 use Rattle.std.specs.List.{flat_map}
 use Rattle.std.specs.Fmt.{decimal}
 use Rattle.tcmu_types.specs.Numbered.{Rose}
@@ -15,8 +15,10 @@ use Rattle.tcmu_model.specs.Words.{why_word}
 use Rattle.tcmu_model.specs.Several.{Journaled, IsLegalEach, journaled_text, IsReplayOf}
 use Rattle.tcmu_model.specs.declared.faults.Why.{Why}
 use Rattle.tcmu_model.specs.declared.faults.Why.TheVariants as why
-use Rattle.tcmu_top.specs.Opened.{OpenEach, file_names, a_fetch_fails, KeptFiles, AsTheyWere}
+use Rattle.tcmu_top.specs.Opened.{OpenEach, file_names, a_fetch_fails, KeptFiles, NoneFailed, NextFailed, AsTheyWere}
 use Rattle.tcmu_top.specs.Loads.{LoadEnds}
+use Rattle.tcmu_top.specs.Calls.{TookFront, Calm}
+use Rattle.tcmu_top.specs.Playing.{AllButLast}
 use Rattle.tcmu_top.specs.declared.words.Task.{Task}
 use Rattle.tcmu_top.specs.declared.words.Task.TheVariants as task
 use Rattle.tcmu_top.specs.declared.status.Status.{Status}
@@ -32,7 +34,8 @@ pub record Replayed (R : HandlerRelation) (ls : List DeviceLineData) (opened : L
   pub gained : Gained old text new
 
 -- A front of such a text was written. Each device is the end of the run of its own entries that were made, and what was written is a
--- front of the device lines and the lines of these entries; the end lines come once all is made.
+-- front of the device lines and the lines of these entries; the end lines come once all is made. Of what was made all is written whole but
+-- the last entry: a sink that fails stops the replay at once.
 pub record ReplayedInPart (R : HandlerRelation) (ls : List DeviceLineData) (opened : List Device) (lines : List LineData) (ds' : List Device) (old new : Option (List ℕ)) : Type 0 where
   pub text : List ℕ
   pub is : IsReplayOf R ls opened lines text
@@ -42,6 +45,7 @@ pub record ReplayedInPart (R : HandlerRelation) (ls : List DeviceLineData) (open
   pub legal : IsLegalEach R opened made ds'
   pub told : (rest ≡ []) ⊎ GainedFront old (flat_map device_text ls ++ flat_map (journaled_text ls) made) new
   pub gained : GainedFront old text new
+  pub stopped : (made ≡ []) ⊎ AllButLast made (λ js. flat_map device_text ls ++ flat_map (journaled_text ls) js) old new
 
 -- ==== a scenario
 
@@ -65,24 +69,27 @@ pub record CutShort (files files' : Option FilesState) (s : ScenarioData) (old n
   pub opened : List Device
   pub opens : OpenEach files s.devices opened
   pub ends : List Device
+  -- one for each device line
+  pub count : length ends ≡ length s.devices
   pub replay : ReplayedInPart Serves s.devices opened s.lines ends old new
   pub fetched : IfSome files (λ f. a_fetch_fails (file_names s.devices) f ≡ false)
   pub kept : KeptFiles s.devices ends files files'
 
--- it did not begin: nothing was written, and each file is as it was
+-- it did not begin: nothing was written, each file is as it was, and no fetch that was made failed
 pub record NotBegun (files files' : Option FilesState) (s : ScenarioData) (old new : Option (List ℕ)) : Type 0 where
   pub nothing : new ≡ old
-  pub same : AsTheyWere s.devices files files'
+  pub same : AsTheyWere NoneFailed s.devices files files'
 
 -- want of memory stopped it, before it began or on the way
 abbrev pub Wanting : Option FilesState → Option FilesState → ScenarioData → Option (List ℕ) → Option (List ℕ) → Type 0
 Wanting files files' s old new = NotBegun files files' s old new ⊎ CutShort files files' s old new
 
--- a file could not be fetched: nothing was written, and each file is as it was
+-- A file could not be fetched: its fetch is the last that was made, and the first that failed. Nothing was written, and each file is as
+-- it was.
 pub record LacksFile (files files' : Option FilesState) (s : ScenarioData) (old new : Option (List ℕ)) : Type 0 where
   pub fails : IfSome files (λ f. a_fetch_fails (file_names s.devices) f ≡ true)
   pub nothing : new ≡ old
-  pub same : AsTheyWere s.devices files files'
+  pub same : AsTheyWere NextFailed s.devices files files'
 
 -- ==== what the source had
 
@@ -121,9 +128,9 @@ pub record Untouched (files files' : Option FilesState) (old new : Option (List 
   pub wrote : new ≡ old
   pub same : files' ≡ files
 
--- How a replay ends, and what it wrote: by what the source had left, the faults of the source before and after, the files and their
--- faults before and after, what the sink had and has, its faults before and after, and the status.
-pub record Ends (left : Option (List ℕ)) (read read' : ℕ) (files files' : Option FilesState) (opened opened' : ℕ) (old new : Option (List ℕ)) (wrote wrote' : ℕ) (ended : Status) : Type 0 where
+-- How a replay ends, and what it wrote: by what the source had left and has, its faults before and after, the files and their faults
+-- before and after, what the sink had and has, its faults before and after, and the status.
+pub record Ends (left left' : Option (List ℕ)) (read read' : ℕ) (files files' : Option FilesState) (opened opened' : ℕ) (old new : Option (List ℕ)) (wrote wrote' : ℕ) (ended : Status) : Type 0 where
   -- the whole text of a replay of the scenario that the source had was written
   pub ok : ended ≡ status.Ok → Had left (λ s. TextWritten files files' s old new)
   -- the source failed, and nothing was written
@@ -137,6 +144,12 @@ pub record Ends (left : Option (List ℕ)) (read read' : ℕ) (files files' : Op
   -- a file could not be fetched, and nothing was written
   pub open_fault : ended ≡ status.OpenFault → Rose opened opened' × Had left (λ s. LacksFile files files' s old new)
   pub words : ended ≢ status.BadWords
+  -- however it ends, nothing but a front was taken of what the source had
+  pub taken : TookFront left left'
+  -- no fault of the source, of the files or of the sink is let be
+  pub calm_source : Calm status.ReadFault ended read read'
+  pub calm_files : Calm status.OpenFault ended opened opened'
+  pub calm_sink : Calm status.WriteFault ended wrote wrote'
 
 -- the same, where the scenario is at hand
 pub record ScenarioEnds (s : ScenarioData) (files files' : Option FilesState) (opened opened' : ℕ) (old new : Option (List ℕ)) (wrote wrote' : ℕ) (ended : Status) : Type 0 where
@@ -147,6 +160,8 @@ pub record ScenarioEnds (s : ScenarioData) (files files' : Option FilesState) (o
   pub reads : ended ≢ status.ReadFault
   pub scenario : (line : ℕ) (reason : Why) → ended ≢ status.BadScenario line reason
   pub words : ended ≢ status.BadWords
+  pub calm_files : Calm status.OpenFault ended opened opened'
+  pub calm_sink : Calm status.WriteFault ended wrote wrote'
 
 -- the same, where the bytes are at hand
 pub record BytesEnd (bytes : List ℕ) (files files' : Option FilesState) (opened opened' : ℕ) (old new : Option (List ℕ)) (wrote wrote' : ℕ) (ended : Status) : Type 0 where
@@ -157,18 +172,20 @@ pub record BytesEnd (bytes : List ℕ) (files files' : Option FilesState) (opene
   pub open_fault : ended ≡ status.OpenFault → Rose opened opened' × ((s : ScenarioData) × (scenario_of bytes ≡ Ok s) × LacksFile files files' s old new)
   pub words : ended ≢ status.BadWords
   pub reads : ended ≢ status.ReadFault
+  pub calm_files : Calm status.OpenFault ended opened opened'
+  pub calm_sink : Calm status.WriteFault ended wrote wrote'
 
 -- ==== the words
 
 -- How the program ends, by what its words ask for: a replay; a load, which reads nothing and leaves the files; or nothing, where they are
--- none that it knows.
+-- none that it knows. What is not called has no faults.
 abbrev pub TaskEnds : Option Task → (left left' : Option (List ℕ)) (read read' : ℕ) (files files' : Option FilesState) (opened opened' : ℕ) (old new : Option (List ℕ)) (wrote wrote' : ℕ) → Status → Type 0
 TaskEnds (Some task.Replay) left left' read read' files files' opened opened' old new wrote wrote' ended =
-    Ends left read read' files files' opened opened' old new wrote wrote' ended
+    Ends left left' read read' files files' opened opened' old new wrote wrote' ended
 TaskEnds (Some (task.Load seed count)) left left' read read' files files' opened opened' old new wrote wrote' ended =
-    LoadEnds seed count old new wrote wrote' ended × (left' ≡ left) × (files' ≡ files)
+    LoadEnds seed count old new wrote wrote' ended × (left' ≡ left) × (files' ≡ files) × (read' ≡ read) × (opened' ≡ opened)
 TaskEnds None left left' read read' files files' opened opened' old new wrote wrote' ended =
-    (ended ≡ status.BadWords) × (left' ≡ left) × Untouched files files' old new
+    (ended ≡ status.BadWords) × (left' ≡ left) × Untouched files files' old new × (read' ≡ read) × (opened' ≡ opened) × (wrote' ≡ wrote)
 
 -- ==== the fault line
 

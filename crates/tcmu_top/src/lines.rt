@@ -41,6 +41,8 @@ fn play<P: Path, K: Sink>(
     ensures err { OnErr result ((at : ℕ) → Stopped P.relation at device.now (event_data event.now) (P.device path.old) (P.device path.new) (K.written out.old) (K.written out.new)) }
     ensures fault { IsErrOf result Stop.WriteFault → Rose (K.faults out.old) (K.faults out.new) }
     ensures later { K.faults out.old ≤ K.faults out.new }
+    ensures calm { OnOk result (K.faults out.new ≡ K.faults out.old) }
+    ensures wanting { IsErrOf result Stop.NoMemory → K.faults out.new ≡ K.faults out.old }
     ensures accepts { Accepts (accepted_by (event_data event.now)) (P.device path.old) (P.device path.new) }
 {
     let before = path.log().len();
@@ -63,6 +65,8 @@ pub fn drain<P: Path, K: Sink>(
     ensures err { OnErr result ((at : ℕ) → WroteFront P.relation device.now (Drains P.relation at (P.device path.old)) (P.device path.old) (P.device path.new) (K.written out.old) (K.written out.new)) }
     ensures fault { IsErrOf result Stop.WriteFault → Rose (K.faults out.old) (K.faults out.new) }
     ensures later { K.faults out.old ≤ K.faults out.new }
+    ensures calm { OnOk result (K.faults out.new ≡ K.faults out.old) }
+    ensures wanting { IsErrOf result Stop.NoMemory → K.faults out.new ≡ K.faults out.old }
     ensures accepts { Accepts 0 (P.device path.old) (P.device path.new) }
 {
     while let Some(event) = next_event(&path.todo()) {
@@ -87,6 +91,8 @@ pub fn play_line<P: Path, K: Sink>(
     ensures err { OnErr result ((at : ℕ) → WroteFront P.relation device.now (Plays P.relation at (P.device path.old) line.now.what) (P.device path.old) (P.device path.new) (K.written out.old) (K.written out.new)) }
     ensures fault { IsErrOf result Stop.WriteFault → Rose (K.faults out.old) (K.faults out.new) }
     ensures later { K.faults out.old ≤ K.faults out.new }
+    ensures calm { OnOk result (K.faults out.new ≡ K.faults out.old) }
+    ensures wanting { IsErrOf result Stop.NoMemory → K.faults out.new ≡ K.faults out.old }
     ensures accepts { Accepts 1 (P.device path.old) (P.device path.new) }
 {
     match &line.what {

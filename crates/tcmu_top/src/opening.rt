@@ -1,5 +1,5 @@
 //! The devices of a scenario, as they open over files, and what they give back.
-ghost use Rattle.std.specs.Prelude.{◌≡◌, ◌≢◌, ◌≤◌, ◌<◌, false, [], ◌∷◌, length, None, IfOk, IfErr, OnOk, OnErr};
+ghost use Rattle.std.specs.Prelude.{◌≡◌, ◌≢◌, ◌≤◌, ◌<◌, false, [], ◌∷◌, length, None, IfOk, IfErr, OnOk, OnErr, IsErrOf};
 ghost use Rattle.std.specs.List.{All, AllPairs};
 ghost use Rattle.tcmu_model.specs.Said.{same_file};
 ghost use Rattle.tcmu_model.specs.ScenarioRules.{IsConfig, IsDeviceLine};
@@ -31,6 +31,8 @@ fn open_device<F: Files>(
     ensures opened { IfOk result (Made device.now (F.state files.old) (F.state files.new)) }
     ensures refused { IfErr result (λ e. Refuses e device.now.config (F.state files.old) (F.state files.new) (F.faults files.old) (F.faults files.new)) }
     ensures faults { F.faults files.old ≤ F.faults files.new }
+    ensures calm { OnOk result (F.faults files.new ≡ F.faults files.old) }
+    ensures wanting { IsErrOf result MakeFault.NoMemory → F.faults files.new ≡ F.faults files.old }
 {
     let medium = make_medium(alloc, &device.config, files)?;
     let engine = Engine::new(device.name.copy(), medium);
@@ -51,6 +53,8 @@ fn open_next<F: Files>(
     ensures refused { IfErr result (λ e. Unopened e (device.now ∷ []) (F.state files.old) (F.state files.new) (F.faults files.old) (F.faults files.new)) }
     ensures same { OnErr result (set.new ≡ set.old) }
     ensures faults { F.faults files.old ≤ F.faults files.new }
+    ensures calm { OnOk result (F.faults files.new ≡ F.faults files.old) }
+    ensures wanting { IsErrOf result MakeFault.NoMemory → F.faults files.new ≡ F.faults files.old }
 {
     let opened = open_device(alloc, device, files)?;
     match set.insert(device.name.copy(), opened) {
@@ -75,6 +79,8 @@ pub fn open_devices<F: Files>(
     ensures opened { IfOk result (λ set. AreOpen (F.state files.old) (F.state files.new) devices.now (states_of (λ d. d) set)) }
     ensures refused { IfErr result (λ e. Unopened e devices.now (F.state files.old) (F.state files.new) (F.faults files.old) (F.faults files.new)) }
     ensures faults { F.faults files.old ≤ F.faults files.new }
+    ensures calm { OnOk result (F.faults files.new ≡ F.faults files.old) }
+    ensures wanting { IsErrOf result MakeFault.NoMemory → F.faults files.new ≡ F.faults files.old }
 {
     let mut set = DeviceSet::new(alloc);
     for device in devices {

@@ -1,7 +1,8 @@
 //! Reading a source to its end.
-ghost use Rattle.std.specs.Prelude.{◌≡◌, ℕ, ◌≤◌, ◌<◌, length, IfOk, IsErrOf, IfSome};
+ghost use Rattle.std.specs.Prelude.{◌≡◌, ℕ, ◌≤◌, ◌<◌, length, IfOk, OnOk, IsErrOf, IfSome};
 ghost use Rattle.tcmu_types.specs.Numbered.{Rose};
 ghost use Rattle.edge.specs.Outside.{Tells};
+ghost use Rattle.tcmu_top.specs.Calls.{TookFront};
 ghost use Rattle.tcmu_top.specs.declared.reading.Unread.TheVariants.{NoMemory as Wanting};
 
 use edge::Source;
@@ -33,6 +34,10 @@ pub fn read_all<S: Source>(alloc: Global, src: &mut S) -> Result<Vec<u8>, Unread
     ensures too_long { IsErrOf result Unread.TooLong → IfSome (S.left src.old) (λ bytes. 4194304 < length bytes) }
     ensures failed { IsErrOf result Unread.Failed → Rose (S.faults src.old) (S.faults src.new) }
     ensures later { S.faults src.old ≤ S.faults src.new }
+    ensures calm { OnOk result (S.faults src.new ≡ S.faults src.old) }
+    ensures calm_long { IsErrOf result Unread.TooLong → S.faults src.new ≡ S.faults src.old }
+    ensures wanting { IsErrOf result Unread.NoMemory → S.faults src.new ≡ S.faults src.old }
+    ensures taken { TookFront (S.left src.old) (S.left src.new) }
 {
     let mut bytes = Vec::new(alloc);
     let mut piece = [0u8; 4096];

@@ -37,6 +37,8 @@ fn drain_on<P: Path, K: Sink>(
     ensures err { OnErr result (WroteOnFront P.relation devices.now at (Drains P.relation at) (states_of P.device set.old) (states_of P.device set.new) (K.written out.old) (K.written out.new)) }
     ensures fault { IsErrOf result Stop.WriteFault → Rose (K.faults out.old) (K.faults out.new) }
     ensures later { K.faults out.old ≤ K.faults out.new }
+    ensures calm { OnOk result (K.faults out.new ≡ K.faults out.old) }
+    ensures wanting { IsErrOf result Stop.NoMemory → K.faults out.new ≡ K.faults out.old }
     ensures count { length set.new ≡ length set.old }
 {
     drain(alloc, &devices[at as usize], set.get_mut(at), out)
@@ -59,6 +61,8 @@ fn play_on<P: Path, K: Sink>(
     ensures err { OnErr result (WroteOnFront P.relation devices.now line.now.device (λ d es d'. Plays P.relation line.now.device d line.now.what es d') (states_of P.device set.old) (states_of P.device set.new) (K.written out.old) (K.written out.new)) }
     ensures fault { IsErrOf result Stop.WriteFault → Rose (K.faults out.old) (K.faults out.new) }
     ensures later { K.faults out.old ≤ K.faults out.new }
+    ensures calm { OnOk result (K.faults out.new ≡ K.faults out.old) }
+    ensures wanting { IsErrOf result Stop.NoMemory → K.faults out.new ≡ K.faults out.old }
     ensures count { length set.new ≡ length set.old }
 {
     let at = line.device;
@@ -80,6 +84,8 @@ fn drain_each<P: Path, K: Sink>(
     ensures err { OnErr result (WroteEachFront P.relation devices.now (DrainsEach P.relation 0 (states_of P.device set.old)) (states_of P.device set.old) (states_of P.device set.new) (K.written out.old) (K.written out.new)) }
     ensures fault { IsErrOf result Stop.WriteFault → Rose (K.faults out.old) (K.faults out.new) }
     ensures later { K.faults out.old ≤ K.faults out.new }
+    ensures calm { OnOk result (K.faults out.new ≡ K.faults out.old) }
+    ensures wanting { IsErrOf result Stop.NoMemory → K.faults out.new ≡ K.faults out.old }
     ensures count { length set.new ≡ length set.old }
     ensures still_sound { OnOk result (Every (λ d. IsSound d.state) (states_of P.device set.new)) }
     ensures still_few { OnOk result (Every (λ d. d.state.accepted < 2 ^ 63) (states_of P.device set.new)) }
@@ -107,6 +113,8 @@ fn replay_lines<P: Path, K: Sink>(
     ensures err { OnErr result (WroteEachFront P.relation devices.now (ReplaysEach P.relation (states_of P.device set.old) lines.now) (states_of P.device set.old) (states_of P.device set.new) (K.written out.old) (K.written out.new)) }
     ensures fault { IsErrOf result Stop.WriteFault → Rose (K.faults out.old) (K.faults out.new) }
     ensures later { K.faults out.old ≤ K.faults out.new }
+    ensures calm { OnOk result (K.faults out.new ≡ K.faults out.old) }
+    ensures wanting { IsErrOf result Stop.NoMemory → K.faults out.new ≡ K.faults out.old }
     ensures count { length set.new ≡ length set.old }
     ensures still_sound { OnOk result (Every (λ d. IsSound d.state) (states_of P.device set.new)) }
     ensures still_few { OnOk result (Every (λ d. d.state.accepted < 2 ^ 63) (states_of P.device set.new)) }
@@ -131,6 +139,8 @@ fn write_ends<P: Path, K: Sink>(
     ensures err { OnErr result (GainedFront (K.written out.old) (ends_text devices.now (states_of P.device set.now)) (K.written out.new)) }
     ensures fault { IsErrOf result Stop.WriteFault → Rose (K.faults out.old) (K.faults out.new) }
     ensures later { K.faults out.old ≤ K.faults out.new }
+    ensures calm { OnOk result (K.faults out.new ≡ K.faults out.old) }
+    ensures wanting { IsErrOf result Stop.NoMemory → K.faults out.new ≡ K.faults out.old }
 {
     for at in 0..set.len() {
         let count = open_count(set.get(at));
@@ -154,6 +164,8 @@ pub fn replay_devices<P: Path, K: Sink>(
     ensures err { OnErr result (ReplayedInPart P.relation scenario.now.devices (states_of P.device set.old) scenario.now.lines (states_of P.device set.new) (K.written out.old) (K.written out.new)) }
     ensures fault { IsErrOf result Stop.WriteFault → Rose (K.faults out.old) (K.faults out.new) }
     ensures later { K.faults out.old ≤ K.faults out.new }
+    ensures calm { OnOk result (K.faults out.new ≡ K.faults out.old) }
+    ensures wanting { IsErrOf result Stop.NoMemory → K.faults out.new ≡ K.faults out.old }
     ensures count { length set.new ≡ length set.old }
 {
     let devices = scenario.devices.as_slice();

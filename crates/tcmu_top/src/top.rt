@@ -36,7 +36,7 @@ fn replay_opened<K: Sink, F: Files>(
     requires limits { IsScenario scenario.now }
     requires served { IsServed scenario.now }
     requires opened { AreOpened scenario.now.devices (states_of (λ d. d) set) }
-    ensures ends { (entry : Option FilesState) (before after : ℕ) → AreOpen entry (F.state files.old) scenario.now.devices (states_of (λ d. d) set)
+    ensures ends { (entry : Option FilesState) (before after : ℕ) → after ≡ before → AreOpen entry (F.state files.old) scenario.now.devices (states_of (λ d. d) set)
         → ScenarioEnds scenario.now entry (F.state files.new) before after (K.written out.old) (K.written out.new) (K.faults out.old) (K.faults out.new) result }
     ensures same { F.faults files.new ≡ F.faults files.old }
     ensures wrote { K.faults out.old ≤ K.faults out.new }
@@ -97,7 +97,7 @@ pub fn run_replay<S: Source, K: Sink, F: Files>(
     out: &mut K,
     files: &mut F,
 ) -> Status
-    ensures ends { Ends (S.left src.old) (S.faults src.old) (S.faults src.new) (F.state files.old) (F.state files.new) (F.faults files.old) (F.faults files.new) (K.written out.old) (K.written out.new) (K.faults out.old) (K.faults out.new) result }
+    ensures ends { Ends (S.left src.old) (S.left src.new) (S.faults src.old) (S.faults src.new) (F.state files.old) (F.state files.new) (F.faults files.old) (F.faults files.new) (K.written out.old) (K.written out.new) (K.faults out.old) (K.faults out.new) result }
     ensures read { S.faults src.old ≤ S.faults src.new }
     ensures opened { F.faults files.old ≤ F.faults files.new }
     ensures wrote { K.faults out.old ≤ K.faults out.new }

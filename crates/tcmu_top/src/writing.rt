@@ -35,6 +35,8 @@ pub fn write_line<K: Sink>(out: &mut K, line: &[u8]) -> Result<(), Stop>
     ensures err { OnErr result (GainedFront (K.written out.old) line.now (K.written out.new)) }
     ensures fault { IsErrOf result Stop.WriteFault → Rose (K.faults out.old) (K.faults out.new) }
     ensures later { K.faults out.old ≤ K.faults out.new }
+    ensures calm { OnOk result (K.faults out.new ≡ K.faults out.old) }
+    ensures wanting { IsErrOf result Stop.NoMemory → K.faults out.new ≡ K.faults out.old }
 {
     match out.write(line) {
         Ok(()) => Ok(()),
@@ -48,6 +50,8 @@ fn write_ready<K: Sink>(alloc: Global, device: &DeviceLine, out: &mut K) -> Resu
     ensures err { OnErr result (GainedFront (K.written out.old) (spelled.device_text device.now) (K.written out.new)) }
     ensures fault { IsErrOf result Stop.WriteFault → Rose (K.faults out.old) (K.faults out.new) }
     ensures later { K.faults out.old ≤ K.faults out.new }
+    ensures calm { OnOk result (K.faults out.new ≡ K.faults out.old) }
+    ensures wanting { IsErrOf result Stop.NoMemory → K.faults out.new ≡ K.faults out.old }
 {
     let mut text = Bytes::new(alloc);
     device_text(alloc, device, &mut text)?;
@@ -64,6 +68,8 @@ pub fn write_readies<K: Sink>(
     ensures err { OnErr result (GainedFront (K.written out.old) (flat_map spelled.device_text devices.now) (K.written out.new)) }
     ensures fault { IsErrOf result Stop.WriteFault → Rose (K.faults out.old) (K.faults out.new) }
     ensures later { K.faults out.old ≤ K.faults out.new }
+    ensures calm { OnOk result (K.faults out.new ≡ K.faults out.old) }
+    ensures wanting { IsErrOf result Stop.NoMemory → K.faults out.new ≡ K.faults out.old }
 {
     for device in devices {
         write_ready(alloc, device, out)?;
@@ -82,6 +88,8 @@ fn write_event<K: Sink>(
     ensures err { OnErr result (GainedFront (K.written out.old) (spelled.event_line device.now.name device.now.settings.qfull (event_data event.now) (answer_data answer.now)) (K.written out.new)) }
     ensures fault { IsErrOf result Stop.WriteFault → Rose (K.faults out.old) (K.faults out.new) }
     ensures later { K.faults out.old ≤ K.faults out.new }
+    ensures calm { OnOk result (K.faults out.new ≡ K.faults out.old) }
+    ensures wanting { IsErrOf result Stop.NoMemory → K.faults out.new ≡ K.faults out.old }
 {
     let mut text = Bytes::new(alloc);
     event_line(
@@ -105,6 +113,8 @@ fn write_completion<K: Sink>(
     ensures err { OnErr result (GainedFront (K.written out.old) (spelled.completion_text device.now.name done.now) (K.written out.new)) }
     ensures fault { IsErrOf result Stop.WriteFault → Rose (K.faults out.old) (K.faults out.new) }
     ensures later { K.faults out.old ≤ K.faults out.new }
+    ensures calm { OnOk result (K.faults out.new ≡ K.faults out.old) }
+    ensures wanting { IsErrOf result Stop.NoMemory → K.faults out.new ≡ K.faults out.old }
 {
     let mut text = Bytes::new(alloc);
     completion_line(alloc, &device.name, done, &mut text)?;
@@ -121,6 +131,8 @@ fn write_completions<K: Sink>(
     ensures err { OnErr result (GainedFront (K.written out.old) (flat_map (spelled.completion_text device.now.name) logged.now) (K.written out.new)) }
     ensures fault { IsErrOf result Stop.WriteFault → Rose (K.faults out.old) (K.faults out.new) }
     ensures later { K.faults out.old ≤ K.faults out.new }
+    ensures calm { OnOk result (K.faults out.new ≡ K.faults out.old) }
+    ensures wanting { IsErrOf result Stop.NoMemory → K.faults out.new ≡ K.faults out.old }
 {
     for done in logged {
         write_completion(alloc, device, done, out)?;
@@ -141,6 +153,8 @@ pub fn write_entry<K: Sink>(
     ensures err { OnErr result (GainedFront (K.written out.old) (event_lines device.now (event_data event.now) (answer_data answer.now) logged.now) (K.written out.new)) }
     ensures fault { IsErrOf result Stop.WriteFault → Rose (K.faults out.old) (K.faults out.new) }
     ensures later { K.faults out.old ≤ K.faults out.new }
+    ensures calm { OnOk result (K.faults out.new ≡ K.faults out.old) }
+    ensures wanting { IsErrOf result Stop.NoMemory → K.faults out.new ≡ K.faults out.old }
 {
     write_event(alloc, device, event, answer, out)?;
     write_completions(alloc, device, logged, out)
@@ -157,6 +171,8 @@ pub fn write_end<K: Sink>(
     ensures err { OnErr result (GainedFront (K.written out.old) (spelled.end_text device.now.name count) (K.written out.new)) }
     ensures fault { IsErrOf result Stop.WriteFault → Rose (K.faults out.old) (K.faults out.new) }
     ensures later { K.faults out.old ≤ K.faults out.new }
+    ensures calm { OnOk result (K.faults out.new ≡ K.faults out.old) }
+    ensures wanting { IsErrOf result Stop.NoMemory → K.faults out.new ≡ K.faults out.old }
 {
     let mut text = Bytes::new(alloc);
     end_text(alloc, &device.name, count, &mut text)?;

@@ -1,4 +1,4 @@
-use Rattle.std.proofs.Common.{Some, None, arith}
+use Rattle.std.proofs.Common.{Some, None, refl, ◌∙◌, arith}
 use Rattle.tcmu_types.specs.Views.{event_data}
 use Rattle.tcmu_model.proofs.Runs.{sound_step}
 use Rattle.tcmu_top.proofs.Telling.{on_err}
@@ -11,7 +11,7 @@ loop-event-init g c =
     record {
       sofar = λ at. draining_first g.P.Path.relation at c.args.device.now (g.P.Path.device c.args.path.now) _ c.requires.sound;
       sound = c.requires.sound;
-      later = omega arith;
+      calm = refl;
       accepts = record { least = omega arith; most = omega arith };
     }
 
@@ -32,7 +32,7 @@ loop-event-preserved g c =
     record {
       sofar = λ at. draining_more g.P.Path.relation at c.args.device.now _ (g.P.Path.device c.loop-event.path) _ (event_data c.in-Some.event) _ _ _ (c.loop-event.invariant.sofar at) picked (c.in_ok-play.ensures.ok at);
       sound = sound_step g.P.Path.relation _ _ (c.in_ok-play.ensures.ok 0).made.entry c.loop-event.invariant.sound (c.in_ok-play.ensures.ok 0).made.step;
-      later = omega (arith, c.loop-event.invariant.later, c.in_ok-play.ensures.later);
+      calm = c.in_ok-play.ensures.calm ∙ c.loop-event.invariant.calm;
       accepts = record {
         least = omega (arith, c.loop-event.invariant.accepts.least, c.in_ok-play.ensures.accepts.least);
         most = omega (arith, none, c.loop-event.invariant.accepts.most, c.in_ok-play.ensures.accepts.most);

@@ -1,4 +1,4 @@
-use Rattle.std.proofs.Common.{ℕ, ◌≤◌}
+use Rattle.std.proofs.Common.{◌≡◌, ℕ}
 use Rattle.tcmu_model.specs.Sound.{IsSound}
 use Rattle.tcmu_model.specs.Work.{work}
 use Rattle.tcmu_path.specs.Calls.{Accepts}
@@ -9,7 +9,7 @@ abbrev pub invariant-loop-event : goal.invariant-loop-event
 invariant-loop-event g l = record {
   sofar : (at : ℕ) → Draining g.P.Path.relation at l.device (g.P.Path.device l.fn.path) (g.P.Path.device l.path) (g.K.Sink.written l.fn.out) (g.K.Sink.written l.out);
   sound : IsSound (g.P.Path.device l.path).state;
-  later : g.K.Sink.faults l.fn.out ≤ g.K.Sink.faults l.out;
+  calm : g.K.Sink.faults l.out ≡ g.K.Sink.faults l.fn.out;
   accepts : Accepts 0 (g.P.Path.device l.fn.path) (g.P.Path.device l.path);
 }
 

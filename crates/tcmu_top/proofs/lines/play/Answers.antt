@@ -10,7 +10,7 @@ behind-logged-requires g c =
 
 pub returns-in_err-answer-clause-err : goal.returns-in_err-answer-clause-err
 returns-in_err-answer-clause-err g c =
-    on_err c.from_residual.result (λ at. nothing_came g.P.Path.relation at c.args.device.now _ _ (event_data c.args.event.now) _ c.in_err-answer.ensures.unchanged)
+    on_err c.from_residual.result (λ at. nothing_came g.P.Path.relation at c.args.device.now _ _ (event_data c.args.event.now) _ c.in_err-answer.ensures.unchanged.device)
 
 pub returns-clause-ok : goal.returns-clause-ok
 returns-clause-ok g c =

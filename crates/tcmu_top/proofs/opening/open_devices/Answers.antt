@@ -50,7 +50,7 @@ returns-in-Err-clause-refused g c =
     let front = subst (λ (n : ℕ). KeepsEach (take n ls) (states_of (λ d. d) set) new last) all kept in
     subst (λ (n : ℕ). Unopened c.in-Err.fault ls files last faults n) (sym c.keep_files.ensures.faults)
     (unopened c.in-Err.fault files (g.F.Files.state c.loop-device.files) new last faults (g.F.Files.faults c.loop-device.files) (g.F.Files.faults c.open_next.new.files) ls i c.device-item.result (states_of (λ d. d) set)
-    c.loop-device-test.true c.device-item.is c.requires.files c.loop-device.invariant.opened c.loop-device.invariant.later c.in-Err.ensures.faults c.in-Err.ensures.refused front)
+    c.loop-device-test.true c.device-item.is c.requires.files c.loop-device.invariant.opened (omega (arith, c.loop-device.invariant.calm)) c.in-Err.ensures.faults c.in-Err.ensures.refused front)
 
 pub loop-device-preserved : goal.loop-device-preserved
 loop-device-preserved g c =
@@ -62,5 +62,5 @@ loop-device-preserved g c =
     record {
       opened = opened_more (g.F.Files.state c.args.files.now) (g.F.Files.state c.loop-device.files) (g.F.Files.state c.open_next.new.files) ls i l set c.open_next.new.set more.0 c.loop-device-test.true c.device-item.is c.requires.files c.loop-device.invariant.opened more.1 more.2;
       named = names_more ls i l set c.open_next.new.set more.0 c.loop-device-test.true c.device-item.is c.loop-device.invariant.named more.2;
-      later = omega (arith, c.loop-device.invariant.later, c.in_default.ensures.faults);
+      calm = c.in_default.ensures.calm ∙ c.loop-device.invariant.calm;
     }

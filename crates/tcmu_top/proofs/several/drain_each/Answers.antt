@@ -1,4 +1,4 @@
-use Rattle.std.proofs.Common.{◌<◌, ◌≤◌, ◌^◌, length, arith}
+use Rattle.std.proofs.Common.{◌∙◌, ◌<◌, ◌≤◌, ◌^◌, length, arith}
 use Rattle.tcmu_model.specs.Device.{Device}
 use Rattle.tcmu_model.specs.Drain.{Drains}
 use Rattle.tcmu_model.specs.Several.{DrainsEach}
@@ -25,7 +25,7 @@ loop-at-preserved g c =
       sofar = drained_more R c.args.devices.now at (DrainsEach R 0 (states_of g.P.Path.device c.args.set.now)) _ ds ds' _ _ _ c.loop-at.invariant.sofar w;
       few = every_kept (λ (d : Device). d.state.accepted < 2 ^ 63) R c.args.devices.now at 0 (Drains R at) ds ds' _ _ w (λ h. omega (arith, h, w.accepts.most)) c.loop-at.invariant.few;
       count = omega (arith, states_count g.P.Path.device c.loop-at.set, states_count g.P.Path.device c.drain_on.new.set, count_kept R c.args.devices.now at 0 (Drains R at) ds ds' _ _ w, c.loop-at.invariant.count);
-      later = omega (arith, c.loop-at.invariant.later, c.in_ok-drain_on.ensures.later);
+      calm = c.in_ok-drain_on.ensures.calm ∙ c.loop-at.invariant.calm;
     }
 
 pub returns-clause-ok : goal.returns-clause-ok

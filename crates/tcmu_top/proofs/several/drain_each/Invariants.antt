@@ -1,4 +1,4 @@
-use Rattle.std.proofs.Common.{◌≡◌, ◌≤◌, ◌<◌, ◌^◌, length}
+use Rattle.std.proofs.Common.{◌≡◌, ◌<◌, ◌^◌, length}
 use Rattle.tcmu_model.specs.Sound.{Every}
 use Rattle.tcmu_model.specs.Several.{DrainsEach}
 use Rattle.tcmu_top.specs.Playing.{states_of}
@@ -11,5 +11,5 @@ invariant-loop-at g l = record {
   sofar : SoFar g.P.Path.relation l.devices (DrainsFrom g.P.Path.relation l.at (states_of g.P.Path.device l.set)) (DrainsEach g.P.Path.relation 0 (states_of g.P.Path.device l.fn.set)) (states_of g.P.Path.device l.fn.set) (states_of g.P.Path.device l.set) (g.K.Sink.written l.fn.out) (g.K.Sink.written l.out);
   few : Every (λ d. d.state.accepted < 2 ^ 63) (states_of g.P.Path.device l.set);
   count : length l.set ≡ length l.fn.set;
-  later : g.K.Sink.faults l.fn.out ≤ g.K.Sink.faults l.out;
+  calm : g.K.Sink.faults l.out ≡ g.K.Sink.faults l.fn.out;
 }

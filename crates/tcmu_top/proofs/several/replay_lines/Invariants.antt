@@ -1,4 +1,4 @@
-use Rattle.std.proofs.Common.{◌≡◌, ◌+◌, ◌≤◌, ◌<◌, ◌^◌, length, drop}
+use Rattle.std.proofs.Common.{◌≡◌, ◌+◌, ◌<◌, ◌^◌, length, drop}
 use Rattle.tcmu_model.specs.Sound.{Every}
 use Rattle.tcmu_model.specs.Several.{ReplaysEach}
 use Rattle.tcmu_top.specs.Playing.{states_of}
@@ -12,5 +12,5 @@ invariant-loop-line g l = record {
   fit : Every (IsFitFor (length l.fn.set)) (drop l.line-index l.lines);
   few : Every (λ d. d.state.accepted + length l.lines < 2 ^ 63 + l.line-index) (states_of g.P.Path.device l.set);
   count : length l.set ≡ length l.fn.set;
-  later : g.K.Sink.faults l.fn.out ≤ g.K.Sink.faults l.out;
+  calm : g.K.Sink.faults l.out ≡ g.K.Sink.faults l.fn.out;
 }

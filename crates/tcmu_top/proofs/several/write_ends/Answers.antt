@@ -1,4 +1,4 @@
-use Rattle.std.proofs.Common.{◌<◌, ◌^◌, suc, length, take, drop, refl, sym, arith}
+use Rattle.std.proofs.Common.{◌∙◌, ◌<◌, ◌^◌, suc, length, take, drop, refl, sym, arith}
 use Rattle.std.proofs.lemmas.Option.{slice_get_read}
 use Rattle.tcmu_model.specs.Device.{Device}
 use Rattle.tcmu_model.specs.Sound.{IsSound}
@@ -45,5 +45,5 @@ loop-at-preserved g c =
     let last = rw c.open_count-count.ensures at c.in_ok-write_end.ensures.ok in
     record {
       gained = gained_as _ _ _ _ (sym (ends_more ls ds i l d named found)) (gained_more _ _ _ (ends_text (take i ls) (take i ds)) (last_text l d) c.loop-at.invariant.gained last);
-      later = omega (arith, c.loop-at.invariant.later, c.in_ok-write_end.ensures.later);
+      calm = c.in_ok-write_end.ensures.calm ∙ c.loop-at.invariant.calm;
     }

@@ -1,4 +1,4 @@
-use Rattle.std.proofs.Common.{◌∙◌, ap, subst, List}
+use Rattle.std.proofs.Common.{◌∙◌, refl, ap, subst, List, Err}
 use Rattle.tcmu_model.specs.ScenarioData.{ScenarioData, DeviceLineData}
 use Rattle.media.specs.declared.make.MakeFault.{MakeFault}
 use Rattle.media.specs.declared.make.MakeFault.TheVariants as fault
@@ -18,7 +18,7 @@ pub returns-in-Ok-clause-ends : goal.returns-in-Ok-clause-ends
 returns-in-Ok-clause-ends g c =
     let same = c.as_slice-devices.ensures ∙ ap (λ (x : ScenarioData). x.devices) c.scenario.view_is in
     let ready = subst (λ (l : List DeviceLineData). AreOpen (g.F.Files.state c.args.files.now) (g.F.Files.state c.open_devices.new.files) l (states_of (λ d. d) c.in-Ok.set)) same c.in-Ok.ensures.opened in
-    c.replay_opened.ensures.ends (g.F.Files.state c.args.files.now) (g.F.Files.faults c.args.files.now) (g.F.Files.faults c.replay_opened.new.files) ready
+    c.replay_opened.ensures.ends (g.F.Files.state c.args.files.now) (g.F.Files.faults c.args.files.now) (g.F.Files.faults c.replay_opened.new.files) (c.replay_opened.ensures.same ∙ c.in-Ok.ensures.calm) ready
 
 pub returns-in-Err-Open-clause-ends : goal.returns-in-Err-Open-clause-ends
 returns-in-Err-Open-clause-ends g c =
@@ -29,7 +29,7 @@ returns-in-Err-Open-clause-ends g c =
     let after = g.F.Files.faults c.open_devices.new.files in
     let same = c.as_slice-devices.ensures ∙ ap (λ (x : ScenarioData). x.devices) c.scenario.view_is in
     let refused = subst (λ (e : MakeFault). Unopened e c.as_slice-devices.result.now files last before after) c.in-Err-Open.field-0-is c.in-Err-Open.ensures.refused in
-    scenario_lacks s files last before after _ _ _ _ (lacks_file s files last before after _ (subst (λ (l : List DeviceLineData). Unopened fault.Open l files last before after) same refused))
+    scenario_lacks s files last before after _ _ _ _ refl (lacks_file s files last before after _ (subst (λ (l : List DeviceLineData). Unopened fault.Open l files last before after) same refused))
 
 pub returns-in-Err-NoMemory-clause-ends : goal.returns-in-Err-NoMemory-clause-ends
 returns-in-Err-NoMemory-clause-ends g c =
@@ -40,4 +40,4 @@ returns-in-Err-NoMemory-clause-ends g c =
     let after = g.F.Files.faults c.open_devices.new.files in
     let same = c.as_slice-devices.ensures ∙ ap (λ (x : ScenarioData). x.devices) c.scenario.view_is in
     let refused = subst (λ (e : MakeFault). Unopened e c.as_slice-devices.result.now files last before after) c.in-Err-NoMemory.field-0-is c.in-Err-NoMemory.ensures.refused in
-    scenario_wanting s files last before after _ _ _ _ (wanting_early s files last _ (subst (λ (l : List DeviceLineData). Unopened fault.NoMemory l files last before after) same refused))
+    scenario_wanting s files last before after _ _ _ _ (c.in-Err-NoMemory.ensures.wanting (ap (λ (x : MakeFault). Err x) c.in-Err-NoMemory.field-0-is)) refl (wanting_early s files last _ (subst (λ (l : List DeviceLineData). Unopened fault.NoMemory l files last before after) same refused))

@@ -1,0 +1,8 @@
+use Rattle.std.proofs.Common.{rules, take, arith, ◌≤◌, length}
+use Rattle.tcmu_top.proofs.Telling.{took_two}
+use Rattle.tcmu_top.proofs.reading.read_all.Goals as goal
+
+pub returns-in_err-extend_from_slice-clause-taken : goal.returns-in_err-extend_from_slice-clause-taken
+returns-in_err-extend_from_slice-clause-taken g c =
+    let few : length (take c.in-Ok.n c.read.new.into) ≤ 4096 = search rules in
+    took_two _ _ _ c.loop-piece.bytes.items (take c.in-Ok.n c.read.new.into) (omega (arith, c.loop-piece-test.true, c.len.ensures)) few c.loop-piece.invariant.given c.in-Ok.ensures.takes
