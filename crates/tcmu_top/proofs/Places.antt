@@ -1,6 +1,5 @@
 -- One place of a list, read and written.
 use Rattle.std.proofs.Common.{◌≡◌, ℕ, zero, suc, List, [], ◌∷◌, take, drop, slice_get, slice_set, Some, refl, ap, ◌∙◌}
-use Rattle.tcmu_model.specs.Sound.{Every}
 
 -- a list that agrees with another, in which one place is written, up to that place
 pub record Agrees {X : Type 0} (xs ys : List X) (i : ℕ) (y : X) : Type 0 where
