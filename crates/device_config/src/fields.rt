@@ -7,7 +7,7 @@ ghost use Rattle.tcmu_model.specs.Reading.{each};
 ghost use Rattle.tcmu_model.specs.Fields.{cut_at, pieces, name_of, is_digit, is_number, number_of, is_rising, rising_of, hex_value, hex_pair, bytes_of_hex, cdb_of, after_word, run_of, runs_of, with_flag, with_flags, no_flags, flags_of, serials_of};
 
 use std::alloc::Global;
-use tcmu_types::{Bytes, Cdb, Flags, Name, NoMemory, Serials};
+use tcmu_types::{Bytes, Cdb, Flags, MOST_PAYLOAD, Name, NoMemory, Serials};
 
 fn place_of(bytes: &[u8], at: u8) -> Option<usize>
     ensures { result ≡ position (λ b. b == at) bytes.now }
@@ -23,10 +23,8 @@ pub fn cut(bytes: &[u8], at: u8) -> Option<(&[u8], &[u8])>
     ensures shorter { IfSome result (λ p. length p.0.now + length p.1.now + 1 ≡ length bytes.now) }
     ensures none { IfNone result (pieces at bytes.now ≡ bytes.now ∷ []) }
 {
-    match place_of(bytes, at) {
-        Some(i) => Some((&bytes[..i], &bytes[i + 1..])),
-        None => None,
-    }
+    let i = place_of(bytes, at)?;
+    Some((&bytes[..i], &bytes[i + 1..]))
 }
 
 /// Whether a text is this one, byte by byte.
@@ -40,11 +38,7 @@ pub fn is_text(text: &[u8], wanted: &[u8]) -> bool
 pub fn after_word<'a>(word: &[u8], text: &'a [u8]) -> Option<&'a [u8]>
     ensures { option_map (λ x. x.now) result ≡ after_word word.now text.now }
 {
-    if text.len() < word.len() {
-        return None;
-    }
-    let (front, back) = text.split_at(word.len());
-    if front == word { Some(back) } else { None }
+    text.strip_prefix(word)
 }
 
 /// The name that a text is; None where it breaks the rule of names.
@@ -57,7 +51,7 @@ pub fn name_of(text: &[u8]) -> Option<Name>
 fn is_digit(b: u8) -> bool
     ensures { result ≡ is_digit b }
 {
-    b'0' <= b && b <= b'9'
+    b.is_ascii_digit()
 }
 
 fn all_digits(text: &[u8]) -> bool
@@ -69,13 +63,7 @@ fn all_digits(text: &[u8]) -> bool
 fn is_number(text: &[u8]) -> bool
     ensures { result ≡ is_number text.now }
 {
-    if text.len() < 1 {
-        return false;
-    }
-    if !all_digits(text) {
-        return false;
-    }
-    text.len() == 1 || b'0' < text[0]
+    !text.is_empty() && all_digits(text) && (text.len() == 1 || text[0] != b'0')
 }
 
 /// The number from `low` to `high` that decimal digits spell without a zero in front; None where the text is none.
@@ -144,13 +132,11 @@ pub fn rising_of(alloc: Global, at: u8, high: u64, text: &[u8]) -> Result<Option
     let Some(numbers) = numbers_of(alloc, at, high, text)? else {
         return Ok(None);
     };
-    if !is_rising(&numbers) {
-        return Ok(None);
+    if is_rising(&numbers) && numbers.len() <= 64 {
+        Ok(Some(Serials::from_vec(numbers)))
+    } else {
+        Ok(None)
     }
-    if 64 < numbers.len() {
-        return Ok(None);
-    }
-    Ok(Some(Serials::from_vec(numbers)))
 }
 
 fn hex_value(b: u8) -> Option<u8>
@@ -201,10 +187,7 @@ pub fn cdb_of(alloc: Global, text: &[u8]) -> Result<Option<Cdb>, NoMemory>
     let Some(bytes) = bytes_of_hex(alloc, text)? else {
         return Ok(None);
     };
-    match Cdb::new(&bytes) {
-        Ok(cdb) => Ok(Some(cdb)),
-        Err(_) => Ok(None),
-    }
+    Ok(Cdb::new(&bytes).ok())
 }
 
 /// The byte of a run, and how often it stands there.
@@ -212,14 +195,11 @@ fn run_parts(text: &[u8]) -> Option<(u8, u64)>
     ensures run { option_map (λ p. replicate p.1 p.0) result ≡ run_of text.now }
     ensures most { IfSome result (λ p. p.1 ≤ 1048576) }
 {
-    if text.len() < 3 {
-        return None;
-    }
-    if text[2] != b'*' {
+    if text.len() < 3 || text[2] != b'*' {
         return None;
     }
     let x = hex_pair(text[0], text[1])?;
-    let n = number_of(1, 1_048_576, &text[3..])?;
+    let n = number_of(1, MOST_PAYLOAD as u64, &text[3..])?;
     Some((x, n))
 }
 
@@ -246,7 +226,7 @@ pub fn runs_of(alloc: Global, text: &[u8]) -> Result<Option<Bytes>, NoMemory>
         if !push_run(&mut bytes, first)? {
             return Ok(None);
         }
-        if 1_048_576 < bytes.len() {
+        if bytes.len() > MOST_PAYLOAD as usize {
             return Ok(None);
         }
         rest = after;
@@ -254,7 +234,7 @@ pub fn runs_of(alloc: Global, text: &[u8]) -> Result<Option<Bytes>, NoMemory>
     if !push_run(&mut bytes, rest)? {
         return Ok(None);
     }
-    if 1_048_576 < bytes.len() {
+    if bytes.len() > MOST_PAYLOAD as usize {
         return Ok(None);
     }
     Ok(Some(Bytes::from_vec(bytes)))
@@ -263,28 +243,15 @@ pub fn runs_of(alloc: Global, text: &[u8]) -> Result<Option<Bytes>, NoMemory>
 fn with_flag(flags: Flags, word: &[u8]) -> Option<Flags>
     ensures { result ≡ with_flag flags word.now }
 {
-    if is_text(word, b"ooo") {
-        if flags.ooo {
-            return None;
-        }
-        return Some(Flags { ooo: true, ..flags });
-    }
-    if is_text(word, b"len") {
-        if flags.read_len {
-            return None;
-        }
-        return Some(Flags {
+    match word {
+        w if is_text(w, b"ooo") && !flags.ooo => Some(Flags { ooo: true, ..flags }),
+        w if is_text(w, b"len") && !flags.read_len => Some(Flags {
             read_len: true,
             ..flags
-        });
+        }),
+        w if is_text(w, b"tmr") && !flags.tmr => Some(Flags { tmr: true, ..flags }),
+        _ => None,
     }
-    if is_text(word, b"tmr") {
-        if flags.tmr {
-            return None;
-        }
-        return Some(Flags { tmr: true, ..flags });
-    }
-    None
 }
 
 fn with_flags(text: &[u8]) -> Option<Flags>
@@ -297,10 +264,7 @@ fn with_flags(text: &[u8]) -> Option<Flags>
     };
     let mut rest = text;
     while let Some((first, after)) = cut(rest, b',') {
-        let Some(more) = with_flag(flags, first) else {
-            return None;
-        };
-        flags = more;
+        flags = with_flag(flags, first)?;
         rest = after;
     }
     with_flag(flags, rest)

@@ -4,12 +4,10 @@ ghost use Rattle.tcmu_model.specs.Layout.{ring_start, data_start};
 ghost use Rattle.tcmu_model.specs.MailboxReading.{IsMailbox};
 ghost use Rattle.tcmu_model.specs.EntryReading.{iov_at, lies_inside, tmr_id_at, first_outside, cdb_at, command_read, tmr_read, limit_of, least_of, kind_read, sized_read, entry_read, response_at, ReadsEntry, KeepsBounds};
 
+use mailbox_bytes::MAILBOX_LEN;
 use mailbox_bytes::fields::{le_u16_at, le_u32_at, le_u64_at, u8_at};
 use tcmu_model::{EntryFault, EntryRef, Mailbox, Response};
-use tcmu_types::{Cdb, Iov, group_length};
-
-/// Where the ring begins in the front.
-pub(crate) const RING_START: usize = 128;
+use tcmu_types::{Cdb, Iov, PAGE, group_length};
 
 /// The iovec of this number, from 0, of the command's entry at ring offset `at`, which lies in `front`, whatever its bytes say.
 #[tactic(auto, unfolding(tcmu_model::specs::EntryReading::iov_at))]
@@ -17,7 +15,7 @@ pub fn read_iov(front: &[u8], at: u32, index: u32) -> Iov
     requires { 128 + at + 64 + 16 * index ≤ length front.now }
     ensures { result ≡ iov_at front.now (128 + at) index }
 {
-    let slot = RING_START + at as usize + 48 + 16 * index as usize;
+    let slot = MAILBOX_LEN + at as usize + 48 + 16 * index as usize;
     Iov {
         base: le_u64_at(front, slot),
         len: le_u64_at(front, slot + 8),
@@ -31,7 +29,7 @@ pub fn read_tmr_id(front: &[u8], at: u32, index: u32) -> u16
     requires { 128 + at + 34 + 2 * index ≤ length front.now }
     ensures { result ≡ tmr_id_at front.now (128 + at) index }
 {
-    le_u16_at(front, RING_START + at as usize + 32 + 2 * index as usize)
+    le_u16_at(front, MAILBOX_LEN + at as usize + 32 + 2 * index as usize)
 }
 
 /// Whether an iovec lies inside the `area` bytes from `low` on.
@@ -87,7 +85,7 @@ fn read_cmd(
     requires inside { 128 + at + len ≤ length front.now }
     ensures { result ≡ command_read front.now area data_off (128 + at) len }
 {
-    let start = RING_START + at as usize;
+    let start = MAILBOX_LEN + at as usize;
     let iov_cnt = le_u32_at(front, start + 8);
     if len as u64 <= 48 + 16 * iov_cnt as u64 {
         return Err(EntryFault::BadCount(iov_cnt));
@@ -123,7 +121,7 @@ fn read_tmr(front: &[u8], at: u32, len: u32) -> Result<EntryRef, EntryFault>
     requires inside { 128 + at + len ≤ length front.now }
     ensures { result ≡ tmr_read front.now (128 + at) len }
 {
-    let start = RING_START + at as usize;
+    let start = MAILBOX_LEN + at as usize;
     let count = le_u32_at(front, start + 12);
     if (len as u64) < 32 + 2 * count as u64 {
         return Err(EntryFault::BadCount(count));
@@ -206,7 +204,7 @@ fn read_sized(
     if limit < len {
         return Err(EntryFault::PastEnd { len, limit });
     }
-    read_kind(front, area, 4096 + mailbox.cmdr_size, at, op, len)
+    read_kind(front, area, PAGE + mailbox.cmdr_size, at, op, len)
 }
 
 /// The entry at ring offset `at`, or the first rule of `EntryFault` that it breaks. `front` is the region before the data area, `area` how
@@ -227,7 +225,7 @@ pub fn read_entry(
     ensures exact { ReadsEntry front.now area mailbox.now at result }
     ensures bounds { IfOk result (λ entry. KeepsBounds front.now area mailbox.now at entry) }
 {
-    let word = le_u32_at(front, RING_START + at as usize);
+    let word = le_u32_at(front, MAILBOX_LEN + at as usize);
     read_sized(front, area, mailbox, at, (word % 8) as u8, word - word % 8)
 }
 
@@ -237,7 +235,7 @@ pub fn read_response(front: &[u8], at: u32) -> Response
     requires { 128 + at + 112 ≤ length front.now }
     ensures { result ≡ response_at front.now (128 + at) }
 {
-    let start = RING_START + at as usize;
+    let start = MAILBOX_LEN + at as usize;
     let mut sense = [0; 96];
     sense.copy_from_slice(&front[start + 16..start + 112]);
     Response {

@@ -4,7 +4,7 @@ ghost use Rattle.std.specs.Prelude.{◌≡◌, ℕ, ◌+◌, ◌-◌, ◌*◌, �
 ghost use Rattle.tcmu_model.specs.Lengths.{round_up, tmr_length};
 ghost use Rattle.tcmu_model.specs.Layout.{ring_start, put, padded, zeros, entry_header, pad_bytes, tmr_bytes, command_bytes, command_head, command_length, cdb_place, answer_bytes, iovs_bytes, ids_bytes, with_response};
 
-use crate::reading::RING_START;
+use mailbox_bytes::MAILBOX_LEN;
 use mailbox_bytes::fields::{put_bytes, put_u8, put_u16, put_u32, put_u64, put_zeros};
 use tcmu_types::{Cdb, Ids, Iovs, Reply, sense_bytes};
 
@@ -26,7 +26,7 @@ pub fn write_pad(front: &mut [u8], at: u32, len: u32)
     requires inside { ring_start + at + len ≤ length front.old }
     ensures { front.new ≡ put front.old (ring_start + at) (pad_bytes len) }
 {
-    let start = RING_START + at as usize;
+    let start = MAILBOX_LEN + at as usize;
     put_header(front, start, 0, len, 0);
     put_zeros(front, start + 8, len as usize - 8);
 }
@@ -85,7 +85,7 @@ pub fn write_request(front: &mut [u8], at: u32, id: u16, blocks: u32, iovs: &Iov
     requires fits { command_length blocks (length cdb.now) < 2 ^ 32 }
     ensures { front.new ≡ put front.old (ring_start + at) (command_bytes at id blocks iovs.now.items cdb.now) }
 {
-    let start = RING_START + at as usize;
+    let start = MAILBOX_LEN + at as usize;
     let place = 112_usize.max(48 + 16 * blocks as usize);
     let cdb = cdb.as_bytes();
     let cdb_len = (cdb.len() + 7) / 8 * 8;
@@ -110,7 +110,7 @@ pub fn write_tmr(front: &mut [u8], at: u32, kind: u8, ids: &Ids)
     requires fits { tmr_length (length ids.now.items) < 2 ^ 32 }
     ensures { front.new ≡ put front.old (ring_start + at) (tmr_bytes kind ids.now.items) }
 {
-    let start = RING_START + at as usize;
+    let start = MAILBOX_LEN + at as usize;
     let count = ids.len();
     let used = 32 + 2 * count;
     let len = (used + 7) / 8 * 8;
@@ -140,7 +140,7 @@ pub fn write_response(front: &mut [u8], at: u32, id: u16, reply: &Reply, read_le
     requires inside { ring_start + at + 112 ≤ length front.old }
     ensures { front.new ≡ with_response front.old at id reply.now read_len }
 {
-    let start = RING_START + at as usize;
+    let start = MAILBOX_LEN + at as usize;
     let status = reply.status.0;
     let (uflags, count) = match read_len {
         Some(count) => (2, count),

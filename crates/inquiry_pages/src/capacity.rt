@@ -3,8 +3,7 @@ ghost use Rattle.std.specs.Prelude.{◌≡◌, ◌-◌, ◌≤◌, nat_lt, if◌
 ghost use Rattle.tcmu_model.specs.Pages.{capacity10, capacity16};
 
 use byteorder::{BigEndian, ByteOrder};
-
-const BLOCK_BYTES: u32 = 512;
+use tcmu_types::LOGICAL_BLOCK;
 
 /// The last address of so many blocks, or FFFFFFFFh where 32 bits do not hold it.
 fn last_address(blocks: u64) -> u32
@@ -26,7 +25,7 @@ pub fn capacity10(blocks: u64) -> [u8; 8]
 {
     let mut data = [0; 8];
     BigEndian::write_u32(&mut data, last_address(blocks));
-    BigEndian::write_u32(&mut data[4..], BLOCK_BYTES);
+    BigEndian::write_u32(&mut data[4..], LOGICAL_BLOCK);
     data
 }
 
@@ -38,6 +37,6 @@ pub fn capacity16(blocks: u64) -> [u8; 32]
 {
     let mut data = [0; 32];
     BigEndian::write_u64(&mut data, blocks - 1);
-    BigEndian::write_u32(&mut data[8..], BLOCK_BYTES);
+    BigEndian::write_u32(&mut data[8..], LOGICAL_BLOCK);
     data
 }

@@ -4,7 +4,7 @@ ghost use Rattle.tcmu_model.specs.Lengths.{blocks_for, block_size};
 ghost use Rattle.tcmu_model.specs.Iovecs.{piece, iovs_along, EndBelow, Covers};
 ghost use Rattle.iovec_scatter.specs.Growing.{grown, growing, Ends};
 
-use tcmu_types::{BlockList, Iov, Iovs};
+use tcmu_types::{BlockList, Iov, Iovs, PAGE};
 
 /// The part of a payload in one block.
 fn piece(data_off: u64, size: u64, block: u32, left: u64) -> Iov
@@ -54,7 +54,7 @@ pub fn iovs_of(data_off: u64, pages: u32, blocks: &BlockList, len: u32, into: &m
     ensures value { into.new.items ≡ iovs_along data_off (block_size pages) blocks.now.items len }
     ensures covers { Covers data_off (block_size pages) blocks.now.items len into.new.items }
 {
-    let size = 4096 * pages as u64;
+    let size = (PAGE * pages) as u64;
     let mut grows: Option<Iov> = None;
     let mut left = len as u64;
     for block in blocks.as_slice() {

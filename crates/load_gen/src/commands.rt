@@ -6,10 +6,7 @@ ghost use Rattle.tcmu_model.specs.Load.{load_cdb, load_command, load_fill, load_
 
 use crate::numbers::{load_count, load_fill, load_lba, load_writes};
 use std::alloc::Global;
-use tcmu_types::{Bytes, Cdb, Command, Name, NoMemory};
-
-/// The bytes of a logical block.
-const BLOCK_BYTES: u16 = 512;
+use tcmu_types::{Bytes, Cdb, Command, LOGICAL_BLOCK, Name, NoMemory};
 
 /// The operation code READ(10) (SBC-3).
 const READ_10: u8 = 0x28;
@@ -43,7 +40,7 @@ fn filled(alloc: Global, byte: u8, count: u16) -> Result<Bytes, NoMemory>
     ensures { IfOk result (λ b. b.items ≡ replicate (count * 512) byte) }
 {
     let mut bytes = Bytes::new(alloc);
-    let length = usize::from(count) * usize::from(BLOCK_BYTES);
+    let length = usize::from(count) * LOGICAL_BLOCK as usize;
     bytes.reserve(length as u64)?;
     bytes.fill(byte, length);
     Ok(bytes)
@@ -72,7 +69,7 @@ pub fn load_command(alloc: Global, tag: u32, x: u64) -> Result<Command, NoMemory
         let cdb = cdb_of(WRITE_10, lba, count);
         return Ok(command_of(tag, cdb, sent, 0));
     }
-    let in_len = u32::from(count) * u32::from(BLOCK_BYTES);
+    let in_len = u32::from(count) * LOGICAL_BLOCK;
     let cdb = cdb_of(READ_10, lba, count);
     Ok(command_of(tag, cdb, Bytes::new(alloc), in_len))
 }

@@ -8,5 +8,5 @@ mod mailbox;
 mod tests;
 
 pub use laws::mailbox_reads_again;
-pub use mailbox::{read, write};
+pub use mailbox::{HEAD, MAILBOX_LEN, TAIL, read, write};
 pub use tcmu_model::{Mailbox, MailboxFault};

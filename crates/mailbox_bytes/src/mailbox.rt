@@ -5,6 +5,16 @@ ghost use Rattle.tcmu_model.specs.MailboxReading.{judged, mailbox_read, is_ring_
 
 use crate::fields::{le_u16_at, le_u32_at, put_u16, put_u32, put_zeros};
 use tcmu_model::{Mailbox, MailboxFault};
+use tcmu_types::{MOST_RING, PAGE};
+
+/// How many bytes a mailbox has; the command ring begins behind them.
+pub const MAILBOX_LEN: usize = 128;
+
+/// The byte at which the head stands, a number of 32 bits.
+pub const HEAD: usize = 12;
+
+/// The byte at which the tail stands, a number of 32 bits.
+pub const TAIL: usize = 64;
 
 /// Writes the mailbox over the first 128 bytes; its spare bytes are zero, and the rest stays.
 pub fn write(mailbox: &Mailbox, into: &mut [u8])
@@ -15,16 +25,16 @@ pub fn write(mailbox: &Mailbox, into: &mut [u8])
     put_u16(into, 2, mailbox.flags);
     put_u32(into, 4, mailbox.cmdr_off);
     put_u32(into, 8, mailbox.cmdr_size);
-    put_u32(into, 12, mailbox.head);
+    put_u32(into, HEAD, mailbox.head);
     put_zeros(into, 16, 48);
-    put_u32(into, 64, mailbox.tail);
+    put_u32(into, TAIL, mailbox.tail);
     put_zeros(into, 68, 60);
 }
 
 fn is_ring_size(size: u32) -> bool
     ensures { result ≡ is_ring_size size }
 {
-    4096 <= size && size <= 4_194_304 && size % 4096 == 0
+    PAGE <= size && size <= MOST_RING && size % PAGE == 0
 }
 
 /// The mailbox, or its first fault.
@@ -35,7 +45,7 @@ fn judged(mailbox: Mailbox) -> Result<Mailbox, MailboxFault>
     if mailbox.version != 2 {
         return Err(MailboxFault::Version(mailbox.version));
     }
-    if mailbox.cmdr_off != 128 {
+    if mailbox.cmdr_off != MAILBOX_LEN as u32 {
         return Err(MailboxFault::Offset(mailbox.cmdr_off));
     }
     if !is_ring_size(mailbox.cmdr_size) {
@@ -64,7 +74,7 @@ pub fn read(bytes: &[u8]) -> Result<Mailbox, MailboxFault>
     ensures exact { ReadsMailbox bytes.now result }
     ensures sound { IfOk result (λ m. IsMailbox m) }
 {
-    if bytes.len() < 128 {
+    if bytes.len() < MAILBOX_LEN {
         return Err(MailboxFault::Short(bytes.len() as u64));
     }
     judged(Mailbox {
@@ -72,7 +82,7 @@ pub fn read(bytes: &[u8]) -> Result<Mailbox, MailboxFault>
         flags: le_u16_at(bytes, 2),
         cmdr_off: le_u32_at(bytes, 4),
         cmdr_size: le_u32_at(bytes, 8),
-        head: le_u32_at(bytes, 12),
-        tail: le_u32_at(bytes, 64),
+        head: le_u32_at(bytes, HEAD),
+        tail: le_u32_at(bytes, TAIL),
     })
 }

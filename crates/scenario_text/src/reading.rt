@@ -14,6 +14,9 @@ use device_config::fields::cut;
 use std::alloc::Global;
 use tcmu_model::Why;
 
+/// The most bytes of a scenario.
+pub const MOST_TEXT: usize = 4_194_304;
+
 #[tactic(auto, unfolding(tcmu_model::specs::Scenario::is_not_yet))]
 fn is_not_yet(so_far: &SoFar, said: &SaidLine) -> bool
     ensures { result ≡ is_not_yet so_far.now (said_data said.now) }
@@ -77,7 +80,7 @@ pub fn read_scenario(alloc: Global, bytes: &[u8]) -> Result<Scenario, ScenarioFa
     ensures reading { Gives result (scenario_of bytes.now) }
     ensures limits { IfOk result IsScenario }
 {
-    if 4_194_304 < bytes.len() {
+    if bytes.len() > MOST_TEXT {
         return Err(ScenarioFault::Bad {
             line: 0,
             why: Why::TooLong,

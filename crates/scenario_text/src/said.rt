@@ -24,7 +24,9 @@ use device_config::fields::{cdb_of, flags_of, name_of, number_of, runs_of, seria
 use device_config::{Config, config_of_bytes};
 use std::alloc::Global;
 use tcmu_model::{ConfigFault, Verb, Why};
-use tcmu_types::{Bytes, Cdb, Command, Event, Name, NoMemory, Settings};
+use tcmu_types::{
+    Bytes, Cdb, Command, Event, MOST_PAYLOAD, MOST_RING, Name, NoMemory, PAGE, Settings,
+};
 
 /// What a line says: a device, or a line of a device.
 #[derive(Debug, Drop)]
@@ -69,8 +71,8 @@ fn device_config(
 fn ring_of(text: &[u8]) -> Option<u32>
     ensures { result ≡ ring_of text.now }
 {
-    let n = number_of(4096, 4_194_304, text)?;
-    if n % 4096 != 0 {
+    let n = number_of(PAGE as u64, MOST_RING as u64, text)?;
+    if n % PAGE as u64 != 0 {
         return None;
     }
     Some(n as u32)
@@ -166,7 +168,7 @@ fn payload_of(alloc: Global, payload: Payload<'_>) -> Result<(Bytes, u32), LineF
     match payload {
         Payload::Nothing => Ok((Bytes::new(alloc), 0)),
         Payload::InBytes(text) => {
-            let n = small_number(0, 1_048_576, text).ok_or(Why::Number)?;
+            let n = small_number(0, MOST_PAYLOAD, text).ok_or(Why::Number)?;
             Ok((Bytes::new(alloc), n))
         }
         Payload::OutRuns(text) => {

@@ -8,12 +8,10 @@ ghost use Rattle.shm_region.specs.Places.{LendsHome, LendsBytesIn};
 
 use iovec_scatter::Block;
 use mailbox_bytes::fields::{le_u32_at, put_bytes, put_u32};
-use mailbox_bytes::{Mailbox, write};
+use mailbox_bytes::{HEAD, MAILBOX_LEN, Mailbox, TAIL, write};
 use std::alloc::Global;
 use std::marker::Model;
-use tcmu_types::{Flags, NoMemory, Settings};
-
-const PAGE: u64 = 4096;
+use tcmu_types::{Flags, NoMemory, PAGE, Settings};
 
 /// The front, which is the mailbox and the command ring, and the data blocks, each at home or lent. Contracts see the bytes of both,
 /// and which blocks are lent.
@@ -48,11 +46,11 @@ fn new_front(alloc: Global, flags: Flags, ring: u32) -> Result<Vec<u8>, NoMemory
     requires { ring ≤ 4194304 }
     ensures { IfOk result (λ v. v.items ≡ padded (data_start ring) (mailbox_bytes (device_mailbox flags ring 0 0))) }
 {
-    let mut front = vec![in alloc; 0; 4096 + ring as usize]?;
+    let mut front = vec![in alloc; 0; (PAGE + ring) as usize]?;
     let mailbox = Mailbox {
         version: 2,
         flags: flag_bits(flags),
-        cmdr_off: 128,
+        cmdr_off: MAILBOX_LEN as u32,
         cmdr_size: ring,
         head: 0,
         tail: 0,
@@ -158,7 +156,7 @@ impl Region {
         ensures end { length (bytes_of self.now) ≡ length self.now.front + result }
     {
         let _ = self.data_off();
-        PAGE * self.pages as u64 * self.blocks.len() as u64
+        (PAGE * self.pages) as u64 * self.blocks.len() as u64
     }
 
     /// The bytes of a block.
@@ -167,7 +165,7 @@ impl Region {
         ensures least { 4096 ≤ result }
         ensures most { result ≤ 65536 }
     {
-        PAGE * self.pages as u64
+        (PAGE * self.pages) as u64
     }
 
     /// How many places for blocks there are, lent or not.
@@ -181,28 +179,28 @@ impl Region {
     pub fn head(&self) -> u32
         ensures { result ≡ field 4 head_place self.now.front }
     {
-        le_u32_at(&self.front, 12)
+        le_u32_at(&self.front, HEAD)
     }
 
     /// The tail that stands in the mailbox, whoever wrote it: a byte offset in the ring, if it is sound.
     pub fn tail(&self) -> u32
         ensures { result ≡ field 4 tail_place self.now.front }
     {
-        le_u32_at(&self.front, 64)
+        le_u32_at(&self.front, TAIL)
     }
 
     /// Writes the head of the mailbox, a byte offset in the ring that is not judged here, and no other byte.
     pub fn set_head(&mut self, at: u32)
         ensures { self.new ≡ record self.old { front = put self.old.front head_place (le 4 at) } }
     {
-        put_u32(&mut self.front, 12, at);
+        put_u32(&mut self.front, HEAD, at);
     }
 
     /// Writes the tail of the mailbox, a byte offset in the ring that is not judged here, and no other byte.
     pub fn set_tail(&mut self, at: u32)
         ensures { self.new ≡ record self.old { front = put self.old.front tail_place (le 4 at) } }
     {
-        put_u32(&mut self.front, 64, at);
+        put_u32(&mut self.front, TAIL, at);
     }
 
     /// The bytes of the block in a place, if it is at home.
@@ -291,7 +289,7 @@ impl Region {
         ensures ok { OnOk result (self.new ≡ record self.old { blocks = self.old.blocks ++ Some (zeros (size_of self.old)) ∷ [] }) }
         ensures err { OnErr result (self.new ≡ self.old) }
     {
-        let block = Block::zeros(alloc, 4096 * self.pages as usize)?;
+        let block = Block::zeros(alloc, (PAGE * self.pages) as usize)?;
         append(&mut self.blocks, block)
     }
 
@@ -357,7 +355,7 @@ impl Region {
         requires { block < length self.old.blocks }
         ensures { self.new ≡ with_block self.old block (option_map (overlaid (length self.old.front + size_of self.old * block) at bytes.now) (block_at self.old block)) }
     {
-        let place = self.data_off() + PAGE * self.pages as u64 * block;
+        let place = self.data_off() + (PAGE * self.pages) as u64 * block;
         if let Some(mut found) = self.take_block(block) {
             overlay_of(&mut found, place, at, bytes);
             self.put_block(block, found);

@@ -137,10 +137,7 @@ impl Table {
     pub fn next_due(&self, now: u64) -> Option<u16>
         ensures { result ≡ id_of (first_of (is_due now) self.now.rows) }
     {
-        let id = match id_at(&self.order, self.expired) {
-            Some(id) => id,
-            None => return None,
-        };
+        let id = id_at(&self.order, self.expired)?;
         let pending = match self.get(id) {
             Some(pending) => pending,
             None => unreachable!(),
@@ -275,19 +272,12 @@ fn rank_behind(order: &[Ranked], serial: u64) -> usize
 fn id_at(order: &[Ranked], rank: usize) -> Option<u16>
     ensures { result ≡ option_map (λ o. o.id) (slice_get order.now rank) }
 {
-    if rank < order.len() {
-        Some(order[rank].id)
-    } else {
-        None
-    }
+    order.get(rank).map(|ranked| ranked.id)
 }
 
 /// Whether a deadline, if there is one, is at most now.
 fn has_passed(now: u64, deadline: Option<u64>) -> bool
     ensures { result ≡ has_passed now deadline }
 {
-    match deadline {
-        Some(deadline) => deadline <= now,
-        None => false,
-    }
+    deadline.is_some_and(|deadline| deadline <= now)
 }

@@ -2,7 +2,7 @@
 ghost use Rattle.std.specs.Prelude.{◌≡◌, ◌≤◌, ◌<◌, ◌*◌, ◌^◌};
 ghost use Rattle.tcmu_model.specs.Lengths.{blocks_of, entry_length, tmr_length};
 
-use tcmu_types::Command;
+use tcmu_types::{Command, PAGE};
 
 /// How many data blocks of so many pages of 4096 bytes hold the command's payload.
 pub fn blocks_of(command: &Command, pages: u32) -> u32
@@ -11,7 +11,7 @@ pub fn blocks_of(command: &Command, pages: u32) -> u32
     ensures value { result ≡ blocks_of pages command.now }
     ensures most { result ≤ 256 }
 {
-    command.payload_length().div_ceil(4096 * pages)
+    command.payload_length().div_ceil(PAGE * pages)
 }
 
 /// How long the command's entry in the ring is, in bytes.

@@ -34,7 +34,10 @@ pub use laws_sound::{Answering, events_keep_sound, opening_is_sound, runs_keep_s
 pub use laws_states::{in_hand_law, placed_law, waiting_law};
 pub use lengths::{blocks_of, entry_length, tmr_length};
 pub use mailbox::{Mailbox, MailboxFault};
-pub use op::{CdbFault, Extent, Op};
+pub use op::{
+    CdbFault, Extent, MAXIMUM_UNMAP_DESCRIPTOR_COUNT, MAXIMUM_UNMAP_LBA_COUNT,
+    MAXIMUM_WRITE_SAME_LENGTH, Op,
+};
 pub use state::CommandState;
 pub use words::{Subtype, Verb};
 pub use worked::{

@@ -1,9 +1,18 @@
-//! What command descriptor blocks ask.
+//! What command descriptor blocks ask, and how much they may ask for.
 use thiserror::Error;
+
+/// MAXIMUM WRITE SAME LENGTH (SBC-3), in logical blocks.
+pub const MAXIMUM_WRITE_SAME_LENGTH: u32 = 2048;
+
+/// MAXIMUM UNMAP LBA COUNT (SBC-3): the most logical blocks of one UNMAP.
+pub const MAXIMUM_UNMAP_LBA_COUNT: u32 = 32_768;
+
+/// MAXIMUM UNMAP BLOCK DESCRIPTOR COUNT (SBC-3): the most ranges of one UNMAP.
+pub const MAXIMUM_UNMAP_DESCRIPTOR_COUNT: u32 = 256;
 
 /// The operations that are served (SPC-4, SBC-3). Addresses and counts are in logical blocks of 512 bytes, limits and lengths in
 /// bytes; a limit is the allocation length, to which the answer is cut.
-#[derive(Clone, Copy, Debug)]
+#[derive(Clone, Copy, Debug, PartialEq, Eq)]
 pub enum Op {
     TestUnitReady,
     RequestSense { limit: u32 },

@@ -6,10 +6,8 @@ ghost use Rattle.tcmu_top.specs.Calls.{TookFront};
 ghost use Rattle.tcmu_top.specs.declared.reading.Unread.TheVariants.{NoMemory as Wanting};
 
 use edge::Source;
+use scenario_text::MOST_TEXT;
 use std::alloc::{AllocError, Global};
-
-/// The most bytes that a scenario has.
-const MOST_BYTES: usize = 4194304;
 
 /// Why a source was not read to its end.
 #[derive(Clone, Copy, Debug, PartialEq, Eq)]
@@ -41,7 +39,7 @@ pub fn read_all<S: Source>(alloc: Global, src: &mut S) -> Result<Vec<u8>, Unread
 {
     let mut bytes = Vec::new(alloc);
     let mut piece = [0u8; 4096];
-    while bytes.len() <= MOST_BYTES {
+    while bytes.len() <= MOST_TEXT {
         let Ok(n) = src.read(&mut piece) else {
             return Err(Unread::Failed);
         };

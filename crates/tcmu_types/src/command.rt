@@ -3,12 +3,9 @@ ghost use Rattle.std.specs.Prelude.{◌≡◌, ◌≤◌, ◌<◌, ◌==◌, if�
 ghost use Rattle.tcmu_types.specs.Data.{CommandData};
 ghost use Rattle.tcmu_types.specs.Rules.{IsCommand, is_sendable, takes_payload, payload_length};
 
-use crate::{Bytes, Cdb, Name, NoMemory, takes_payload};
+use crate::{Bytes, Cdb, MOST_PAYLOAD, Name, NoMemory, takes_payload};
 use std::alloc::Global;
 use std::marker::Model;
-
-/// The most bytes that a command carries, in either direction.
-const MOST_PAYLOAD: usize = 1_048_576;
 
 /// A SCSI command: its initiator and task tag (SAM-5), its command descriptor block, the bytes sent with it, and how many bytes
 /// it asks for. Data goes in one direction alone.
@@ -39,12 +36,13 @@ impl Command {
         ensures { let c : CommandData = record { init = init; tag = tag; cdb = cdb; sent = sent.items; in_len = in_len } in
             result ≡ (if is_sendable c then Some c else None) }
     {
+        // what this call ensures is used: a name keeps its rule
         let _name = init.as_bytes();
         let sends = takes_payload(&cdb);
         if sends && in_len > 0 || !sends && sent.len() > 0 {
             return None;
         }
-        if sent.len() > MOST_PAYLOAD || in_len as usize > MOST_PAYLOAD {
+        if sent.len() > MOST_PAYLOAD as usize || in_len > MOST_PAYLOAD {
             return None;
         }
         Some(Command {

@@ -14,6 +14,7 @@ mod list;
 mod name;
 mod reply;
 mod settings;
+mod sizes;
 mod stat;
 #[cfg(test)]
 mod tests;
@@ -30,4 +31,5 @@ pub use list::{BlockList, Bytes, Ids, Listed, NoMemory, Serials, Words};
 pub use name::Name;
 pub use reply::{Done, Reply, ScsiStatus, Sense, sense_bytes, sense_of};
 pub use settings::{Flags, Settings};
+pub use sizes::{LOGICAL_BLOCK, MOST_PAYLOAD, MOST_RING, PAGE};
 pub use stat::{Stat, Todo};

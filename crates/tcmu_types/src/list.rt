@@ -126,13 +126,11 @@ impl<T> Listed<T> {
 
     /// Appends an item in the room that is there.
     pub fn push(&mut self, item: T)
-    where
-        T: Drop,
         requires { 1 ≤ self.old.spare }
         ensures items { self.new.items ≡ self.old.items ++ item ∷ [] }
         ensures room { self.old.spare ≤ self.new.spare + 1 }
     {
-        self.items.push(item).unwrap();
+        self.items.push_reserved(item);
     }
 }
 
@@ -164,7 +162,7 @@ impl<T: Copy> Listed<T> {
         ensures room { self.old.spare ≤ self.new.spare + count }
     {
         let length = self.items.len() + count;
-        let _ = self.items.resize(length, item);
+        self.items.resize(length, item).unwrap();
     }
 }
 
