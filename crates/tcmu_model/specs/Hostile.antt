@@ -1,18 +1,18 @@
 -- Worked examples: what the two sides make of bytes that the other one has no right to write.
-use Rattle.std.specs.Prelude.{◌≡◌, ℕ, ◌+◌, true, List, [], ◌∷◌, map, replicate, slice_index, Some, None, Ok, Err, Result}
+use Rattle.std.specs.Prelude.{◌≡◌, ℕ, ◌+◌, true, List, [], ◌∷◌, ◌++◌, map, replicate, slice_index, Some, None, Ok, Err, Result}
 use Rattle.tcmu_types.specs.Data.{CommandData, ReplyData}
 use Rattle.tcmu_types.specs.declared.iovec.Iov.{Iov}
 use Rattle.tcmu_model.specs.declared.mailbox.MailboxFault.{MailboxFault}
 use Rattle.tcmu_model.specs.declared.mailbox.MailboxFault.TheVariants as mailbox
 use Rattle.tcmu_model.specs.declared.entry.EntryFault.TheVariants as entry
-use Rattle.tcmu_model.specs.Layout.{le, put, ring_start, head_place, tail_place, answer_bytes, command_bytes, with_response}
+use Rattle.tcmu_model.specs.Layout.{le, put, ring_start, head_place, tail_place, answer_bytes, command_bytes, tmr_bytes, with_response}
 use Rattle.tcmu_model.specs.Regions.{RegionState, opening_region, grown_to, shrunk_to}
 use Rattle.tcmu_model.specs.Examples.{dev, read_one}
 use Rattle.tcmu_model.specs.Sides.{TargetState, Copied, JobState, UserState}
 use Rattle.tcmu_model.specs.TargetSteps.{opening_target, target_submit_answer, target_submitted, region_submitted, target_blocked}
 use Rattle.tcmu_model.specs.TargetCleans.{Logged, BadTail, Broken, target_clean_answer, target_cleaned, target_reset}
 use Rattle.tcmu_model.specs.UserSteps.{user_attached, user_responded}
-use Rattle.tcmu_model.specs.UserNext.{NextAnswer, Job, Nothing, BadMailbox, BadEntry, nexted}
+use Rattle.tcmu_model.specs.UserNext.{NextAnswer, Job, Note, Nothing, BadMailbox, BadEntry, nexted}
 
 -- ==== the target
 
@@ -162,3 +162,49 @@ pub record AreaGone : Type 0 where
   pub job : first_next iovec_inside (user_attached (opening_region dev)) ≡ Job inside_job
   pub only : then_responds (user_attached (opening_region dev))
       ≡ record (shrunk_to iovec_inside 0) { front = with_response iovec_inside.front 0 1 good_reply None }
+
+-- ==== a copied job whose block stays
+
+unfoldable pub answers_inside : Result UserState MailboxFault → RegionState
+answers_inside (Err fault) = iovec_inside
+answers_inside (Ok u) =
+    (user_responded (nexted iovec_inside u).region (nexted iovec_inside u).user (record { job = inside_job; reply = good_reply })).region
+
+-- the block's bytes from 8 on take the payload, the response is written, and nothing else
+pub record AreaThere : Type 0 where
+  pub only : answers_inside (user_attached (opening_region dev))
+      ≡ record iovec_inside {
+        front = with_response iovec_inside.front 0 1 good_reply None;
+        blocks = Some (replicate 8 0 ++ 1 ∷ 2 ∷ 3 ∷ replicate 4085 0) ∷ [];
+      }
+
+-- WRITE(10) of one logical block
+unfoldable pub write_cdb : List ℕ
+write_cdb = 0x2a ∷ 0 ∷ 0 ∷ 0 ∷ 0 ∷ 0 ∷ 0 ∷ 0 ∷ 1 ∷ 0 ∷ []
+
+unfoldable pub full_block : List ℕ
+full_block = replicate 4096 7
+
+-- a write whose one iovec begins inside a block that is full
+unfoldable pub write_inside : RegionState
+write_inside =
+    with_head
+    (scrawled (record (opening_region dev) { blocks = Some full_block ∷ [] }) ring_start
+    (command_bytes 0 1 1 (record { base = 8200; len = 512 } ∷ []) write_cdb))
+    128
+
+-- the job has the bytes that its iovec names, copied
+abbrev pub CopiesOut : Type 0
+CopiesOut =
+    first_next write_inside (user_attached (opening_region dev))
+    ≡ Job (record { id = 1; cdb = write_cdb; iovs = record { base = 8200; len = 512 } ∷ []; carried = Copied (replicate 512 7); in_len = 0 })
+
+-- ==== a note that names a command more than once
+
+-- behind the entry of that job, a task management entry that names it three times, and an id that no job has once
+unfoldable pub named_again : RegionState
+named_again = with_head (scrawled iovec_inside (ring_start + 128) (tmr_bytes 1 (1 ∷ 1 ∷ 9 ∷ 1 ∷ []))) 168
+
+-- the note has the id as often as the entry
+abbrev pub NotesAgain : Type 0
+NotesAgain = finds_twice named_again ≡ Job inside_job ∷ Note 1 (1 ∷ 1 ∷ 1 ∷ []) ∷ []

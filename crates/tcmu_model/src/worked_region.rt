@@ -1,7 +1,7 @@
 //! Worked examples: what the definitions give for bytes that the other side has no right to write, for dumps, and for a command on its way.
 ghost use Rattle.tcmu_model.specs.Shown.{ShowsMailbox, ShowsPadding, ShowsTwoPages, Clears, Serves};
 ghost use Rattle.tcmu_model.specs.SideExamples.{WaitsFive, ExpireOnce, CleansOne, Answers};
-ghost use Rattle.tcmu_model.specs.Hostile.{IdOfNone, TailInside, IdTwice, LengthPastData, SaidUnknown, NoLength, HeadUnaligned, OpUnknown, IovecBefore, OtherSize, AreaGone};
+ghost use Rattle.tcmu_model.specs.Hostile.{IdOfNone, TailInside, IdTwice, LengthPastData, SaidUnknown, NoLength, HeadUnaligned, OpUnknown, IovecBefore, OtherSize, AreaGone, AreaThere, CopiesOut, NotesAgain};
 
 /// The target over bytes that a user side wrote: a wrong id, a wrong tail, an id twice, a length past the data, an unknown entry.
 pub fn target_examples()
@@ -13,7 +13,8 @@ pub fn target_examples()
 {}
 
 /// The user side over bytes that a target wrote: a length of 0, heads and sizes that break the mailbox's rules, an unknown opcode,
-/// an iovec outside the data area, and a data area that goes away under a job.
+/// an iovec outside the data area, iovecs inside a block, whose data area goes away under a job or stays, and a task management entry
+/// that names a command more than once.
 pub fn user_examples()
     ensures no_length { NoLength }
     ensures head_unaligned { HeadUnaligned }
@@ -21,6 +22,9 @@ pub fn user_examples()
     ensures iovec_before { IovecBefore }
     ensures other_size { OtherSize }
     ensures area_gone { AreaGone }
+    ensures area_there { AreaThere }
+    ensures copies_out { CopiesOut }
+    ensures notes_again { NotesAgain }
 {}
 
 /// The picture of a device as it opens, of one whose entry stands behind padding, and of one whose data blocks have two pages.
