@@ -1,5 +1,5 @@
 -- Every run keeps what a device has tied to the run's journal.
-use Rattle.std.proofs.Common.{◌≡◌, inl, inr, ℕ, Bool, true, false, not, List, [], ◌∷◌, ◌++◌, map, refl, sym, ap, ◌∙◌, subst, append_assoc, append-nil, Some, None, Option, ⊎_elim, if◌then◌else◌, ◌&&◌, ◌==◌}
+use Rattle.std.proofs.Common.{◌≡◌, inl, inr, ℕ, Bool, true, false, not, List, [], ◌∷◌, ◌++◌, ◌+◌, length, map, refl, sym, ap, ◌∙◌, subst, append_assoc, append-nil, Some, None, Option, ⊎_elim, if◌then◌else◌, ◌&&◌, ◌==◌}
 use Rattle.std.specs.List.{list_any, filter}
 use Rattle.std.specs.Prelude.{IfSome}
 use Rattle.std.proofs.lemmas.Bool.{cases_Bool}
@@ -12,6 +12,8 @@ use Rattle.tcmu_types.specs.declared.answer.Enter.{Enter}
 use Rattle.tcmu_types.specs.declared.answer.Enter.TheVariants as enter
 use Rattle.tcmu_types.specs.declared.answer.Handle.{Handle}
 use Rattle.tcmu_types.specs.declared.answer.Handle.TheVariants as handle
+use Rattle.tcmu_types.specs.declared.answer.Reset.{Reset}
+use Rattle.tcmu_types.specs.declared.answer.Reset.TheVariants as answer
 use Rattle.tcmu_types.specs.declared.answer.Tmr.{Tmr as TmrAnswer}
 use Rattle.tcmu_types.specs.declared.answer.Tmr.TheVariants as tmr
 use Rattle.tcmu_model.specs.declared.state.CommandState.{CommandState}
@@ -20,10 +22,10 @@ use Rattle.tcmu_model.specs.MediumState.{MediumState}
 use Rattle.tcmu_model.specs.Lists.{first_of, with_first, without_first}
 use Rattle.tcmu_model.specs.RingState.{Item, Laid, Pad, Cmd, Tmr, serials_in}
 use Rattle.tcmu_model.specs.Device.{Unfinished, Delayed, DeviceState, Device, is_at, has_state, opening}
-use Rattle.tcmu_model.specs.Events.{with_command, with_delayed, with_note, after_submit, after_entering, after_enter, in_state, next_item, passed, after_item, after_dispatch, with_reply, after_handle, is_among, Placing, with_placed, run_placed, placed_by, placing, is_handled, with_parked, after_respond, publishable, after_publish, completion, completions, Books, finish, finish_all, answered, books, after_clean, later, is_due, has_left, expire, expiry, departure, tick_completions, after_tick, after_block, is_open, closing, check_condition, reset_completion, reset_completions, emptied, count_in_hand, after_reset, is_losing, lose, after_restart, after_tmr}
+use Rattle.tcmu_model.specs.Events.{with_command, with_delayed, with_note, after_submit, after_entering, after_enter, in_state, next_item, passed, after_item, after_dispatch, with_reply, after_handle, is_among, Placing, with_placed, run_placed, placed_by, placing, is_handled, with_parked, after_respond, publishable, after_publish, completion, completions, Books, finish, finish_all, answered, books, after_clean, later, is_due, has_left, expire, expiry, departure, tick_completions, after_tick, after_block, is_open, closing, check_condition, reset_completion, reset_completions, emptied, count_in_hand, clean_answer, reset_answer, after_reset, is_losing, lose, after_restart, after_tmr}
 use Rattle.tcmu_model.specs.Steps.{HandlerRelation, moved, Makes, Handles, Step, Run}
 use Rattle.tcmu_model.specs.Sound.{Every}
-use Rattle.tcmu_model.specs.Journals.{Has, WasAccepted, HasReplied, IsAnswered, IsClosed, IsExplained, IsKnown, IsOfJournal, expired, left, reset}
+use Rattle.tcmu_model.specs.Journals.{Has, WasDelayed, WasAccepted, HasReplied, HasTicked, WasReset, IsAnswered, IsClosed, IsExplained, IsKnown, IsOfJournal, expired, left, reset}
 use Rattle.tcmu_model.proofs.Counts.{serial_at}
 use Rattle.tcmu_model.proofs.Everies.{every-weaker, every-map, every-append, every-filter, every-with_first, every-without_first, every-first}
 use Rattle.tcmu_model.proofs.SoundEvents.{reset_serial}
@@ -47,6 +49,11 @@ replied_more : (es : List EntryData) (e : EntryData) (s : ℕ) (o : Option Reply
 replied_more es e s None h = tt
 replied_more es e s (Some reply) h = has_more es e _ _ h
 
+closed_more : (es : List EntryData) (e : EntryData) (c : CommandData) (x : DoneData) → IsClosed es c x → IsClosed (es ++ e ∷ []) c x
+closed_more es e c x (expired t q) = expired (t.0, t.1, has_more es e _ _ t.2) q
+closed_more es e c x (left t w q) = left (t.0, t.1, has_more es e _ _ t.2) (has_more es e _ _ w) q
+closed_more es e c x (reset level z q) = reset level (z.0, has_more es e _ _ z.1) q
+
 explained_more : (es : List EntryData) (e : EntryData) (read_len : Bool) (x : DoneData) → IsExplained es read_len x → IsExplained (es ++ e ∷ []) read_len x
 explained_more es e read_len x h =
     record {
@@ -54,14 +61,14 @@ explained_more es e read_len x h =
       accepted = accepted_more es e x.serial h.command h.accepted;
       cause = ⊎_elim
           (λ (a : IsAnswered es read_len h.command x). inl (record { command = a.command; reply = a.reply; replied = has_more es e _ _ a.replied; serial = a.serial; sent = a.sent; carries = a.carries }))
-          (λ (a : IsClosed h.command x). inr a) h.cause;
+          (λ (a : IsClosed es h.command x). inr (closed_more es e h.command x a)) h.cause;
     }
 
 longer : (es : List EntryData) (e : EntryData) (d : DeviceState) → IsOfJournal es d → IsOfJournal (es ++ e ∷ []) d
 longer es e d h =
     record {
       unfinished = every-weaker (IsKnown es) (IsKnown (es ++ e ∷ [])) d.unfinished (λ u k. record { accepted = accepted_more es e u.serial u.command k.accepted; replied = replied_more es e u.serial u.reply k.replied }) h.unfinished;
-      delayed = every-weaker (λ w. WasAccepted es w.serial w.command) (λ w. WasAccepted (es ++ e ∷ []) w.serial w.command) d.delayed (λ w k. accepted_more es e w.serial w.command k) h.delayed;
+      delayed = every-weaker (λ w. WasDelayed es w.serial w.command) (λ w. WasDelayed (es ++ e ∷ []) w.serial w.command) d.delayed (λ w k. has_more es e _ _ k) h.delayed;
       log = every-weaker (IsExplained es d.settings.flags.read_len) (IsExplained (es ++ e ∷ []) d.settings.flags.read_len) d.log (λ x k. explained_more es e d.settings.flags.read_len x k) h.log;
     }
 
@@ -72,17 +79,17 @@ unfolding after_submit with_command with_delayed
 of_submit js d c (submit.Queued s) e h =
     record { unfinished = every-append (IsKnown js) d.unfinished _ h.unfinished (record { accepted = inl e; replied = tt }, tt); delayed = h.delayed; log = h.log }
 of_submit js d c (submit.Delayed s) e h =
-    record { unfinished = h.unfinished; delayed = every-append (λ w. WasAccepted js w.serial w.command) d.delayed _ h.delayed (inr e, tt); log = h.log }
+    record { unfinished = h.unfinished; delayed = every-append (λ w. WasDelayed js w.serial w.command) d.delayed _ h.delayed (e, tt); log = h.log }
 of_submit js d c submit.Busy e h = h
 of_submit js d c (submit.TooBig have limit) e h = h
 of_submit js d c (submit.FullRing need free) e h = h
 of_submit js d c (submit.FullBlocks need free) e h = h
 
-of_entering : (js : List EntryData) (d : DeviceState) (ws : List Delayed) → Every (λ w. WasAccepted js w.serial w.command) ws → IsOfJournal js d → IsOfJournal js (after_entering d ws)
+of_entering : (js : List EntryData) (d : DeviceState) (ws : List Delayed) → Every (λ w. WasDelayed js w.serial w.command) ws → IsOfJournal js d → IsOfJournal js (after_entering d ws)
 unfolding with_command
 of_entering js d [] e h = h
 of_entering js d (w ∷ ws) e h =
-    record { unfinished = every-append (IsKnown js) d.unfinished _ h.unfinished (record { accepted = e.0; replied = tt }, tt); delayed = e.1; log = h.log }
+    record { unfinished = every-append (IsKnown js) d.unfinished _ h.unfinished (record { accepted = inr e.0; replied = tt }, tt); delayed = e.1; log = h.log }
 
 of_enter : (js : List EntryData) (d : DeviceState) (a : Enter) → IsOfJournal js d → IsOfJournal js (after_enter d a)
 unfolding after_enter
@@ -203,38 +210,38 @@ known_expire js now u k = go (is_due now u)
     go true = record { accepted = k.accepted; replied = k.replied }
     go false = k
 
-of_tick : (js : List EntryData) (d : DeviceState) (n : ℕ) → IsOfJournal js d → IsOfJournal js (after_tick d n)
+of_tick : (js : List EntryData) (d : DeviceState) (n : ℕ) → HasTicked js → IsOfJournal js d → IsOfJournal js (after_tick d n)
 unfolding after_tick
-of_tick js d n h =
+of_tick js d n t h =
     let now : ℕ = later d.now n in
     let E : DoneData → Type 0 = IsExplained js d.settings.flags.read_len in
     let due : List Unfinished = filter (is_due now) d.unfinished in
     let gone : List Delayed = filter (has_left now) d.delayed in
     record {
       unfinished = every-map (expire now) (IsKnown js) (IsKnown js) d.unfinished (λ u k. known_expire js now u k) h.unfinished;
-      delayed = every-filter (λ w. not (has_left now w)) (λ w. WasAccepted js w.serial w.command) d.delayed h.delayed;
+      delayed = every-filter (λ w. not (has_left now w)) (λ w. WasDelayed js w.serial w.command) d.delayed h.delayed;
       log = every-append E d.log (tick_completions d now) h.log
           (every-append E (map expiry due) (map departure gone)
-          (every-map expiry (IsKnown js) E due (λ u k. record { command = u.command; accepted = k.accepted; cause = inr (expired refl) }) (every-filter (is_due now) (IsKnown js) d.unfinished h.unfinished))
-          (every-map departure (λ w. WasAccepted js w.serial w.command) E gone (λ w k. record { command = w.command; accepted = k; cause = inr (left refl) })
-          (every-filter (has_left now) (λ w. WasAccepted js w.serial w.command) d.delayed h.delayed)));
+          (every-map expiry (IsKnown js) E due (λ u k. record { command = u.command; accepted = k.accepted; cause = inr (expired t refl) }) (every-filter (is_due now) (IsKnown js) d.unfinished h.unfinished))
+          (every-map departure (λ w. WasDelayed js w.serial w.command) E gone (λ w k. record { command = w.command; accepted = inr k; cause = inr (left t k refl) })
+          (every-filter (has_left now) (λ w. WasDelayed js w.serial w.command) d.delayed h.delayed)));
     }
 
 of_block : (js : List EntryData) (d : DeviceState) (b : Bool) → IsOfJournal js d → IsOfJournal js (after_block d b)
 unfolding after_block
 of_block js d b h = record { unfinished = h.unfinished; delayed = h.delayed; log = h.log }
 
-reset_explains : (js : List EntryData) (read_len : Bool) (level s : ℕ) (c : CommandData) → WasAccepted js s c → IsExplained js read_len (reset_completion level s c)
-reset_explains js read_len level s c a =
+reset_explains : (js : List EntryData) (read_len : Bool) (level s : ℕ) (c : CommandData) → WasReset js level → WasAccepted js s c → IsExplained js read_len (reset_completion level s c)
+reset_explains js read_len level s c z a =
     let e : (reset_completion level s c).serial ≡ s = reset_serial level s c in
     record {
       command = c;
       accepted = subst (λ (n : ℕ). WasAccepted js n c) (sym e) a;
-      cause = inr (reset level (ap (λ (n : ℕ). reset_completion level n c) (sym e)));
+      cause = inr (reset level z (ap (λ (n : ℕ). reset_completion level n c) (sym e)));
     }
 
-of_emptied : (js : List EntryData) (d : DeviceState) (level : ℕ) → IsOfJournal js d → IsOfJournal js (emptied d level)
-of_emptied js d level h =
+of_emptied : (js : List EntryData) (d : DeviceState) (level : ℕ) → WasReset js level → IsOfJournal js d → IsOfJournal js (emptied d level)
+of_emptied js d level z h =
     let E : DoneData → Type 0 = IsExplained js d.settings.flags.read_len in
     let opened : List Unfinished = filter is_open d.unfinished in
     record {
@@ -242,21 +249,23 @@ of_emptied js d level h =
       delayed = tt;
       log = every-append E d.log (reset_completions d level) h.log
           (every-append E (map (λ u. reset_completion level u.serial u.command) opened) (map (λ w. reset_completion level w.serial w.command) d.delayed)
-          (every-map (λ u. reset_completion level u.serial u.command) (IsKnown js) E opened (λ u k. reset_explains js d.settings.flags.read_len level u.serial u.command k.accepted) (every-filter is_open (IsKnown js) d.unfinished h.unfinished))
-          (every-map (λ w. reset_completion level w.serial w.command) (λ w. WasAccepted js w.serial w.command) E d.delayed (λ w k. reset_explains js d.settings.flags.read_len level w.serial w.command k) h.delayed));
+          (every-map (λ u. reset_completion level u.serial u.command) (IsKnown js) E opened (λ u k. reset_explains js d.settings.flags.read_len level u.serial u.command z k.accepted) (every-filter is_open (IsKnown js) d.unfinished h.unfinished))
+          (every-map (λ w. reset_completion level w.serial w.command) (λ w. WasDelayed js w.serial w.command) E d.delayed (λ w k. reset_explains js d.settings.flags.read_len level w.serial w.command z (inr k)) h.delayed));
     }
 
 clean_settings : (d : DeviceState) → (after_clean d).settings ≡ d.settings
 unfolding after_clean
 clean_settings d = refl
 
-of_reset : (js : List EntryData) (d : DeviceState) (level : ℕ) → IsOfJournal js d → IsOfJournal js (after_reset d level)
-unfolding after_reset
-of_reset js d level h = go (d.blocked && (count_in_hand d == 0))
+of_reset : (js : List EntryData) (d : DeviceState) (level : ℕ) (a : Reset) → Has js (ev.Reset level) (ev.WasReset a) → a ≡ reset_answer d level → IsOfJournal js d → IsOfJournal js (after_reset d level)
+unfolding after_reset reset_answer
+of_reset js d level a e q h = go d.blocked (count_in_hand d == 0) q
   where
-    go : (b : Bool) → IsOfJournal js (if b then emptied (after_clean d) level else d)
-    go true = of_emptied js (after_clean d) level (of_clean js d h)
-    go false = h
+    go : (b none : Bool) → a ≡ (if b then (if none then answer.Reset (clean_answer d + length (reset_completions (after_clean d) level)) else answer.HandlersOut (count_in_hand d)) else answer.NotBlocked)
+        → IsOfJournal js (if b && none then emptied (after_clean d) level else d)
+    go true true q = of_emptied js (after_clean d) level (_, subst (λ x. Has js (ev.Reset level) (ev.WasReset x)) q e) (of_clean js d h)
+    go true false q = h
+    go false none q = h
 
 known_lose : (js : List EntryData) (ps : List ℕ) (u : Unfinished) → IsKnown js u → IsKnown js (lose ps u)
 known_lose js ps u k = go (is_losing ps u) (has_state Placed u)
@@ -295,10 +304,10 @@ made R js d d' (ev.Handle s) (ev.Answered a) e h m = handled R js d d' s a e h m
 made R js d d' (ev.Respond s) (ev.Responded a) e h m = goes js d d' (after_respond d.state s) m.after (of_respond js d.state s h)
 made R js d d' ev.Publish (ev.Published a) e h m = goes js d d' (after_publish d.state) m.after (of_publish js d.state h)
 made R js d d' ev.Clean (ev.Logged n) e h m = goes js d d' (after_clean d.state) m.after (of_clean js d.state h)
-made R js d d' (ev.Tick n) (ev.Logged count) e h m = goes js d d' (after_tick d.state n) m.after (of_tick js d.state n h)
+made R js d d' (ev.Tick n) (ev.Logged count) e h m = goes js d d' (after_tick d.state n) m.after (of_tick js d.state n (n, count, e) h)
 made R js d d' ev.Block (ev.Changed b) e h m = goes js d d' (after_block d.state true) m.after (of_block js d.state true h)
 made R js d d' ev.Unblock (ev.Changed b) e h m = goes js d d' (after_block d.state false) m.after (of_block js d.state false h)
-made R js d d' (ev.Reset level) (ev.WasReset a) e h m = goes js d d' (after_reset d.state level) m.after (of_reset js d.state level h)
+made R js d d' (ev.Reset level) (ev.WasReset a) e h m = goes js d d' (after_reset d.state level) m.after (of_reset js d.state level a e m.answer h)
 made R js d d' ev.Restart (ev.Lost n) e h m = goes js d d' (after_restart d.state) m.after (of_restart js d.state h)
 made R js d d' (ev.Tmr kind ss) (ev.Noted a) e h m = goes js d d' (after_tmr d.state kind ss a) m.after (of_tmr js d.state kind ss a h)
 made R js d d' ev.Stat (ev.Told a) e h m = subst (λ (x : Device). IsOfJournal js x.state) (sym m.after) h
@@ -326,10 +335,10 @@ reset_sender level s c = go (level == 1)
     go true = (refl, refl)
     go false = (refl, refl)
 
-closed_sender : (c : CommandData) (e : DoneData) → IsClosed c e → (e.init ≡ c.init) × (e.tag ≡ c.tag)
-closed_sender c e (expired q) = (ap (λ (x : DoneData). x.init) q, ap (λ (x : DoneData). x.tag) q)
-closed_sender c e (left q) = (ap (λ (x : DoneData). x.init) q, ap (λ (x : DoneData). x.tag) q)
-closed_sender c e (reset level q) =
+closed_sender : (es : List EntryData) (c : CommandData) (e : DoneData) → IsClosed es c e → (e.init ≡ c.init) × (e.tag ≡ c.tag)
+closed_sender es c e (expired t q) = (ap (λ (x : DoneData). x.init) q, ap (λ (x : DoneData). x.tag) q)
+closed_sender es c e (left t w q) = (ap (λ (x : DoneData). x.init) q, ap (λ (x : DoneData). x.tag) q)
+closed_sender es c e (reset level z q) =
     let r = reset_sender level e.serial c in
     (ap (λ (x : DoneData). x.init) q ∙ r.0, ap (λ (x : DoneData). x.tag) q ∙ r.1)
 
@@ -342,7 +351,7 @@ HasSender es e = (c : CommandData) × WasAccepted es e.serial c × (e.init ≡ c
 
 explained_sender : (es : List EntryData) (read_len : Bool) (e : DoneData) → IsExplained es read_len e → HasSender es e
 explained_sender es read_len e h =
-    let r : (e.init ≡ h.command.init) × (e.tag ≡ h.command.tag) = ⊎_elim (λ (a : IsAnswered es read_len h.command e). answered_sender es read_len h.command e a) (λ (a : IsClosed h.command e). closed_sender h.command e a) h.cause in
+    let r : (e.init ≡ h.command.init) × (e.tag ≡ h.command.tag) = ⊎_elim (λ (a : IsAnswered es read_len h.command e). answered_sender es read_len h.command e a) (λ (a : IsClosed es h.command e). closed_sender es h.command e a) h.cause in
     (h.command, h.accepted, r.0, r.1)
 
 pub run_senders : (R : HandlerRelation) (s : SettingsData) (name : List ℕ) (medium : MediumState) (es : List EntryData) (d : Device) → Run R (opening s name medium) es d →
