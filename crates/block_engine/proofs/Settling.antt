@@ -1,6 +1,6 @@
 -- What each part of a request's meaning settles: it has an outcome; under a premise it has only one; and as much is told of the
 -- medium after it as before.
-use Rattle.std.proofs.Common.{◌∙◌, ◌≡◌, ℕ, zero, suc, ◌+◌, ◌*◌, ◌<◌, ◌≤◌, ◌==◌, min, Bool, true, false, List, [], ◌∷◌, length, take, drop, sym, ap, subst, refl, arith, Option, Some, None, IfSome, is_some, MatchOption, Result, Ok, Err, MatchResult, slice_index, nat_eq, nat_lt, not, if◌then◌else◌, ⊎_elim}
+use Rattle.std.proofs.Common.{◌∙◌, ◌≡◌, ◌⊎◌, inl, inr, ℕ, zero, suc, ◌+◌, ◌*◌, ◌<◌, ◌≤◌, ◌==◌, min, Bool, true, false, List, [], ◌∷◌, length, take, drop, sym, ap, subst, refl, arith, Option, Some, None, IfSome, is_some, MatchOption, Result, Ok, Err, MatchResult, slice_index, nat_eq, nat_lt, not, if◌then◌else◌, ⊎_elim}
 use Rattle.std.specs.Bool.{MatchBool}
 use Rattle.std.specs.List.{list_all}
 use Rattle.std.proofs.lemmas.List.{length-take}
@@ -79,16 +79,17 @@ unmaps_sure (e ∷ rest) m = unmaps_more e rest m (λ k. unmaps_sure rest k)
 
 -- ==== outcomes
 
--- a whole reply, with no more bytes than may be answered
+-- a whole reply, with no more bytes than may be answered, that is GOOD or CHECK CONDITION
 record Fits (n : ℕ) (r : ReplyData) : Type 0 where
   pub reply : IsReply r
   pub bytes : length r.payload ≤ n
+  pub status : (r.status ≡ 0) ⊎ (r.status ≡ 2)
 
 good_fits : (n : ℕ) (payload : List ℕ) → length payload ≤ n → Fits n (good payload)
-good_fits n payload h = record { reply = record { byte = omega arith; sense = refl; key = tt; good = λ no. absurd (no refl) }; bytes = h }
+good_fits n payload h = record { reply = record { byte = omega arith; sense = refl; key = tt; good = λ no. absurd (no refl) }; bytes = h; status = inl refl }
 
 refused_fits : (n : ℕ) (s : SenseData) → s.key < 16 → Fits n (refused s)
-refused_fits n s h = record { reply = record { byte = omega arith; sense = refl; key = h; good = λ _. refl }; bytes = omega arith }
+refused_fits n s h = record { reply = record { byte = omega arith; sense = refl; key = h; good = λ _. refl }; bytes = omega arith; status = inr refl }
 
 record Settles (P : Type 0) (n : ℕ) (m : MediumState) (E : Outcome) : Type 0 where
   pub some : (r : ReplyData) × (a : MediumState) × E r a
@@ -343,7 +344,7 @@ fault_key (fault.Field at) = omega arith
 -- ==== the laws
 
 pub whole_reply : WholeReply
-whole_reply name m r reply after x = let f = by (decoded r.cdb) x in (f.reply, f.bytes)
+whole_reply name m r reply after x = let f = by (decoded r.cdb) x in (f.reply, f.bytes, f.status)
   where
     by : (d : Result Op CdbFault) → MatchResult d (λ o. ServesOp name m r.sent r.in_len o reply after) (λ f. Answers m (refused (fault_sense f)) reply after) → Fits r.in_len reply
     by (Ok o) x = (op_settles name m r.sent r.in_len o).fits reply after x

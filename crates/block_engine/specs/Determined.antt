@@ -1,5 +1,5 @@
 -- What is determined: by a request, and the medium before it.
-use Rattle.std.specs.Prelude.{◌≡◌, ℕ, ◌+◌, ◌*◌, ◌<◌, ◌≤◌, min, length, true, false, List, is_some, MatchResult}
+use Rattle.std.specs.Prelude.{◌≡◌, ◌⊎◌, ℕ, ◌+◌, ◌*◌, ◌<◌, ◌≤◌, min, length, true, false, List, is_some, MatchResult}
 use Rattle.tcmu_types.specs.Data.{ReplyData}
 use Rattle.tcmu_types.specs.Rules.{IsReply}
 use Rattle.tcmu_model.specs.MediumState.{MediumState, memory, file}
@@ -68,8 +68,8 @@ StaysInFile =
 abbrev pub SomeReply : Type 0
 SomeReply = (name : List ℕ) (m : MediumState) (r : Asked) → (reply : ReplyData) × (after : MediumState) × Serves name m r reply after
 
--- whatever a request may have as its reply is a whole one, with no more bytes than may be answered
+-- whatever a request may have as its reply is a whole one, with no more bytes than may be answered, and GOOD or CHECK CONDITION
 abbrev pub WholeReply : Type 0
 WholeReply =
     (name : List ℕ) (m : MediumState) (r : Asked) (reply : ReplyData) (after : MediumState) → Serves name m r reply after
-    → IsReply reply × (length reply.payload ≤ r.in_len)
+    → IsReply reply × (length reply.payload ≤ r.in_len) × ((reply.status ≡ 0) ⊎ (reply.status ≡ 2))

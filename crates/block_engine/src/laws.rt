@@ -6,7 +6,8 @@ pub fn some_reply()
     ensures { SomeReply }
 {}
 
-/// Each reply that a request may have is whole, and has no more bytes than may be answered.
+/// Each reply that a request may have is whole, and has no more bytes than may be answered: it is GOOD or CHECK CONDITION, and no other
+/// status.
 pub fn whole_reply()
     ensures { WholeReply }
 {}
