@@ -1,4 +1,4 @@
-//! Command descriptor blocks, decoded.
+//! Command descriptor blocks, decoded into operations (SPC-4, SBC-3).
 #![tactic(auto)]
 
 mod fields;

@@ -1,4 +1,4 @@
-//! The threads of a device: loops that run beside each other.
+//! Loops that run beside each other, each in a thread where one can be made.
 #![tactic(auto)]
 
 mod lanes;

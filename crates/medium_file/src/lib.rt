@@ -1,4 +1,4 @@
-//! A medium over a store of bytes.
+//! A medium over a store of bytes, which counts as lost the range of a write that failed.
 #![tactic(auto)]
 
 mod file;

@@ -1,4 +1,4 @@
-//! Worked examples of a device's events, by calls of a path.
+//! Worked examples of a device's events: tables of calls with their answers, to which any path can be held.
 #![tactic(auto)]
 
 pub mod examples;

@@ -1,7 +1,7 @@
 //! What each event of a device keeps of the region that represents it, point by point, and what each side keeps over any bytes: laws over
 //! definitions of tcmu_model, for the contracts of the target, the user side and the ring path, which are to come.
 //! The clauses of a law come in one order: the answer; what stands, point by point (ring, ids, notes, blocks, jobs, target, side); the
-//! block lists, the pages and the sizes of blocks; then what is the event's own.
+//! block lists, the pages and the sizes of blocks; then what is the event's own, but for what stands beside the point that it is about.
 #![tactic(auto)]
 
 mod answering;

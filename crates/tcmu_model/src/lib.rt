@@ -1,4 +1,4 @@
-//! The abstract SCSI device of TCMU, the scenario language, and the definitions round them. They stand in specs/, where the contracts
+//! The abstract SCSI device of TCMU, the scenario language, and the definitions around them. These stand in specs/, where the contracts
 //! of every crate cite them; here are the code types that they cite and the plain functions that compute with them, and the laws of
 //! the device.
 #![tactic(auto)]

@@ -1,4 +1,4 @@
-//! The top call: words, reading, running, writing.
+//! The top call: what the words ask for, reading a scenario, opening its devices, replaying and writing; and the laws of texts.
 #![tactic(auto)]
 
 mod faults;
