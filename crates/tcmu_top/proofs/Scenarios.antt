@@ -15,7 +15,7 @@ use Rattle.tcmu_model.specs.Several.{Journaled, IsLegalEach}
 use Rattle.tcmu_model.specs.declared.faults.Why.TheVariants as why
 use Rattle.tcmu_top.specs.declared.status.Status.{Status}
 use Rattle.tcmu_top.specs.declared.status.Status.TheVariants as status
-use Rattle.tcmu_top.specs.Calls.{TookFront}
+use Rattle.tcmu_top.specs.Calls.{TookFront, outside}
 use Rattle.tcmu_top.specs.Playing.{AreOpened}
 use Rattle.tcmu_top.specs.Opened.{OpenEach, file_names, NoneFailed, AsTheyWere, KeptFiles, after_fetches, AreOpen, AFileLacks, KeepsEach}
 use Rattle.tcmu_top.specs.Top.{Replayed, ReplayedInPart, TextWritten, CutShort, Wanting, LacksFile, Untouched, Had, too_long, ScenarioEnds, BytesEnd, Ends}
@@ -94,7 +94,7 @@ bad_of status.OpenFault = too_long
 
 -- the source had more
 pub ends_too_long : (left left' : Option (List ℕ)) (read read' opened wrote : ℕ) (files : Option FilesState) (old : Option (List ℕ)) → IfSome left (λ bytes. 4194304 < length bytes)
-    → TookFront left left' → read' ≡ read → Ends left left' read read' files files opened opened old old wrote wrote (status.BadScenario 0 why.TooLong)
+    → TookFront left left' → read' ≡ read → Ends (outside left read files opened old wrote) (outside left' read' files opened old wrote) (status.BadScenario 0 why.TooLong)
 ends_too_long left left' read read' opened wrote files old h took calm =
     record {
       ok = λ e. absurd (cc);
@@ -149,16 +149,16 @@ bytes_of bytes s files files' opened opened' old new wrote wrote' ended e h =
     }
 
 -- and where a source had them
-pub ends_of : (left left' : Option (List ℕ)) (read read' : ℕ) (bytes : List ℕ) (files files' : Option FilesState) (opened opened' : ℕ) (old new : Option (List ℕ)) (wrote wrote' : ℕ) (ended : Status) → Tells left bytes → TookFront left left' → read' ≡ read
-    → BytesEnd bytes files files' opened opened' old new wrote wrote' ended → Ends left left' read read' files files' opened opened' old new wrote wrote' ended
-ends_of left left' read read' bytes files files' opened opened' old new wrote wrote' ended t took calm h =
+pub ends_of : (left left' : Option (List ℕ)) (read read' : ℕ) (bytes : List ℕ) (files files' : Option FilesState) (opened opened' : ℕ) (old new : Option (List ℕ)) (wrote wrote' : ℕ) (ended : Status) → Tells left bytes → Tells left' [] → TookFront left left' → read' ≡ read
+    → BytesEnd bytes files files' opened opened' old new wrote wrote' ended → Ends (outside left read files opened old wrote) (outside left' read' files' opened' new wrote') ended
+ends_of left left' read read' bytes files files' opened opened' old new wrote wrote' ended t end took calm h =
     record {
-      ok = λ z. let x = h.ok z in (x.0, record { bytes = bytes; told = t; reads = x.1 }, x.2);
+      ok = λ z. let x = h.ok z in (x.0, record { bytes = bytes; told = t; end = end; reads = x.1 }, x.2);
       read_fault = λ z. absurd (h.reads z);
-      write_fault = λ z. let x = h.write_fault z in (x.0, (x.1.0, record { bytes = bytes; told = t; reads = x.1.1 }, x.1.2));
+      write_fault = λ z. let x = h.write_fault z in (x.0, (x.1.0, record { bytes = bytes; told = t; end = end; reads = x.1.1 }, x.1.2));
       no_memory = λ z. by (h.no_memory z);
-      bad_scenario = λ line reason z. let x = h.bad_scenario line reason z in (inr (bytes, t, x.0), x.1);
-      open_fault = λ z. let x = h.open_fault z in (x.0, (x.1.0, record { bytes = bytes; told = t; reads = x.1.1 }, x.1.2));
+      bad_scenario = λ line reason z. let x = h.bad_scenario line reason z in (inr (end, (bytes, t, x.0)), x.1);
+      open_fault = λ z. let x = h.open_fault z in (x.0, (x.1.0, record { bytes = bytes; told = t; end = end; reads = x.1.1 }, x.1.2));
       words = h.words;
       taken = took;
       calm_source = λ ne. calm;
@@ -166,6 +166,6 @@ ends_of left left' read read' bytes files files' opened opened' old new wrote wr
       calm_sink = h.calm_sink;
     }
   where
-    by : Untouched files files' old new ⊎ ((s : ScenarioData) × (scenario_of bytes ≡ Ok s) × Wanting files files' s old new) → Untouched files files' old new ⊎ Had left (λ s. Wanting files files' s old new)
+    by : Untouched files files' old new ⊎ ((s : ScenarioData) × (scenario_of bytes ≡ Ok s) × Wanting files files' s old new) → Untouched files files' old new ⊎ Had Wanting (outside left read files opened old wrote) (outside left' read' files' opened' new wrote')
     by (inl h) = inl h
-    by (inr h) = inr (h.0, record { bytes = bytes; told = t; reads = h.1 }, h.2)
+    by (inr h) = inr (h.0, record { bytes = bytes; told = t; end = end; reads = h.1 }, h.2)

@@ -1,6 +1,5 @@
 //! The replay of a scenario's lines on its devices, and its text.
-ghost use Rattle.std.specs.Prelude.{◌≡◌, ◌+◌, ◌^◌, ◌≤◌, ◌<◌, length, OnOk, OnErr, IsErrOf};
-ghost use Rattle.tcmu_types.specs.Numbered.{Rose};
+ghost use Rattle.std.specs.Prelude.{◌≡◌, ◌+◌, ◌^◌, ◌≤◌, ◌<◌, length, OnOk, OnErr};
 ghost use Rattle.edge.specs.Outside.{Gained, GainedFront};
 ghost use Rattle.tcmu_model.specs.Drain.{Drains};
 ghost use Rattle.tcmu_model.specs.Sound.{IsSound, Every};
@@ -8,7 +7,9 @@ ghost use Rattle.tcmu_model.specs.Work.{HasOutcomes};
 ghost use Rattle.tcmu_model.specs.Replay.{Plays};
 ghost use Rattle.tcmu_model.specs.Several.{DrainsEach, ReplaysEach, ends_text};
 ghost use Rattle.tcmu_model.specs.ScenarioRules.{IsScenario, IsServed};
+ghost use Rattle.device_set.specs.Sets.{names};
 ghost use Rattle.tcmu_path.specs.Tasks.{IsFitFor};
+ghost use Rattle.tcmu_top.specs.Calls.{SinkFaults};
 ghost use Rattle.tcmu_top.specs.Playing.{states_of, AreOpened, WroteOn, WroteOnFront, WroteEach, WroteEachFront};
 ghost use Rattle.tcmu_top.specs.Top.{Replayed, ReplayedInPart};
 
@@ -35,11 +36,9 @@ fn drain_on<P: Path, K: Sink>(
     requires outcomes { HasOutcomes P.relation }
     ensures ok { OnOk result (WroteOn P.relation devices.now at 0 (Drains P.relation at) (states_of P.device set.old) (states_of P.device set.new) (K.written out.old) (K.written out.new)) }
     ensures err { OnErr result (WroteOnFront P.relation devices.now at (Drains P.relation at) (states_of P.device set.old) (states_of P.device set.new) (K.written out.old) (K.written out.new)) }
-    ensures fault { IsErrOf result Stop.WriteFault → Rose (K.faults out.old) (K.faults out.new) }
-    ensures later { K.faults out.old ≤ K.faults out.new }
-    ensures calm { OnOk result (K.faults out.new ≡ K.faults out.old) }
-    ensures wanting { IsErrOf result Stop.NoMemory → K.faults out.new ≡ K.faults out.old }
+    ensures faults { SinkFaults (K.faults out.old) (K.faults out.new) result }
     ensures count { length set.new ≡ length set.old }
+    ensures names { names set.new ≡ names set.old }
 {
     drain(alloc, &devices[at as usize], set.get_mut(at), out)
 }
@@ -59,11 +58,9 @@ fn play_on<P: Path, K: Sink>(
     requires outcomes { HasOutcomes P.relation }
     ensures ok { OnOk result (WroteOn P.relation devices.now line.now.device 1 (λ d es d'. Plays P.relation line.now.device d line.now.what es d') (states_of P.device set.old) (states_of P.device set.new) (K.written out.old) (K.written out.new)) }
     ensures err { OnErr result (WroteOnFront P.relation devices.now line.now.device (λ d es d'. Plays P.relation line.now.device d line.now.what es d') (states_of P.device set.old) (states_of P.device set.new) (K.written out.old) (K.written out.new)) }
-    ensures fault { IsErrOf result Stop.WriteFault → Rose (K.faults out.old) (K.faults out.new) }
-    ensures later { K.faults out.old ≤ K.faults out.new }
-    ensures calm { OnOk result (K.faults out.new ≡ K.faults out.old) }
-    ensures wanting { IsErrOf result Stop.NoMemory → K.faults out.new ≡ K.faults out.old }
+    ensures faults { SinkFaults (K.faults out.old) (K.faults out.new) result }
     ensures count { length set.new ≡ length set.old }
+    ensures names { names set.new ≡ names set.old }
 {
     let at = line.device;
     play_line(alloc, &devices[at as usize], set.get_mut(at), line, out)
@@ -82,11 +79,9 @@ fn drain_each<P: Path, K: Sink>(
     requires outcomes { HasOutcomes P.relation }
     ensures ok { OnOk result (WroteEach P.relation devices.now (DrainsEach P.relation 0 (states_of P.device set.old)) (states_of P.device set.old) (states_of P.device set.new) (K.written out.old) (K.written out.new)) }
     ensures err { OnErr result (WroteEachFront P.relation devices.now (DrainsEach P.relation 0 (states_of P.device set.old)) (states_of P.device set.old) (states_of P.device set.new) (K.written out.old) (K.written out.new)) }
-    ensures fault { IsErrOf result Stop.WriteFault → Rose (K.faults out.old) (K.faults out.new) }
-    ensures later { K.faults out.old ≤ K.faults out.new }
-    ensures calm { OnOk result (K.faults out.new ≡ K.faults out.old) }
-    ensures wanting { IsErrOf result Stop.NoMemory → K.faults out.new ≡ K.faults out.old }
+    ensures faults { SinkFaults (K.faults out.old) (K.faults out.new) result }
     ensures count { length set.new ≡ length set.old }
+    ensures names { names set.new ≡ names set.old }
     ensures still_sound { OnOk result (Every (λ d. IsSound d.state) (states_of P.device set.new)) }
     ensures still_few { OnOk result (Every (λ d. d.state.accepted < 2 ^ 63) (states_of P.device set.new)) }
 {
@@ -111,11 +106,9 @@ fn replay_lines<P: Path, K: Sink>(
     requires outcomes { HasOutcomes P.relation }
     ensures ok { OnOk result (WroteEach P.relation devices.now (ReplaysEach P.relation (states_of P.device set.old) lines.now) (states_of P.device set.old) (states_of P.device set.new) (K.written out.old) (K.written out.new)) }
     ensures err { OnErr result (WroteEachFront P.relation devices.now (ReplaysEach P.relation (states_of P.device set.old) lines.now) (states_of P.device set.old) (states_of P.device set.new) (K.written out.old) (K.written out.new)) }
-    ensures fault { IsErrOf result Stop.WriteFault → Rose (K.faults out.old) (K.faults out.new) }
-    ensures later { K.faults out.old ≤ K.faults out.new }
-    ensures calm { OnOk result (K.faults out.new ≡ K.faults out.old) }
-    ensures wanting { IsErrOf result Stop.NoMemory → K.faults out.new ≡ K.faults out.old }
+    ensures faults { SinkFaults (K.faults out.old) (K.faults out.new) result }
     ensures count { length set.new ≡ length set.old }
+    ensures names { names set.new ≡ names set.old }
     ensures still_sound { OnOk result (Every (λ d. IsSound d.state) (states_of P.device set.new)) }
     ensures still_few { OnOk result (Every (λ d. d.state.accepted < 2 ^ 63) (states_of P.device set.new)) }
 {
@@ -137,10 +130,7 @@ fn write_ends<P: Path, K: Sink>(
     requires sound { Every (λ d. IsSound d.state) (states_of P.device set.now) }
     ensures ok { OnOk result (Gained (K.written out.old) (ends_text devices.now (states_of P.device set.now)) (K.written out.new)) }
     ensures err { OnErr result (GainedFront (K.written out.old) (ends_text devices.now (states_of P.device set.now)) (K.written out.new)) }
-    ensures fault { IsErrOf result Stop.WriteFault → Rose (K.faults out.old) (K.faults out.new) }
-    ensures later { K.faults out.old ≤ K.faults out.new }
-    ensures calm { OnOk result (K.faults out.new ≡ K.faults out.old) }
-    ensures wanting { IsErrOf result Stop.NoMemory → K.faults out.new ≡ K.faults out.old }
+    ensures faults { SinkFaults (K.faults out.old) (K.faults out.new) result }
 {
     for at in 0..set.len() {
         let count = open_count(set.get(at));
@@ -162,11 +152,9 @@ pub fn replay_devices<P: Path, K: Sink>(
     requires outcomes { HasOutcomes P.relation }
     ensures ok { OnOk result (Replayed P.relation scenario.now.devices (states_of P.device set.old) scenario.now.lines (states_of P.device set.new) (K.written out.old) (K.written out.new)) }
     ensures err { OnErr result (ReplayedInPart P.relation scenario.now.devices (states_of P.device set.old) scenario.now.lines (states_of P.device set.new) (K.written out.old) (K.written out.new)) }
-    ensures fault { IsErrOf result Stop.WriteFault → Rose (K.faults out.old) (K.faults out.new) }
-    ensures later { K.faults out.old ≤ K.faults out.new }
-    ensures calm { OnOk result (K.faults out.new ≡ K.faults out.old) }
-    ensures wanting { IsErrOf result Stop.NoMemory → K.faults out.new ≡ K.faults out.old }
+    ensures faults { SinkFaults (K.faults out.old) (K.faults out.new) result }
     ensures count { length set.new ≡ length set.old }
+    ensures names { names set.new ≡ names set.old }
 {
     let devices = scenario.devices.as_slice();
     write_readies(alloc, devices, out)?;
