@@ -12,7 +12,9 @@ use std::alloc::{AllocError, Global};
 /// Why a source was not read to its end.
 #[derive(Clone, Copy, Debug, PartialEq, Eq)]
 pub enum Unread {
+    /// A read of the source failed.
     Failed,
+    /// The source has more bytes than a scenario.
     TooLong,
     NoMemory,
 }

@@ -18,6 +18,7 @@ use tcmu_types::{Answer, Bytes, Done, Event, NoMemory};
 /// Why a replay stopped before its end.
 #[derive(Clone, Copy, Debug, PartialEq, Eq)]
 pub enum Stop {
+    /// A write of the sink failed.
     WriteFault,
     NoMemory,
 }
@@ -69,6 +70,7 @@ pub fn write_readies<K: Sink>(
     Ok(())
 }
 
+/// Writes the line of an event, with its answer.
 fn write_event<K: Sink>(
     alloc: Global,
     device: &DeviceLine,
@@ -92,6 +94,7 @@ fn write_event<K: Sink>(
     write_line(out, text.as_slice())
 }
 
+/// Writes the line of a completion.
 fn write_completion<K: Sink>(
     alloc: Global,
     device: &DeviceLine,
@@ -107,6 +110,7 @@ fn write_completion<K: Sink>(
     write_line(out, text.as_slice())
 }
 
+/// Writes the lines of completions, in order.
 fn write_completions<K: Sink>(
     alloc: Global,
     device: &DeviceLine,
