@@ -3,6 +3,7 @@
 #![tactic(auto)]
 
 use edge::{HostFiles, StdSink, StdSource};
+use std::fs::File;
 use std::process::ExitCode;
 use std::{env, io};
 use tcmu_top::{Status, tcmu_top};
@@ -25,6 +26,16 @@ fn words_of(rt: &HostRuntime) -> Result<Words, NoMemory> {
     Ok(words)
 }
 
+/// A folder, held open three times. Where a standard stream is closed it takes that stream's place, so that no file of a device comes to
+/// stand there, and since a folder can be neither read nor written, each call of the stream fails as it did.
+fn hold_places(rt: &HostRuntime) -> [io::Result<File>; 3] {
+    [
+        File::open(rt, "/"),
+        File::open(rt, "/"),
+        File::open(rt, "/"),
+    ]
+}
+
 fn run(rt: &HostRuntime, words: &Words) -> Status {
     let Ok(host) = rt.clone() else {
         return Status::NoMemory;
@@ -37,6 +48,7 @@ fn run(rt: &HostRuntime, words: &Words) -> Status {
 }
 
 fn main(rt: HostRuntime) -> ExitCode {
+    let _held = hold_places(&rt);
     let status = match words_of(&rt) {
         Ok(words) => run(&rt, &words),
         Err(NoMemory) => Status::NoMemory,

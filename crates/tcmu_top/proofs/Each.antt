@@ -92,12 +92,13 @@ sofar_stopped R ls Next Then Whole so at start ds ds' old mid now s w own step e
     let all_run : Run R w.before all x.end = run_append R w.before w.after x.end x.made x.rest x.run x.more in
     let is_own : AreOf at all = own w.before x.end all x.right in
     let sound : IsSound w.before.state = every_at (λ (d : Device). IsSound d.state) ds at w.before s.sound w.found in
-    let parts = x.stopped in
+    let stopped = x.stopped in
+    let parts = stopped.parts in
     let made_own = every-front (λ (e : EntryData). e.device ≡ at) x.made x.rest is_own in
     let parts_own = subst (AreOf at) parts.split made_own in
-    let told = piece_of R at w.before parts.before parts.written parts.first (every-front (λ (e : EntryData). e.device ≡ at) parts.written parts.last parts_own) in
-    let last_told = piece_of R at parts.before w.after parts.last parts.second (every-back (λ (e : EntryData). e.device ≡ at) parts.written parts.last parts_own) in
-    let made = piece_append R at w.before parts.before w.after x.made parts.written parts.last parts.split told last_told in
+    let told = piece_of R at w.before stopped.before parts.written stopped.first (every-front (λ (e : EntryData). e.device ≡ at) parts.written parts.last parts_own) in
+    let last_told = piece_of R at stopped.before w.after parts.last stopped.second (every-back (λ (e : EntryData). e.device ≡ at) parts.written parts.last parts_own) in
+    let made = piece_append R at w.before stopped.before w.after x.made parts.written parts.last parts.split told last_told in
     let rest = piece_of R at w.after x.end x.rest x.more (every-back (λ (e : EntryData). e.device ≡ at) x.made x.rest is_own) in
     let last = ending x.end (sound_run R w.before x.end all sound all_run) in
     let now_at : IsLegalEach R ds made.journal (slice_set ds at w.after) = legal_one R ds at w.before w.after made.journal w.found made.run made.own in
@@ -126,10 +127,10 @@ sofar_stopped R ls Next Then Whole so at start ds ds' old mid now s w own step e
         written = s.sofar ++ told.journal;
         last = last_told.journal;
         split = sym (append_assoc s.sofar told.journal last_told.journal);
-        one = omega (arith, parts.one, piece_count R at parts.before w.after parts.last last_told);
+        one = omega (arith, parts.one, piece_count R at stopped.before w.after parts.last last_told);
         piece = parts.piece;
         gained = gained_behind ls old mid now s.sofar told.journal parts.piece s.wrote
-            (gained_as mid now _ _ (ap (λ (t : List ℕ). t ++ parts.piece) (piece_text R ls w.line at w.before parts.before parts.written told w.named)) parts.gained);
+            (gained_as mid now _ _ (ap (λ (t : List ℕ). t ++ parts.piece) (piece_text R ls w.line at w.before stopped.before parts.written told w.named)) parts.gained);
       };
     } in
     subst (λ (l : List Device). WroteEachFront R ls Whole start l old now) (sym w.others) front

@@ -7,7 +7,7 @@ use Rattle.std.proofs.lemmas.List.{take_more, take-append-drop}
 use Rattle.std.proofs.lemmas.Option.{same_Some, slice_get_within}
 use Rattle.tcmu_types.specs.Numbered.{Numbered, next_call}
 use Rattle.edge.specs.Stores.{StoreState, Content, Place, at_home, FilesState, fetch_fails, one_more_fetch}
-use Rattle.tcmu_model.specs.MediumState.{MediumState, Below, file}
+use Rattle.tcmu_model.specs.MediumState.{MediumState, file}
 use Rattle.tcmu_model.specs.Medium.{opened_medium, file_below}
 use Rattle.tcmu_model.specs.Scsi.{Serves}
 use Rattle.tcmu_model.specs.Device.{Device}
@@ -56,11 +56,11 @@ content_same : (a b : Content) → a.bytes ≡ b.bytes → a.calls ≡ b.calls �
 content_same a b e h = ap (λ (x : List ℕ). record { bytes = x; calls = a.calls }) e ∙ ap (λ (n : Numbered). record { bytes = b.bytes; calls = n }) h
 
 -- what is left of a device that made nothing is what its file was
-file_again : (f : FilesState) (l : DeviceLineData) (d : Device) (name : List ℕ) (place : Place) → Opens (Some f) l d → l.config.kind ≡ InFile name → Holds d.medium.below place → place ≡ f.places name
+file_again : (f : FilesState) (l : DeviceLineData) (d : Device) (name : List ℕ) (place : Place) → Opens (Some f) l d → l.config.kind ≡ InFile name → Holds d.medium place → place ≡ f.places name
 file_again f l d name place o kind h =
     let x : OpensFile name (Some f) l.config o.0 = subst (λ (k : MediumData). OpensKind k (Some f) l.config o.0) kind o.1 in
-    let below_is : d.medium.below ≡ file_below x.store.bytes x.store.calls = ap (λ (y : Device). y.medium.below) o.2 ∙ ap (λ (m : MediumState). m.below) x.medium in
-    let left : IsLeftOf (file_below x.store.bytes x.store.calls) h.0 = subst (λ (b : Below). IsLeftOf b h.0) below_is h.2 in
+    let medium_is = ap (λ (y : Device). y.medium) o.2 ∙ x.medium in
+    let left = subst (λ (m : MediumState). IsLeftOf m h.0) medium_is h.2 in
     let was = x.told.0 in
     let bytes_are : Some h.0.bytes ≡ Some was.bytes = sym left.bytes ∙ ap (λ (s : StoreState). s.bytes) x.told.2 in
     let calls_are : h.0.calls ≡ was.calls = left.calls ∙ ap (λ (s : StoreState). s.calls) x.told.2 in

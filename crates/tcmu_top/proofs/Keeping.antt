@@ -6,7 +6,7 @@ use Rattle.std.proofs.lemmas.Bool.{cases_eq, or_parts, false≢true}
 use Rattle.std.proofs.lemmas.List.{length-map, length-take-le, take-take, take-map}
 use Rattle.std.proofs.lemmas.Option.{same_Some, slice_get_within}
 use Rattle.edge.specs.Stores.{StoreState, Content, store_of, out, at_home, FilesState, after_fetch, given_back, after_keep}
-use Rattle.tcmu_model.specs.MediumState.{Layer, memory, file, overlay, write_back, Below, MediumState}
+use Rattle.tcmu_model.specs.MediumState.{Layer, memory, file, overlay, write_back, MediumState}
 use Rattle.tcmu_model.specs.Medium.{blanked}
 use Rattle.tcmu_model.specs.Device.{Device}
 use Rattle.tcmu_model.specs.Config.{MediumData, InMemory, InFile}
@@ -45,7 +45,7 @@ fetched_out (x ∷ xs) f (suc at) l name e k = by x.config.kind (λ (g : FilesSt
 
 -- The files of the devices from a number on are at home again, and those before it are still out.
 pub record Keeping (ls : List DeviceLineData) (ends : List Device) (f g : FilesState) (from : ℕ) : Type 0 where
-  pub home : (at : ℕ) (l : DeviceLineData) (d : Device) (name : List ℕ) → from ≤ at → slice_get ls at ≡ Some l → slice_get ends at ≡ Some d → l.config.kind ≡ InFile name → Holds d.medium.below (g.places name)
+  pub home : (at : ℕ) (l : DeviceLineData) (d : Device) (name : List ℕ) → from ≤ at → slice_get ls at ≡ Some l → slice_get ends at ≡ Some d → l.config.kind ≡ InFile name → Holds d.medium (g.places name)
   pub away : (at : ℕ) (l : DeviceLineData) (name : List ℕ) → at < from → slice_get ls at ≡ Some l → l.config.kind ≡ InFile name → g.places name ≡ out
   pub others : SameOthers ls f g
   pub fails : g.fails ≡ f.fails
@@ -62,15 +62,15 @@ keeping_first ls ends f n away within =
     }
 
 -- what is given back of a device: nothing of one in memory, and of one in a file what its medium left
-abbrev pub KeepsKind : MediumData → Below → FilesState → FilesState → Type 0
-KeepsKind (InMemory blocks) b g g' = g' ≡ g
-KeepsKind (InFile name) b g g' = (c : Content) × IsLeftOf b c × (g' ≡ after_keep name c g)
+abbrev pub KeepsKind : MediumData → MediumState → FilesState → FilesState → Type 0
+KeepsKind (InMemory blocks) m g g' = g' ≡ g
+KeepsKind (InFile name) m g g' = (c : Content) × IsLeftOf m c × (g' ≡ after_keep name c g)
 
 pub keeping_more : (ls : List DeviceLineData) (ends : List Device) (f g g' : FilesState) (n : ℕ) (l : DeviceLineData) (d : Device) → OwnFiles ls → slice_get ls n ≡ Some l → slice_get ends n ≡ Some d
-    → Keeping ls ends f g (n + 1) → KeepsKind l.config.kind d.medium.below g g' → Keeping ls ends f g' n
+    → Keeping ls ends f g (n + 1) → KeepsKind l.config.kind d.medium g g' → Keeping ls ends f g' n
 keeping_more ls ends f g g' n l d own at_ls at_ends h k = by l.config.kind refl k
   where
-    by : (m : MediumData) → l.config.kind ≡ m → KeepsKind m d.medium.below g g' → Keeping ls ends f g' n
+    by : (m : MediumData) → l.config.kind ≡ m → KeepsKind m d.medium g g' → Keeping ls ends f g' n
     by (InMemory blocks) kind same =
         let all : Keeping ls ends f g n = record {
           home = λ at x y name le e z k.
@@ -102,10 +102,10 @@ keeping_more ls ends f g g' n l d own at_ls at_ends h k = by l.config.kind refl 
               let device : y ≡ d = same_Some y d (sym z ∙ ap (slice_get ends) eq ∙ at_ends) in
               let line_is : x ≡ l = same_Some x l (sym e ∙ ap (slice_get ls) eq ∙ at_ls) in
               let same_name : other ≡ name = file_same other name (sym k ∙ ap (λ (v : DeviceLineData). v.config.kind) line_is ∙ kind) in
-              subst (λ (v : Device). Holds v.medium.below ((after_keep name c g).places other)) (sym device)
-              (subst (λ (v : List ℕ). Holds d.medium.below ((after_keep name c g).places v)) (sym same_name) (c, now_home, kept.1)))
+              subst (λ (v : Device). Holds v.medium ((after_keep name c g).places other)) (sym device)
+              (subst (λ (v : List ℕ). Holds d.medium ((after_keep name c g).places v)) (sym same_name) (c, now_home, kept.1)))
               (λ (ne : at ≡ n → ⊥).
-              subst (Holds y.medium.below) (sym (elsewhere other (own at n x l other name e at_ls k kind ne))) (h.home at x y other (omega (arith, ne, le)) e z k))
+              subst (Holds y.medium) (sym (elsewhere other (own at n x l other name e at_ls k kind ne))) (h.home at x y other (omega (arith, ne, le)) e z k))
               (cases_eq at n);
           away = λ at x other lt e k. elsewhere other (own at n x l other name e at_ls k kind (λ eq. omega (arith, eq, lt))) ∙ h.away at x other (omega (arith, lt)) e k;
           others = λ other free. elsewhere other (named_differs ls n l name other at_ls kind free) ∙ h.others other free;
@@ -131,12 +131,12 @@ pub returned_file : (name : List ℕ) (s : StoreState) (m : MediumState) (old ne
     → ((c : Content) → s ≡ store_of c → new ≡ option_map (after_keep name c) old) → Returns (InFile name) m old new
 returned_file name s m old new sized stored kept layer told = by s.bytes refl
   where
-    by : (o : Option (List ℕ)) → s.bytes ≡ o → (c : Content) × IsLeftOf m.below c × (new ≡ option_map (after_keep name c) old)
+    by : (o : Option (List ℕ)) → s.bytes ≡ o → (c : Content) × IsLeftOf m c × (new ≡ option_map (after_keep name c) old)
     by None e = let none : is_some m.below.bytes ≡ false = ap (λ (o : Option (List ℕ)). is_some o) (stored.bytes ∙ ap (option_map (blanked m.below.lost)) e) in absurd (false≢true (sym none ∙ told))
     by (Some bs) e =
         let long = subst (λ (o : Option (List ℕ)). IfSome o (λ bs. length bs ≡ s.size)) e sized in
         let c : Content = record { bytes = bs; calls = s.calls } in
-        (c, record { bytes = stored.bytes ∙ ap (option_map (blanked m.below.lost)) e; calls = sym stored.calls }, kept c (file_of s bs e long))
+        (c, record { size = long ∙ stored.size; bytes = stored.bytes ∙ ap (option_map (blanked m.below.lost)) e; calls = sym stored.calls }, kept c (file_of s bs e long))
 
 abbrev is_memory : Layer → Bool
 is_memory memory = true
@@ -166,12 +166,12 @@ kept_more ls ends old mid new n l d at_ls at_ends h r own tell f e away = by l.c
 
     by : (k : MediumData) → l.config.kind ≡ k → Returns k d.medium mid new → (g : FilesState) × (new ≡ Some g) × Keeping ls ends f g n
     by (InMemory blocks) kind same =
-        (before.0, same ∙ before.1, keeping_more ls ends f before.0 before.0 n l d own at_ls at_ends before.2 (subst (λ (k : MediumData). KeepsKind k d.medium.below before.0 before.0) (sym kind) refl))
+        (before.0, same ∙ before.1, keeping_more ls ends f before.0 before.0 n l d own at_ls at_ends before.2 (subst (λ (k : MediumData). KeepsKind k d.medium before.0 before.0) (sym kind) refl))
     by (InFile name) kind back =
         let t = tell n l d name at_ls at_ends kind in
         let x = back t.0 t.1 in
         let g' = after_keep name x.0 before.0 in
-        (g', x.2 ∙ ap (option_map (after_keep name x.0)) before.1, keeping_more ls ends f before.0 g' n l d own at_ls at_ends before.2 (subst (λ (k : MediumData). KeepsKind k d.medium.below before.0 g') (sym kind) (x.0, x.1, refl)))
+        (g', x.2 ∙ ap (option_map (after_keep name x.0)) before.1, keeping_more ls ends f before.0 g' n l d own at_ls at_ends before.2 (subst (λ (k : MediumData). KeepsKind k d.medium before.0 g') (sym kind) (x.0, x.1, refl)))
 
 pub kept_done : (ls : List DeviceLineData) (ends : List Device) (old new : Option FilesState) → KeptFrom ls ends old new 0 → KeepsEach ls ends old new
 kept_done ls ends old new h own tell f e away = let x = h own tell f e away in (x.0, x.1, keeping_done ls ends f x.0 x.2)

@@ -146,15 +146,17 @@ draining_done R at l start d old now so none =
 all_told : (R : HandlerRelation) (l : DeviceLineData) (start d : Device) (es : List EntryData) (old mid : Option (List ℕ)) → Run R start es d → Gained old (run_text l start es d) mid → RunAllButLast R l es start d old mid
 all_told R l start d es old mid run g =
     record {
-      written = es;
-      last = [];
-      split = sym (append-nil es);
-      one = omega arith;
       before = d;
+      parts = record {
+        written = es;
+        last = [];
+        split = sym (append-nil es);
+        one = omega arith;
+        piece = [];
+        gained = gained_as old mid _ _ (sym (append-nil (run_text l start es d))) g;
+      };
       first = run;
       second = refl;
-      piece = [];
-      gained = gained_as old mid _ _ (sym (append-nil (run_text l start es d))) g;
     }
 
 -- a piece of the last entry is written
@@ -162,15 +164,17 @@ one_part_told : (R : HandlerRelation) (l : DeviceLineData) (start d d' : Device)
     → Gained old (run_text l start es d) mid → GainedFront mid (run_text l d (e ∷ []) d') now → RunAllButLast R l (es ++ e ∷ []) start d' old now
 one_part_told R l start d d' es e old mid now run one g f =
     record {
-      written = es;
-      last = e ∷ [];
-      split = refl;
-      one = omega arith;
       before = d;
+      parts = record {
+        written = es;
+        last = e ∷ [];
+        split = refl;
+        one = omega arith;
+        piece = f.0;
+        gained = gained_more old mid now _ _ g f.3;
+      };
       first = run;
       second = one;
-      piece = f.0;
-      gained = gained_more old mid now _ _ g f.3;
     }
 
 pub draining_stopped : (R : HandlerRelation) (at : ℕ) (l : DeviceLineData) (start d d' : Device) (event : EventData) (old mid now : Option (List ℕ)) → HasOutcomes R

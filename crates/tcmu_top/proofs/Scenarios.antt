@@ -1,10 +1,9 @@
 -- How the replay of a scenario ends, from what its parts say.
-use Rattle.std.proofs.Common.{◌≡◌, ◌⊎◌, ℕ, ◌<◌, false, List, [], ◌∷◌, length, Option, Some, None, Ok, Err, IfSome, refl, sym, ap, ◌∙◌, subst, inl, inr}
+use Rattle.std.proofs.Common.{◌≡◌, ℕ, ◌<◌, false, List, [], ◌∷◌, length, Option, Some, None, Err, IfSome, refl, sym, ap, ◌∙◌, subst, inl}
 use Rattle.std.specs.List.{AllPairs}
 use Rattle.std.proofs.lemmas.Bool.{lt-ltb}
 use Rattle.tcmu_types.specs.Numbered.{Rose}
 use Rattle.edge.specs.Stores.{FilesState}
-use Rattle.edge.specs.Outside.{Tells}
 use Rattle.tcmu_model.specs.Scsi.{Serves}
 use Rattle.tcmu_model.specs.Device.{Device}
 use Rattle.tcmu_model.specs.Said.{same_file}
@@ -15,10 +14,10 @@ use Rattle.tcmu_model.specs.Several.{Journaled, IsLegalEach}
 use Rattle.tcmu_model.specs.declared.faults.Why.TheVariants as why
 use Rattle.tcmu_top.specs.declared.status.Status.{Status}
 use Rattle.tcmu_top.specs.declared.status.Status.TheVariants as status
-use Rattle.tcmu_top.specs.Calls.{TookFront}
+use Rattle.tcmu_top.specs.Calls.{TookFront, outside}
 use Rattle.tcmu_top.specs.Playing.{AreOpened}
 use Rattle.tcmu_top.specs.Opened.{OpenEach, file_names, NoneFailed, AsTheyWere, KeptFiles, after_fetches, AreOpen, AFileLacks, KeepsEach}
-use Rattle.tcmu_top.specs.Top.{Replayed, ReplayedInPart, TextWritten, CutShort, Wanting, LacksFile, Untouched, Had, too_long, ScenarioEnds, BytesEnd, Ends}
+use Rattle.tcmu_top.specs.Top.{Replayed, ReplayedInPart, TextWritten, CutShort, Wanting, LacksFile, too_long, ScenarioEnds, Ends}
 use Rattle.tcmu_top.proofs.Fetching.{place_free, fetches_fails, own_files}
 use Rattle.tcmu_top.proofs.Keeping.{fetched_out}
 use Rattle.tcmu_top.proofs.GivenBack.{tell_files}
@@ -94,7 +93,7 @@ bad_of status.OpenFault = too_long
 
 -- the source had more
 pub ends_too_long : (left left' : Option (List ℕ)) (read read' opened wrote : ℕ) (files : Option FilesState) (old : Option (List ℕ)) → IfSome left (λ bytes. 4194304 < length bytes)
-    → TookFront left left' → read' ≡ read → Ends left left' read read' files files opened opened old old wrote wrote (status.BadScenario 0 why.TooLong)
+    → TookFront left left' → read' ≡ read → Ends (outside left read files opened old wrote) (outside left' read' files opened old wrote) (status.BadScenario 0 why.TooLong)
 ends_too_long left left' read read' opened wrote files old h took calm =
     record {
       ok = λ e. absurd (cc);
@@ -131,41 +130,3 @@ pub scenario_lacks : (s : ScenarioData) (files files' : Option FilesState) (open
     → ScenarioEnds s files files' opened opened' old new wrote wrote' status.OpenFault
 scenario_lacks s files files' opened opened' old new wrote wrote' still h =
     record { ok = λ e. absurd (cc); write_fault = λ e. absurd (cc); no_memory = λ e. absurd (cc); open_fault = λ e. h; reads = λ e. absurd (cc); scenario = λ line reason e. absurd (cc); words = λ e. absurd (cc); calm_files = λ ne. absurd (ne refl); calm_sink = λ ne. still }
-
--- where the bytes are at hand
-pub bytes_of : (bytes : List ℕ) (s : ScenarioData) (files files' : Option FilesState) (opened opened' : ℕ) (old new : Option (List ℕ)) (wrote wrote' : ℕ) (ended : Status) → scenario_of bytes ≡ Ok s
-    → ScenarioEnds s files files' opened opened' old new wrote wrote' ended → BytesEnd bytes files files' opened opened' old new wrote wrote' ended
-bytes_of bytes s files files' opened opened' old new wrote wrote' ended e h =
-    record {
-      ok = λ z. (s, e, h.ok z);
-      write_fault = λ z. let x = h.write_fault z in (x.0, (s, e, x.1));
-      no_memory = λ z. inr (s, e, h.no_memory z);
-      bad_scenario = λ line reason z. absurd (h.scenario line reason z);
-      open_fault = λ z. let x = h.open_fault z in (x.0, (s, e, x.1));
-      words = h.words;
-      reads = h.reads;
-      calm_files = h.calm_files;
-      calm_sink = h.calm_sink;
-    }
-
--- and where a source had them
-pub ends_of : (left left' : Option (List ℕ)) (read read' : ℕ) (bytes : List ℕ) (files files' : Option FilesState) (opened opened' : ℕ) (old new : Option (List ℕ)) (wrote wrote' : ℕ) (ended : Status) → Tells left bytes → TookFront left left' → read' ≡ read
-    → BytesEnd bytes files files' opened opened' old new wrote wrote' ended → Ends left left' read read' files files' opened opened' old new wrote wrote' ended
-ends_of left left' read read' bytes files files' opened opened' old new wrote wrote' ended t took calm h =
-    record {
-      ok = λ z. let x = h.ok z in (x.0, record { bytes = bytes; told = t; reads = x.1 }, x.2);
-      read_fault = λ z. absurd (h.reads z);
-      write_fault = λ z. let x = h.write_fault z in (x.0, (x.1.0, record { bytes = bytes; told = t; reads = x.1.1 }, x.1.2));
-      no_memory = λ z. by (h.no_memory z);
-      bad_scenario = λ line reason z. let x = h.bad_scenario line reason z in (inr (bytes, t, x.0), x.1);
-      open_fault = λ z. let x = h.open_fault z in (x.0, (x.1.0, record { bytes = bytes; told = t; reads = x.1.1 }, x.1.2));
-      words = h.words;
-      taken = took;
-      calm_source = λ ne. calm;
-      calm_files = h.calm_files;
-      calm_sink = h.calm_sink;
-    }
-  where
-    by : Untouched files files' old new ⊎ ((s : ScenarioData) × (scenario_of bytes ≡ Ok s) × Wanting files files' s old new) → Untouched files files' old new ⊎ Had left (λ s. Wanting files files' s old new)
-    by (inl h) = inl h
-    by (inr h) = inr (h.0, record { bytes = bytes; told = t; reads = h.1 }, h.2)

@@ -1,7 +1,30 @@
--- What a run does to the outside: what it takes of a source, and that it lets no fault be.
-use Rattle.std.specs.Prelude.{◌≡◌, ◌≢◌, ℕ, ◌+◌, ◌≤◌, List, length, Option}
+-- What a run does to the outside: what it sees of it, what it takes of a source, and that it lets no fault be.
+use Rattle.std.specs.Prelude.{◌≡◌, ◌≢◌, ℕ, ◌+◌, ◌≤◌, List, length, Option, Result, OnOk, IsErrOf}
+use Rattle.tcmu_types.specs.Numbered.{Rose}
 use Rattle.edge.specs.Outside.{Gave}
+use Rattle.edge.specs.Stores.{FilesState}
 use Rattle.tcmu_top.specs.declared.status.Status.{Status}
+use Rattle.tcmu_top.specs.declared.writing.Stop.{Stop}
+use Rattle.tcmu_top.specs.declared.writing.Stop.TheVariants as stop
+
+-- The outside at one moment, as far as it tells: what the source has left, the files, what the sink has, and each one's count of faults.
+pub record Outside : Type 0 where
+  pub left : Option (List ℕ)
+  pub source_faults : ℕ
+  pub files : Option FilesState
+  pub files_faults : ℕ
+  pub written : Option (List ℕ)
+  pub sink_faults : ℕ
+
+abbrev pub outside : Option (List ℕ) → ℕ → Option FilesState → ℕ → Option (List ℕ) → ℕ → Outside
+outside left source_faults files files_faults written sink_faults = record {
+  left = left;
+  source_faults = source_faults;
+  files = files;
+  files_faults = files_faults;
+  written = written;
+  sink_faults = sink_faults;
+}
 
 -- A front of what the source had left was taken, and nothing else: at most 4,194,304 bytes and one piece of 4,096 more.
 pub record TookFront (left left' : Option (List ℕ)) : Type 0 where
@@ -12,3 +35,10 @@ pub record TookFront (left left' : Option (List ℕ)) : Type 0 where
 -- where a run ended otherwise than by this fault, the count of such faults is as it was
 abbrev pub Calm : Status → Status → ℕ → ℕ → Type 0
 Calm fault ended old new = ended ≢ fault → new ≡ old
+
+-- The sink's count of faults behind a piece of a replay: it rose where the sink failed, and else it is as it was.
+pub record SinkFaults {T : Type 0} (old new : ℕ) (result : Result T Stop) : Type 0 where
+  pub failed : IsErrOf result stop.WriteFault → Rose old new
+  pub wanting : IsErrOf result stop.NoMemory → new ≡ old
+  pub calm : OnOk result (new ≡ old)
+  pub later : old ≤ new

@@ -1,5 +1,5 @@
 -- The devices of a scenario as they open over files, and the files as the devices leave them.
-use Rattle.std.specs.Prelude.{◌≡◌, ℕ, ◌/◌, ◌%◌, ◌^◌, ◌≤◌, Bool, true, false, ◌||◌, List, [], ◌∷◌, ◌++◌, Option, Some, IfSome, is_some, slice_get, bytes_eq}
+use Rattle.std.specs.Prelude.{◌≡◌, ℕ, ◌/◌, ◌%◌, ◌^◌, ◌≤◌, Bool, true, false, ◌||◌, List, [], ◌∷◌, ◌++◌, ◌*◌, length, Option, Some, IfSome, is_some, slice_get, bytes_eq}
 use Rattle.std.specs.List.{list_any}
 use Rattle.std.specs.Option.{option_map}
 use Rattle.tcmu_types.specs.Numbered.{Rose, next_call}
@@ -7,7 +7,7 @@ use Rattle.edge.specs.Stores.{StoreState, Content, store_of, Place, out, at_home
 use Rattle.media.specs.Opening as medium
 use Rattle.media.specs.declared.make.MakeFault.{MakeFault}
 use Rattle.media.specs.declared.make.MakeFault.TheVariants as fault
-use Rattle.tcmu_model.specs.MediumState.{Below, MediumState, file}
+use Rattle.tcmu_model.specs.MediumState.{MediumState, file}
 use Rattle.tcmu_model.specs.Medium.{blanked, opened_medium, memory_below, file_below}
 use Rattle.tcmu_model.specs.Device.{Device, opening}
 use Rattle.tcmu_model.specs.Config.{ConfigData, MediumData, InMemory, InFile}
@@ -68,14 +68,15 @@ after_fetches (name ∷ names) f = after_fetches names (after_fetch name f)
 abbrev pub is_named : List DeviceLineData → List ℕ → Bool
 is_named ls name = list_any (bytes_eq name) (file_names ls)
 
--- What a file holds is what bore a medium: the bytes, but for the lost range, and the calls that its store has made.
-pub record IsLeftOf (b : Below) (content : Content) : Type 0 where
-  pub bytes : b.bytes ≡ Some (blanked b.lost content.bytes)
-  pub calls : content.calls ≡ b.store
+-- A file holds what a medium left in it: as many bytes as before, the medium's but for the lost range, and the calls that its store has made.
+pub record IsLeftOf (m : MediumState) (content : Content) : Type 0 where
+  pub size : length content.bytes ≡ 512 * m.blocks
+  pub bytes : m.below.bytes ≡ Some (blanked m.below.lost content.bytes)
+  pub calls : content.calls ≡ m.below.store
 
--- a file stands there that is left of what bore a medium
-abbrev pub Holds : Below → Place → Type 0
-Holds b place = (content : Content) × (place ≡ at_home content) × IsLeftOf b content
+-- a file stands there that holds what a medium left in it
+abbrev pub Holds : MediumState → Place → Type 0
+Holds m place = (content : Content) × (place ≡ at_home content) × IsLeftOf m content
 
 -- each file that no device line names is as it was
 abbrev pub SameOthers : List DeviceLineData → FilesState → FilesState → Type 0
@@ -84,7 +85,7 @@ SameOthers ls f f' = (name : List ℕ) → is_named ls name ≡ false → f'.pla
 -- The file of each device line holds what its device left in it, and each other file is as it was. So many fetches were made.
 pub record Kept (ls : List DeviceLineData) (ends : List Device) (count : ℕ) (f f' : FilesState) : Type 0 where
   pub named : (at : ℕ) (l : DeviceLineData) (d : Device) (name : List ℕ) → slice_get ls at ≡ Some l → slice_get ends at ≡ Some d → l.config.kind ≡ InFile name
-      → Holds d.medium.below (f'.places name)
+      → Holds d.medium (f'.places name)
   pub others : SameOthers ls f f'
   pub fails : f'.fails ≡ f.fails
   pub fetches : f'.fetches ≡ count
@@ -158,7 +159,7 @@ Unopened fault.NoMemory ls files files' faults faults' = AsTheyWere NoneFailed l
 abbrev pub Returns : MediumData → MediumState → Option FilesState → Option FilesState → Type 0
 Returns (InMemory blocks) m old new = new ≡ old
 Returns (InFile name) m old new =
-    m.below.layer ≡ file → is_some m.below.bytes ≡ true → (c : Content) × IsLeftOf m.below c × (new ≡ option_map (after_keep name c) old)
+    m.below.layer ≡ file → is_some m.below.bytes ≡ true → (c : Content) × IsLeftOf m c × (new ≡ option_map (after_keep name c) old)
 
 -- no two device lines name one file
 abbrev pub OwnFiles : List DeviceLineData → Type 0

@@ -1,10 +1,11 @@
 -- What was made of devices and written of it, as far as a replay has come.
-use Rattle.std.specs.Prelude.{◌≡◌, ◌⊎◌, ℕ, ◌≤◌, List, [], ◌∷◌, ◌++◌, map, Option, Some, length, drop, slice_get, slice_set}
+use Rattle.std.specs.Prelude.{◌≡◌, ◌⊎◌, ℕ, ◌^◌, ◌<◌, ◌≤◌, List, [], ◌∷◌, ◌++◌, map, Option, Some, length, drop, slice_get, slice_set}
 use Rattle.std.specs.List.{flat_map}
 use Rattle.tcmu_types.specs.Data.{DoneData}
 use Rattle.tcmu_types.specs.Events.{EventData, AnswerData, EntryData}
 use Rattle.edge.specs.Outside.{Gained, GainedFront}
 use Rattle.tcmu_model.specs.Device.{Device, opening_state}
+use Rattle.tcmu_model.specs.Sound.{Every, IsSound}
 use Rattle.tcmu_model.specs.Steps.{HandlerRelation, Step, Run}
 use Rattle.tcmu_model.specs.ScenarioData.{DeviceLineData}
 use Rattle.tcmu_model.specs.Text.{entries_text, event_line, completion_text}
@@ -61,17 +62,12 @@ pub record AllButLast {X : Type 0} (made : List X) (text : List X → List ℕ) 
   pub piece : List ℕ
   pub gained : Gained old (text written ++ piece) new
 
--- Entries were made, of which a front is written: all whole, but for the last at most. They lead to a device, and the last from it on.
+-- Entries were made, of which all are written whole but the last at most. Those that are written lead to a device, and the last from it on.
 pub record RunAllButLast (R : HandlerRelation) (l : DeviceLineData) (made : List EntryData) (d d' : Device) (old new : Option (List ℕ)) : Type 0 where
-  pub written : List EntryData
-  pub last : List EntryData
-  pub split : made ≡ written ++ last
-  pub one : length last ≤ 1
   pub before : Device
-  pub first : Run R d written before
-  pub second : Run R before last d'
-  pub piece : List ℕ
-  pub gained : Gained old (run_text l d written before ++ piece) new
+  pub parts : AllButLast made (λ es. run_text l d es before) old new
+  pub first : Run R d parts.written before
+  pub second : Run R before parts.last d'
 
 -- Entries were made, of which a front is written. Others can follow them, so that all are as they are to be, and end in a device.
 pub record WroteFront (R : HandlerRelation) (l : DeviceLineData) (so : List EntryData → Device → Type 0) (d d' : Device) (old new : Option (List ℕ)) : Type 0 where
@@ -89,6 +85,14 @@ pub record WroteFront (R : HandlerRelation) (l : DeviceLineData) (so : List Entr
 -- the devices of a list, each with a name
 abbrev pub states_of : {P : Type 0} → (P → Device) → List (List ℕ × P) → List Device
 states_of device es = map (λ e. device e.1) es
+
+-- each is sound
+abbrev pub AreSound : List Device → Type 0
+AreSound = Every (λ d. IsSound d.state)
+
+-- each can accept one command more, by its serial
+abbrev pub CanGoOn : List Device → Type 0
+CanGoOn = Every (λ d. d.state.accepted < 2 ^ 63)
 
 -- Entries that are so were made of the device of this number and written under its name. It accepted at most so many commands more, and
 -- all other devices are as they were.

@@ -17,7 +17,7 @@ use Rattle.tcmu_model.specs.declared.faults.Why.{Why}
 use Rattle.tcmu_model.specs.declared.faults.Why.TheVariants as why
 use Rattle.tcmu_top.specs.Opened.{OpenEach, file_names, a_fetch_fails, KeptFiles, NoneFailed, NextFailed, AsTheyWere}
 use Rattle.tcmu_top.specs.Loads.{LoadEnds}
-use Rattle.tcmu_top.specs.Calls.{TookFront, Calm}
+use Rattle.tcmu_top.specs.Calls.{Outside, TookFront, Calm}
 use Rattle.tcmu_top.specs.Playing.{AllButLast}
 use Rattle.tcmu_top.specs.declared.words.Task.{Task}
 use Rattle.tcmu_top.specs.declared.words.Task.TheVariants as task
@@ -93,24 +93,25 @@ pub record LacksFile (files files' : Option FilesState) (s : ScenarioData) (old 
 
 -- ==== what the source had
 
--- all that the source had is this scenario
-pub record HadScenario (left : Option (List ℕ)) (s : ScenarioData) : Type 0 where
+-- all that the source had is this scenario, and it was read to its end
+pub record HadScenario (left left' : Option (List ℕ)) (s : ScenarioData) : Type 0 where
   pub bytes : List ℕ
   pub told : Tells left bytes
+  pub end : Tells left' []
   pub reads : scenario_of bytes ≡ Ok s
 
--- all that the source had is a scenario of which this holds
-abbrev pub Had : Option (List ℕ) → (ScenarioData → Type 0) → Type 0
-Had left So = (s : ScenarioData) × HadScenario left s × So s
+-- all that the source had is a scenario, of which this holds between two moments: by the files, and by what the sink has
+abbrev pub Had : (Option FilesState → Option FilesState → ScenarioData → Option (List ℕ) → Option (List ℕ) → Type 0) → Outside → Outside → Type 0
+Had So before after = (s : ScenarioData) × HadScenario before.left after.left s × So before.files after.files s before.written after.written
 
 -- the fault of bytes that are more than a scenario has
 abbrev pub too_long : Bad
 too_long = record { line = 0; why = why.TooLong }
 
 -- what the source had is no scenario, for this fault: it had more than a scenario has, or it was read to its end
-abbrev pub IsNoScenario : Option (List ℕ) → Bad → Type 0
-IsNoScenario left bad =
-    ((bad ≡ too_long) × IfSome left (λ bytes. scenario_of bytes ≡ Err bad)) ⊎ ((bytes : List ℕ) × Tells left bytes × (scenario_of bytes ≡ Err bad))
+abbrev pub IsNoScenario : (left left' : Option (List ℕ)) → Bad → Type 0
+IsNoScenario left left' bad =
+    ((bad ≡ too_long) × IfSome left (λ bytes. scenario_of bytes ≡ Err bad)) ⊎ (Tells left' [] × ((bytes : List ℕ) × Tells left bytes × (scenario_of bytes ≡ Err bad)))
 
 -- ==== the statuses
 
@@ -128,28 +129,30 @@ pub record Untouched (files files' : Option FilesState) (old new : Option (List 
   pub wrote : new ≡ old
   pub same : files' ≡ files
 
--- How a replay ends, and what it wrote: by what the source had left and has, its faults before and after, the files and their faults
--- before and after, what the sink had and has, its faults before and after, and the status.
-pub record Ends (left left' : Option (List ℕ)) (read read' : ℕ) (files files' : Option FilesState) (opened opened' : ℕ) (old new : Option (List ℕ)) (wrote wrote' : ℕ) (ended : Status) : Type 0 where
+abbrev pub NothingDone : Outside → Outside → Type 0
+NothingDone before after = Untouched before.files after.files before.written after.written
+
+-- How a replay ends, and what it wrote: by the outside before and after it, and the status.
+pub record Ends (before after : Outside) (ended : Status) : Type 0 where
   -- the whole text of a replay of the scenario that the source had was written
-  pub ok : ended ≡ status.Ok → Had left (λ s. TextWritten files files' s old new)
+  pub ok : ended ≡ status.Ok → Had TextWritten before after
   -- the source failed, and nothing was written
-  pub read_fault : ended ≡ status.ReadFault → Rose read read' × Untouched files files' old new
+  pub read_fault : ended ≡ status.ReadFault → Rose before.source_faults after.source_faults × NothingDone before after
   -- the sink failed
-  pub write_fault : ended ≡ status.WriteFault → Rose wrote wrote' × Had left (λ s. CutShort files files' s old new)
+  pub write_fault : ended ≡ status.WriteFault → Rose before.sink_faults after.sink_faults × Had CutShort before after
   -- memory was wanting: before the scenario was read, or later
-  pub no_memory : ended ≡ status.NoMemory → Untouched files files' old new ⊎ Had left (λ s. Wanting files files' s old new)
+  pub no_memory : ended ≡ status.NoMemory → NothingDone before after ⊎ Had Wanting before after
   -- what the source had is no scenario, and nothing was written
-  pub bad_scenario : (line : ℕ) (reason : Why) → ended ≡ status.BadScenario line reason → IsNoScenario left (record { line = line; why = reason }) × Untouched files files' old new
+  pub bad_scenario : (line : ℕ) (reason : Why) → ended ≡ status.BadScenario line reason → IsNoScenario before.left after.left (record { line = line; why = reason }) × NothingDone before after
   -- a file could not be fetched, and nothing was written
-  pub open_fault : ended ≡ status.OpenFault → Rose opened opened' × Had left (λ s. LacksFile files files' s old new)
+  pub open_fault : ended ≡ status.OpenFault → Rose before.files_faults after.files_faults × Had LacksFile before after
   pub words : ended ≢ status.BadWords
   -- however it ends, nothing but a front was taken of what the source had
-  pub taken : TookFront left left'
+  pub taken : TookFront before.left after.left
   -- no fault of the source, of the files or of the sink is let be
-  pub calm_source : Calm status.ReadFault ended read read'
-  pub calm_files : Calm status.OpenFault ended opened opened'
-  pub calm_sink : Calm status.WriteFault ended wrote wrote'
+  pub calm_source : Calm status.ReadFault ended before.source_faults after.source_faults
+  pub calm_files : Calm status.OpenFault ended before.files_faults after.files_faults
+  pub calm_sink : Calm status.WriteFault ended before.sink_faults after.sink_faults
 
 -- the same, where the scenario is at hand
 pub record ScenarioEnds (s : ScenarioData) (files files' : Option FilesState) (opened opened' : ℕ) (old new : Option (List ℕ)) (wrote wrote' : ℕ) (ended : Status) : Type 0 where
@@ -163,13 +166,17 @@ pub record ScenarioEnds (s : ScenarioData) (files files' : Option FilesState) (o
   pub calm_files : Calm status.OpenFault ended opened opened'
   pub calm_sink : Calm status.WriteFault ended wrote wrote'
 
+-- the bytes are a scenario of which this holds
+abbrev pub Spells : List ℕ → (ScenarioData → Type 0) → Type 0
+Spells bytes So = (s : ScenarioData) × (scenario_of bytes ≡ Ok s) × So s
+
 -- the same, where the bytes are at hand
 pub record BytesEnd (bytes : List ℕ) (files files' : Option FilesState) (opened opened' : ℕ) (old new : Option (List ℕ)) (wrote wrote' : ℕ) (ended : Status) : Type 0 where
-  pub ok : ended ≡ status.Ok → (s : ScenarioData) × (scenario_of bytes ≡ Ok s) × TextWritten files files' s old new
-  pub write_fault : ended ≡ status.WriteFault → Rose wrote wrote' × ((s : ScenarioData) × (scenario_of bytes ≡ Ok s) × CutShort files files' s old new)
-  pub no_memory : ended ≡ status.NoMemory → Untouched files files' old new ⊎ ((s : ScenarioData) × (scenario_of bytes ≡ Ok s) × Wanting files files' s old new)
+  pub ok : ended ≡ status.Ok → Spells bytes (λ s. TextWritten files files' s old new)
+  pub write_fault : ended ≡ status.WriteFault → Rose wrote wrote' × Spells bytes (λ s. CutShort files files' s old new)
+  pub no_memory : ended ≡ status.NoMemory → Untouched files files' old new ⊎ Spells bytes (λ s. Wanting files files' s old new)
   pub bad_scenario : (line : ℕ) (reason : Why) → ended ≡ status.BadScenario line reason → (scenario_of bytes ≡ Err (record { line = line; why = reason })) × Untouched files files' old new
-  pub open_fault : ended ≡ status.OpenFault → Rose opened opened' × ((s : ScenarioData) × (scenario_of bytes ≡ Ok s) × LacksFile files files' s old new)
+  pub open_fault : ended ≡ status.OpenFault → Rose opened opened' × Spells bytes (λ s. LacksFile files files' s old new)
   pub words : ended ≢ status.BadWords
   pub reads : ended ≢ status.ReadFault
   pub calm_files : Calm status.OpenFault ended opened opened'
@@ -177,15 +184,16 @@ pub record BytesEnd (bytes : List ℕ) (files files' : Option FilesState) (opene
 
 -- ==== the words
 
--- How the program ends, by what its words ask for: a replay; a load, which reads nothing and leaves the files; or nothing, where they are
--- none that it knows. What is not called has no faults.
-abbrev pub TaskEnds : Option Task → (left left' : Option (List ℕ)) (read read' : ℕ) (files files' : Option FilesState) (opened opened' : ℕ) (old new : Option (List ℕ)) (wrote wrote' : ℕ) → Status → Type 0
-TaskEnds (Some task.Replay) left left' read read' files files' opened opened' old new wrote wrote' ended =
-    Ends left left' read read' files files' opened opened' old new wrote wrote' ended
-TaskEnds (Some (task.Load seed count)) left left' read read' files files' opened opened' old new wrote wrote' ended =
-    LoadEnds seed count old new wrote wrote' ended × (left' ≡ left) × (files' ≡ files) × (read' ≡ read) × (opened' ≡ opened)
-TaskEnds None left left' read read' files files' opened opened' old new wrote wrote' ended =
-    (ended ≡ status.BadWords) × (left' ≡ left) × Untouched files files' old new × (read' ≡ read) × (opened' ≡ opened) × (wrote' ≡ wrote)
+-- a load calls the sink alone
+pub record LoadAlone (seed count : ℕ) (before after : Outside) (ended : Status) : Type 0 where
+  pub ends : LoadEnds seed count before.written after.written before.sink_faults after.sink_faults ended
+  pub same : after ≡ record before { written = after.written; sink_faults = after.sink_faults }
+
+-- How the program ends, by what its words ask for: a replay; a load; or nothing, where they are none that it knows.
+abbrev pub TaskEnds : Option Task → Outside → Outside → Status → Type 0
+TaskEnds (Some task.Replay) before after ended = Ends before after ended
+TaskEnds (Some (task.Load seed count)) before after ended = LoadAlone seed count before after ended
+TaskEnds None before after ended = (ended ≡ status.BadWords) × (after ≡ before)
 
 -- ==== the fault line
 

@@ -1,5 +1,5 @@
 //! The line that tells a fault.
-ghost use Rattle.std.specs.Prelude.{◌≡◌, ◌≤◌};
+ghost use Rattle.std.specs.Prelude.{◌≡◌, ◌≤◌, []};
 ghost use Rattle.tcmu_types.specs.Numbered.{Rose};
 ghost use Rattle.tcmu_top.specs.declared.status.Status.TheVariants as status;
 ghost use Rattle.tcmu_top.specs.Top.{fault_text, Reported};
@@ -39,9 +39,10 @@ fn fault_line(status: Status) -> Line
     text
 }
 
-/// Hands the line of a fault to the error stream; a failure there is let be.
+/// Hands the line of a fault to the error stream by one call, and makes none where there is no line. A failure there is let be.
 pub fn report<E: Sink>(err: &mut E, status: Status)
     ensures line { Reported status (E.written err.old) (E.written err.new) (Rose (E.faults err.old) (E.faults err.new)) }
+    ensures silent { fault_text status ≡ [] → E.faults err.new ≡ E.faults err.old }
     ensures later { E.faults err.old ≤ E.faults err.new }
 {
     let line = fault_line(status);

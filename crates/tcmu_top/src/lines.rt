@@ -1,7 +1,6 @@
 //! What one line of a scenario asks of its device, each event written as it is made.
-ghost use Rattle.std.specs.Prelude.{◌≡◌, ℕ, ◌^◌, ◌≤◌, ◌<◌, length, drop, IfOk, IfSome, OnOk, OnErr, IsErrOf};
+ghost use Rattle.std.specs.Prelude.{◌≡◌, ℕ, ◌^◌, ◌≤◌, ◌<◌, length, drop, IfOk, IfSome, OnOk, OnErr};
 ghost use Rattle.std.specs.Option.{option_map};
-ghost use Rattle.tcmu_types.specs.Numbered.{Rose};
 ghost use Rattle.tcmu_types.specs.Views.{event_data, answer_data};
 ghost use Rattle.tcmu_model.specs.Steps.{Makes, accepted_by};
 ghost use Rattle.tcmu_model.specs.Drain.{chosen, Drains};
@@ -10,6 +9,7 @@ ghost use Rattle.tcmu_model.specs.Work.{HasOutcomes};
 ghost use Rattle.tcmu_model.specs.Replay.{Plays};
 ghost use Rattle.tcmu_path.specs.Calls.{Accepts};
 ghost use Rattle.tcmu_path.specs.Tasks.{CanBeMade, IsFit};
+ghost use Rattle.tcmu_top.specs.Calls.{SinkFaults};
 ghost use Rattle.tcmu_top.specs.Playing.{Told, Stopped, Wrote, WroteFront};
 
 use crate::writing::{Stop, write_entry};
@@ -39,10 +39,7 @@ fn play<P: Path, K: Sink>(
     requires can { CanBeMade (event_data event.now) }
     ensures ok { OnOk result ((at : ℕ) → Told P.relation at device.now (event_data event.now) (P.device path.old) (P.device path.new) (K.written out.old) (K.written out.new)) }
     ensures err { OnErr result ((at : ℕ) → Stopped P.relation at device.now (event_data event.now) (P.device path.old) (P.device path.new) (K.written out.old) (K.written out.new)) }
-    ensures fault { IsErrOf result Stop.WriteFault → Rose (K.faults out.old) (K.faults out.new) }
-    ensures later { K.faults out.old ≤ K.faults out.new }
-    ensures calm { OnOk result (K.faults out.new ≡ K.faults out.old) }
-    ensures wanting { IsErrOf result Stop.NoMemory → K.faults out.new ≡ K.faults out.old }
+    ensures faults { SinkFaults (K.faults out.old) (K.faults out.new) result }
     ensures accepts { Accepts (accepted_by (event_data event.now)) (P.device path.old) (P.device path.new) }
 {
     let before = path.log().len();
@@ -63,10 +60,7 @@ pub fn drain<P: Path, K: Sink>(
     requires outcomes { HasOutcomes P.relation }
     ensures ok { OnOk result ((at : ℕ) → Wrote P.relation device.now (λ es. Drains P.relation at (P.device path.old) es (P.device path.new)) (P.device path.old) (P.device path.new) (K.written out.old) (K.written out.new)) }
     ensures err { OnErr result ((at : ℕ) → WroteFront P.relation device.now (Drains P.relation at (P.device path.old)) (P.device path.old) (P.device path.new) (K.written out.old) (K.written out.new)) }
-    ensures fault { IsErrOf result Stop.WriteFault → Rose (K.faults out.old) (K.faults out.new) }
-    ensures later { K.faults out.old ≤ K.faults out.new }
-    ensures calm { OnOk result (K.faults out.new ≡ K.faults out.old) }
-    ensures wanting { IsErrOf result Stop.NoMemory → K.faults out.new ≡ K.faults out.old }
+    ensures faults { SinkFaults (K.faults out.old) (K.faults out.new) result }
     ensures accepts { Accepts 0 (P.device path.old) (P.device path.new) }
 {
     while let Some(event) = next_event(&path.todo()) {
@@ -89,10 +83,7 @@ pub fn play_line<P: Path, K: Sink>(
     requires fit { IsFit line.now.what }
     ensures ok { OnOk result ((at : ℕ) → Wrote P.relation device.now (λ es. Plays P.relation at (P.device path.old) line.now.what es (P.device path.new)) (P.device path.old) (P.device path.new) (K.written out.old) (K.written out.new)) }
     ensures err { OnErr result ((at : ℕ) → WroteFront P.relation device.now (Plays P.relation at (P.device path.old) line.now.what) (P.device path.old) (P.device path.new) (K.written out.old) (K.written out.new)) }
-    ensures fault { IsErrOf result Stop.WriteFault → Rose (K.faults out.old) (K.faults out.new) }
-    ensures later { K.faults out.old ≤ K.faults out.new }
-    ensures calm { OnOk result (K.faults out.new ≡ K.faults out.old) }
-    ensures wanting { IsErrOf result Stop.NoMemory → K.faults out.new ≡ K.faults out.old }
+    ensures faults { SinkFaults (K.faults out.old) (K.faults out.new) result }
     ensures accepts { Accepts 1 (P.device path.old) (P.device path.new) }
 {
     match &line.what {

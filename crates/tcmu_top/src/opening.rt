@@ -92,7 +92,7 @@ pub fn open_devices<F: Files>(
     Ok(set)
 }
 
-/// What bears the medium of a device.
+/// What bears the medium of a device line; a function of its own for its clause.
 fn medium_kind(device: &DeviceLine) -> &MediumKind
     ensures { medium_data result.now ≡ device.now.config.kind }
 {

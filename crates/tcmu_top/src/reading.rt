@@ -1,5 +1,5 @@
 //! Reading a source to its end.
-ghost use Rattle.std.specs.Prelude.{◌≡◌, ℕ, ◌≤◌, ◌<◌, length, IfOk, OnOk, IsErrOf, IfSome};
+ghost use Rattle.std.specs.Prelude.{◌≡◌, ◌≤◌, ◌<◌, [], length, IfOk, OnOk, IsErrOf, IfSome};
 ghost use Rattle.tcmu_types.specs.Numbered.{Rose};
 ghost use Rattle.edge.specs.Outside.{Tells};
 ghost use Rattle.tcmu_top.specs.Calls.{TookFront};
@@ -12,7 +12,9 @@ use std::alloc::{AllocError, Global};
 /// Why a source was not read to its end.
 #[derive(Clone, Copy, Debug, PartialEq, Eq)]
 pub enum Unread {
+    /// A read of the source failed.
     Failed,
+    /// The source has more bytes than a scenario.
     TooLong,
     NoMemory,
 }
@@ -28,6 +30,7 @@ impl From<AllocError> for Unread {
 /// All the bytes that the source has left: at most 4,194,304, else `TooLong`. Each turn of the loop takes at least one byte.
 pub fn read_all<S: Source>(alloc: Global, src: &mut S) -> Result<Vec<u8>, Unread>
     ensures all { IfOk result (λ bytes. Tells (S.left src.old) bytes.items) }
+    ensures end { OnOk result (Tells (S.left src.new) []) }
     ensures size { IfOk result (λ bytes. length bytes.items ≤ 4194304) }
     ensures too_long { IsErrOf result Unread.TooLong → IfSome (S.left src.old) (λ bytes. 4194304 < length bytes) }
     ensures failed { IsErrOf result Unread.Failed → Rose (S.faults src.old) (S.faults src.new) }

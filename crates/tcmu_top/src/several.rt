@@ -1,15 +1,16 @@
 //! The replay of a scenario's lines on its devices, and its text.
-ghost use Rattle.std.specs.Prelude.{◌≡◌, ◌+◌, ◌^◌, ◌≤◌, ◌<◌, length, OnOk, OnErr, IsErrOf};
-ghost use Rattle.tcmu_types.specs.Numbered.{Rose};
+ghost use Rattle.std.specs.Prelude.{◌≡◌, ◌+◌, ◌^◌, ◌≤◌, ◌<◌, length, OnOk, OnErr};
 ghost use Rattle.edge.specs.Outside.{Gained, GainedFront};
 ghost use Rattle.tcmu_model.specs.Drain.{Drains};
-ghost use Rattle.tcmu_model.specs.Sound.{IsSound, Every};
+ghost use Rattle.tcmu_model.specs.Sound.{Every};
 ghost use Rattle.tcmu_model.specs.Work.{HasOutcomes};
 ghost use Rattle.tcmu_model.specs.Replay.{Plays};
 ghost use Rattle.tcmu_model.specs.Several.{DrainsEach, ReplaysEach, ends_text};
 ghost use Rattle.tcmu_model.specs.ScenarioRules.{IsScenario, IsServed};
+ghost use Rattle.device_set.specs.Sets.{names};
 ghost use Rattle.tcmu_path.specs.Tasks.{IsFitFor};
-ghost use Rattle.tcmu_top.specs.Playing.{states_of, AreOpened, WroteOn, WroteOnFront, WroteEach, WroteEachFront};
+ghost use Rattle.tcmu_top.specs.Calls.{SinkFaults};
+ghost use Rattle.tcmu_top.specs.Playing.{states_of, AreSound, CanGoOn, AreOpened, WroteOn, WroteOnFront, WroteEach, WroteEachFront};
 ghost use Rattle.tcmu_top.specs.Top.{Replayed, ReplayedInPart};
 
 use crate::lines::{drain, play_line};
@@ -30,16 +31,14 @@ fn drain_on<P: Path, K: Sink>(
 ) -> Result<(), Stop>
     requires there { at < length set.old }
     requires lines { length devices.now ≡ length set.old }
-    requires few { Every (λ d. d.state.accepted < 2 ^ 63) (states_of P.device set.old) }
-    requires sound { Every (λ d. IsSound d.state) (states_of P.device set.old) }
+    requires few { CanGoOn (states_of P.device set.old) }
+    requires sound { AreSound (states_of P.device set.old) }
     requires outcomes { HasOutcomes P.relation }
     ensures ok { OnOk result (WroteOn P.relation devices.now at 0 (Drains P.relation at) (states_of P.device set.old) (states_of P.device set.new) (K.written out.old) (K.written out.new)) }
     ensures err { OnErr result (WroteOnFront P.relation devices.now at (Drains P.relation at) (states_of P.device set.old) (states_of P.device set.new) (K.written out.old) (K.written out.new)) }
-    ensures fault { IsErrOf result Stop.WriteFault → Rose (K.faults out.old) (K.faults out.new) }
-    ensures later { K.faults out.old ≤ K.faults out.new }
-    ensures calm { OnOk result (K.faults out.new ≡ K.faults out.old) }
-    ensures wanting { IsErrOf result Stop.NoMemory → K.faults out.new ≡ K.faults out.old }
+    ensures faults { SinkFaults (K.faults out.old) (K.faults out.new) result }
     ensures count { length set.new ≡ length set.old }
+    ensures names { names set.new ≡ names set.old }
 {
     drain(alloc, &devices[at as usize], set.get_mut(at), out)
 }
@@ -54,16 +53,14 @@ fn play_on<P: Path, K: Sink>(
 ) -> Result<(), Stop>
     requires lines { length devices.now ≡ length set.old }
     requires fit { IsFitFor (length set.old) line.now }
-    requires few { Every (λ d. d.state.accepted < 2 ^ 63) (states_of P.device set.old) }
-    requires sound { Every (λ d. IsSound d.state) (states_of P.device set.old) }
+    requires few { CanGoOn (states_of P.device set.old) }
+    requires sound { AreSound (states_of P.device set.old) }
     requires outcomes { HasOutcomes P.relation }
     ensures ok { OnOk result (WroteOn P.relation devices.now line.now.device 1 (λ d es d'. Plays P.relation line.now.device d line.now.what es d') (states_of P.device set.old) (states_of P.device set.new) (K.written out.old) (K.written out.new)) }
     ensures err { OnErr result (WroteOnFront P.relation devices.now line.now.device (λ d es d'. Plays P.relation line.now.device d line.now.what es d') (states_of P.device set.old) (states_of P.device set.new) (K.written out.old) (K.written out.new)) }
-    ensures fault { IsErrOf result Stop.WriteFault → Rose (K.faults out.old) (K.faults out.new) }
-    ensures later { K.faults out.old ≤ K.faults out.new }
-    ensures calm { OnOk result (K.faults out.new ≡ K.faults out.old) }
-    ensures wanting { IsErrOf result Stop.NoMemory → K.faults out.new ≡ K.faults out.old }
+    ensures faults { SinkFaults (K.faults out.old) (K.faults out.new) result }
     ensures count { length set.new ≡ length set.old }
+    ensures names { names set.new ≡ names set.old }
 {
     let at = line.device;
     play_line(alloc, &devices[at as usize], set.get_mut(at), line, out)
@@ -77,18 +74,16 @@ fn drain_each<P: Path, K: Sink>(
     out: &mut K,
 ) -> Result<(), Stop>
     requires lines { length devices.now ≡ length set.old }
-    requires few { Every (λ d. d.state.accepted < 2 ^ 63) (states_of P.device set.old) }
-    requires sound { Every (λ d. IsSound d.state) (states_of P.device set.old) }
+    requires few { CanGoOn (states_of P.device set.old) }
+    requires sound { AreSound (states_of P.device set.old) }
     requires outcomes { HasOutcomes P.relation }
     ensures ok { OnOk result (WroteEach P.relation devices.now (DrainsEach P.relation 0 (states_of P.device set.old)) (states_of P.device set.old) (states_of P.device set.new) (K.written out.old) (K.written out.new)) }
     ensures err { OnErr result (WroteEachFront P.relation devices.now (DrainsEach P.relation 0 (states_of P.device set.old)) (states_of P.device set.old) (states_of P.device set.new) (K.written out.old) (K.written out.new)) }
-    ensures fault { IsErrOf result Stop.WriteFault → Rose (K.faults out.old) (K.faults out.new) }
-    ensures later { K.faults out.old ≤ K.faults out.new }
-    ensures calm { OnOk result (K.faults out.new ≡ K.faults out.old) }
-    ensures wanting { IsErrOf result Stop.NoMemory → K.faults out.new ≡ K.faults out.old }
+    ensures faults { SinkFaults (K.faults out.old) (K.faults out.new) result }
     ensures count { length set.new ≡ length set.old }
-    ensures still_sound { OnOk result (Every (λ d. IsSound d.state) (states_of P.device set.new)) }
-    ensures still_few { OnOk result (Every (λ d. d.state.accepted < 2 ^ 63) (states_of P.device set.new)) }
+    ensures names { names set.new ≡ names set.old }
+    ensures still_sound { OnOk result (AreSound (states_of P.device set.new)) }
+    ensures still_few { OnOk result (CanGoOn (states_of P.device set.new)) }
 {
     for at in 0..set.len() {
         drain_on(alloc, devices, set, at, out)?;
@@ -107,17 +102,15 @@ fn replay_lines<P: Path, K: Sink>(
     requires lines { length devices.now ≡ length set.old }
     requires fit { Every (IsFitFor (length set.old)) lines.now }
     requires few { Every (λ d. d.state.accepted + length lines.now < 2 ^ 63) (states_of P.device set.old) }
-    requires sound { Every (λ d. IsSound d.state) (states_of P.device set.old) }
+    requires sound { AreSound (states_of P.device set.old) }
     requires outcomes { HasOutcomes P.relation }
     ensures ok { OnOk result (WroteEach P.relation devices.now (ReplaysEach P.relation (states_of P.device set.old) lines.now) (states_of P.device set.old) (states_of P.device set.new) (K.written out.old) (K.written out.new)) }
     ensures err { OnErr result (WroteEachFront P.relation devices.now (ReplaysEach P.relation (states_of P.device set.old) lines.now) (states_of P.device set.old) (states_of P.device set.new) (K.written out.old) (K.written out.new)) }
-    ensures fault { IsErrOf result Stop.WriteFault → Rose (K.faults out.old) (K.faults out.new) }
-    ensures later { K.faults out.old ≤ K.faults out.new }
-    ensures calm { OnOk result (K.faults out.new ≡ K.faults out.old) }
-    ensures wanting { IsErrOf result Stop.NoMemory → K.faults out.new ≡ K.faults out.old }
+    ensures faults { SinkFaults (K.faults out.old) (K.faults out.new) result }
     ensures count { length set.new ≡ length set.old }
-    ensures still_sound { OnOk result (Every (λ d. IsSound d.state) (states_of P.device set.new)) }
-    ensures still_few { OnOk result (Every (λ d. d.state.accepted < 2 ^ 63) (states_of P.device set.new)) }
+    ensures names { names set.new ≡ names set.old }
+    ensures still_sound { OnOk result (AreSound (states_of P.device set.new)) }
+    ensures still_few { OnOk result (CanGoOn (states_of P.device set.new)) }
 {
     for line in lines {
         play_on(alloc, devices, set, line, out)?;
@@ -133,14 +126,11 @@ fn write_ends<P: Path, K: Sink>(
     out: &mut K,
 ) -> Result<(), Stop>
     requires lines { length devices.now ≡ length set.now }
-    requires few { Every (λ d. d.state.accepted < 2 ^ 63) (states_of P.device set.now) }
-    requires sound { Every (λ d. IsSound d.state) (states_of P.device set.now) }
+    requires few { CanGoOn (states_of P.device set.now) }
+    requires sound { AreSound (states_of P.device set.now) }
     ensures ok { OnOk result (Gained (K.written out.old) (ends_text devices.now (states_of P.device set.now)) (K.written out.new)) }
     ensures err { OnErr result (GainedFront (K.written out.old) (ends_text devices.now (states_of P.device set.now)) (K.written out.new)) }
-    ensures fault { IsErrOf result Stop.WriteFault → Rose (K.faults out.old) (K.faults out.new) }
-    ensures later { K.faults out.old ≤ K.faults out.new }
-    ensures calm { OnOk result (K.faults out.new ≡ K.faults out.old) }
-    ensures wanting { IsErrOf result Stop.NoMemory → K.faults out.new ≡ K.faults out.old }
+    ensures faults { SinkFaults (K.faults out.old) (K.faults out.new) result }
 {
     for at in 0..set.len() {
         let count = open_count(set.get(at));
@@ -162,11 +152,9 @@ pub fn replay_devices<P: Path, K: Sink>(
     requires outcomes { HasOutcomes P.relation }
     ensures ok { OnOk result (Replayed P.relation scenario.now.devices (states_of P.device set.old) scenario.now.lines (states_of P.device set.new) (K.written out.old) (K.written out.new)) }
     ensures err { OnErr result (ReplayedInPart P.relation scenario.now.devices (states_of P.device set.old) scenario.now.lines (states_of P.device set.new) (K.written out.old) (K.written out.new)) }
-    ensures fault { IsErrOf result Stop.WriteFault → Rose (K.faults out.old) (K.faults out.new) }
-    ensures later { K.faults out.old ≤ K.faults out.new }
-    ensures calm { OnOk result (K.faults out.new ≡ K.faults out.old) }
-    ensures wanting { IsErrOf result Stop.NoMemory → K.faults out.new ≡ K.faults out.old }
+    ensures faults { SinkFaults (K.faults out.old) (K.faults out.new) result }
     ensures count { length set.new ≡ length set.old }
+    ensures names { names set.new ≡ names set.old }
 {
     let devices = scenario.devices.as_slice();
     write_readies(alloc, devices, out)?;

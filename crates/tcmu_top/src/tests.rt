@@ -1,4 +1,4 @@
-//! The worked rows, over a source and a sink in memory.
+//! Worked examples of the program's calls, over a source, sinks and files in memory.
 use crate::{Status, Why, run_load, run_replay, tcmu_top};
 use edge::{MemFiles, MemSink, MemSource};
 use std::alloc::Global;
@@ -34,7 +34,7 @@ fn lines_in(text: &[u8]) -> u64 {
 
 /// Each line is handed over by one call of the sink, whichever events the lines ask for.
 #[test]
-fn writes(rt: HostRuntime) -> Result<(), Fail> {
+fn each_line_is_one_call_of_the_sink(rt: HostRuntime) -> Result<(), Fail> {
     let alloc = rt.alloc();
     for lines in [
         "",
@@ -52,7 +52,7 @@ fn writes(rt: HostRuntime) -> Result<(), Fail> {
 
 /// Empty input writes nothing; a failing source writes nothing, and a failing sink what was written before.
 #[test]
-fn faults(rt: HostRuntime) -> Result<(), Fail> {
+fn a_failing_sink_leaves_the_lines_before_it(rt: HostRuntime) -> Result<(), Fail> {
     let alloc = rt.alloc();
     let ready = "device d0 tcm-user/0/d0/mem/64 ring=4096 blocks=16 flags=ooo timeout=30 # ready\n";
     let submit = "submit d0 a 1 2a000000000000000300 out=11*512,22*512,33*512";
@@ -74,7 +74,7 @@ fn faults(rt: HostRuntime) -> Result<(), Fail> {
 
 /// 4,194,304 bytes are read, and one more is too long.
 #[test]
-fn longest(rt: HostRuntime) -> Result<(), Fail> {
+fn one_byte_more_than_a_scenario_has_is_too_long(rt: HostRuntime) -> Result<(), Fail> {
     let alloc = rt.alloc();
     for (length, want) in [
         (4_194_304, bad(1, Why::Verb)),
@@ -89,7 +89,7 @@ fn longest(rt: HostRuntime) -> Result<(), Fail> {
 
 /// A fault names its line and its rule, and nothing is written to the journal.
 #[test]
-fn fault_lines(rt: HostRuntime) -> Result<(), Fail> {
+fn a_fault_names_its_line_and_its_rule(rt: HostRuntime) -> Result<(), Fail> {
     let alloc = rt.alloc();
     for (line, why, text) in [
         ("dispatch d9", Why::Name, "tcmu_lab: line 2: name\n"),
@@ -125,8 +125,9 @@ fn fault_lines(rt: HostRuntime) -> Result<(), Fail> {
     Ok(())
 }
 
+/// A line that is fine alone breaks a rule where it stands.
 #[test]
-fn faults_of_whole_lines(rt: HostRuntime) -> Result<(), Fail> {
+fn lines_out_of_place_are_faults(rt: HostRuntime) -> Result<(), Fail> {
     let alloc = rt.alloc();
     for (input, line, why, text) in [
         (
@@ -179,7 +180,7 @@ fn run_words(
 
 /// The words, their fault line, and the codes.
 #[test]
-fn words(rt: HostRuntime) -> Result<(), Fail> {
+fn the_words_decide_the_status(rt: HostRuntime) -> Result<(), Fail> {
     let alloc = rt.alloc();
     for (word, input, want, code, line) in [
         ("replay", "", Status::Ok, 0, ""),
@@ -202,7 +203,7 @@ fn words(rt: HostRuntime) -> Result<(), Fail> {
 
 /// A load writes one line; its seed and its count are numbers within their limits, with no zero in front.
 #[test]
-fn loads(rt: HostRuntime) -> Result<(), Fail> {
+fn a_load_writes_one_line(rt: HostRuntime) -> Result<(), Fail> {
     let alloc = rt.alloc();
     for (seed, count, want, text) in [
         (
@@ -236,7 +237,7 @@ fn loads(rt: HostRuntime) -> Result<(), Fail> {
 
 /// A load makes one call of the sink, whether it fails or not.
 #[test]
-fn load_calls(rt: HostRuntime) -> Result<(), Fail> {
+fn a_load_makes_one_call_of_the_sink(rt: HostRuntime) -> Result<(), Fail> {
     let alloc = rt.alloc();
     for (fails, want) in [(0u64, Status::Ok), (1, Status::WriteFault)] {
         let mut out = MemSink::new(alloc, 64, Serials::from_slice(alloc, &[fails])?)?;

@@ -1,13 +1,14 @@
 //! The top call: words, reading, replaying, and the status.
-ghost use Rattle.std.specs.Prelude.{◌≡◌, ℕ, ◌≤◌, Option};
+ghost use Rattle.std.specs.Prelude.{◌≡◌, ℕ, ◌≤◌, [], Option};
 ghost use Rattle.tcmu_types.specs.Data.{texts_of};
 ghost use Rattle.tcmu_types.specs.Numbered.{Rose};
 ghost use Rattle.edge.specs.Stores.{FilesState};
 ghost use Rattle.tcmu_model.specs.ScenarioRules.{IsScenario, IsServed};
 ghost use Rattle.tcmu_top.specs.Opened.{AreOpen};
 ghost use Rattle.tcmu_top.specs.Playing.{AreOpened, states_of};
+ghost use Rattle.tcmu_top.specs.Calls.{outside};
 ghost use Rattle.tcmu_top.specs.Words.{task_of};
-ghost use Rattle.tcmu_top.specs.Top.{ScenarioEnds, BytesEnd, Ends, TaskEnds, Reported};
+ghost use Rattle.tcmu_top.specs.Top.{ScenarioEnds, BytesEnd, Ends, TaskEnds, fault_text, Reported};
 
 use crate::faults::report;
 use crate::load::run_load;
@@ -97,7 +98,10 @@ pub fn run_replay<S: Source, K: Sink, F: Files>(
     out: &mut K,
     files: &mut F,
 ) -> Status
-    ensures ends { Ends (S.left src.old) (S.left src.new) (S.faults src.old) (S.faults src.new) (F.state files.old) (F.state files.new) (F.faults files.old) (F.faults files.new) (K.written out.old) (K.written out.new) (K.faults out.old) (K.faults out.new) result }
+    ensures ends { Ends
+        (outside (S.left src.old) (S.faults src.old) (F.state files.old) (F.faults files.old) (K.written out.old) (K.faults out.old))
+        (outside (S.left src.new) (S.faults src.new) (F.state files.new) (F.faults files.new) (K.written out.new) (K.faults out.new))
+        result }
     ensures read { S.faults src.old ≤ S.faults src.new }
     ensures opened { F.faults files.old ≤ F.faults files.new }
     ensures wrote { K.faults out.old ≤ K.faults out.new }
@@ -121,7 +125,10 @@ fn run<S: Source, K: Sink, F: Files>(
     out: &mut K,
     files: &mut F,
 ) -> Status
-    ensures ends { TaskEnds (task_of (texts_of words.now.items)) (S.left src.old) (S.left src.new) (S.faults src.old) (S.faults src.new) (F.state files.old) (F.state files.new) (F.faults files.old) (F.faults files.new) (K.written out.old) (K.written out.new) (K.faults out.old) (K.faults out.new) result }
+    ensures ends { TaskEnds (task_of (texts_of words.now.items))
+        (outside (S.left src.old) (S.faults src.old) (F.state files.old) (F.faults files.old) (K.written out.old) (K.faults out.old))
+        (outside (S.left src.new) (S.faults src.new) (F.state files.new) (F.faults files.new) (K.written out.new) (K.faults out.new))
+        result }
     ensures read { S.faults src.old ≤ S.faults src.new }
     ensures opened { F.faults files.old ≤ F.faults files.new }
     ensures wrote { K.faults out.old ≤ K.faults out.new }
@@ -143,8 +150,13 @@ pub fn tcmu_top<S: Source, K: Sink, E: Sink, F: Files>(
     err: &mut E,
     files: &mut F,
 ) -> Status
-    ensures ends { TaskEnds (task_of (texts_of words.now.items)) (S.left src.old) (S.left src.new) (S.faults src.old) (S.faults src.new) (F.state files.old) (F.state files.new) (F.faults files.old) (F.faults files.new) (K.written out.old) (K.written out.new) (K.faults out.old) (K.faults out.new) result }
+    ensures ends { TaskEnds (task_of (texts_of words.now.items))
+        (outside (S.left src.old) (S.faults src.old) (F.state files.old) (F.faults files.old) (K.written out.old) (K.faults out.old))
+        (outside (S.left src.new) (S.faults src.new) (F.state files.new) (F.faults files.new) (K.written out.new) (K.faults out.new))
+        result }
     ensures reported { Reported result (E.written err.old) (E.written err.new) (Rose (E.faults err.old) (E.faults err.new)) }
+    ensures silent { fault_text result ≡ [] → E.faults err.new ≡ E.faults err.old }
+    ensures told { E.faults err.old ≤ E.faults err.new }
     ensures read { S.faults src.old ≤ S.faults src.new }
     ensures opened { F.faults files.old ≤ F.faults files.new }
     ensures wrote { K.faults out.old ≤ K.faults out.new }

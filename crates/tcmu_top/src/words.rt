@@ -8,9 +8,13 @@ ghost use Rattle.tcmu_top.specs.Words.{task_of, replay_of, load_of, IsTask};
 use device_config::fields::number_of;
 use tcmu_types::Words;
 
+/// The most commands of a load.
+const MOST_COMMANDS: u64 = 10_000;
+
 /// What the words ask for.
 #[derive(Clone, Copy, Debug, PartialEq, Eq)]
 pub enum Task {
+    /// The replay of the scenario that the source has.
     Replay,
     /// The load of a seed, of so many commands.
     Load { seed: u64, count: u32 },
@@ -39,7 +43,7 @@ fn load_of(word: &[u8], seed: &[u8], count: &[u8]) -> Option<Task>
         return None;
     }
     let seed = number_of(0, u64::MAX, seed)?;
-    let count = number_of(0, 10000, count)?;
+    let count = number_of(0, MOST_COMMANDS, count)?;
     Some(Task::Load {
         seed,
         count: count as u32,

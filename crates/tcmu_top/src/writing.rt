@@ -1,10 +1,11 @@
 //! Writing a journal, one call of the sink for each line.
-ghost use Rattle.std.specs.Prelude.{◌≡◌, ℕ, ◌+◌, ◌≤◌, ◌<◌, [], ◌∷◌, ◌++◌, length, OnOk, OnErr, IfOk, IsErrOf};
+ghost use Rattle.std.specs.Prelude.{◌≡◌, OnOk, OnErr};
 ghost use Rattle.std.specs.List.{flat_map};
-ghost use Rattle.tcmu_types.specs.Numbered.{Rose};
 ghost use Rattle.tcmu_types.specs.Views.{event_data, answer_data};
 ghost use Rattle.edge.specs.Outside.{Gained, GainedFront};
 ghost use Rattle.tcmu_model.specs.Text as spelled;
+ghost use Rattle.tcmu_top.specs.Calls.{SinkFaults};
+ghost use Rattle.tcmu_top.specs.Calls.{SinkFaults};
 ghost use Rattle.tcmu_top.specs.Playing.{event_lines};
 ghost use Rattle.tcmu_top.specs.declared.writing.Stop.TheVariants.{NoMemory as Wanting};
 
@@ -17,6 +18,7 @@ use tcmu_types::{Answer, Bytes, Done, Event, NoMemory};
 /// Why a replay stopped before its end.
 #[derive(Clone, Copy, Debug, PartialEq, Eq)]
 pub enum Stop {
+    /// A write of the sink failed.
     WriteFault,
     NoMemory,
 }
@@ -33,10 +35,7 @@ impl From<NoMemory> for Stop {
 pub fn write_line<K: Sink>(out: &mut K, line: &[u8]) -> Result<(), Stop>
     ensures ok { OnOk result (Gained (K.written out.old) line.now (K.written out.new)) }
     ensures err { OnErr result (GainedFront (K.written out.old) line.now (K.written out.new)) }
-    ensures fault { IsErrOf result Stop.WriteFault → Rose (K.faults out.old) (K.faults out.new) }
-    ensures later { K.faults out.old ≤ K.faults out.new }
-    ensures calm { OnOk result (K.faults out.new ≡ K.faults out.old) }
-    ensures wanting { IsErrOf result Stop.NoMemory → K.faults out.new ≡ K.faults out.old }
+    ensures faults { SinkFaults (K.faults out.old) (K.faults out.new) result }
 {
     match out.write(line) {
         Ok(()) => Ok(()),
@@ -48,10 +47,7 @@ pub fn write_line<K: Sink>(out: &mut K, line: &[u8]) -> Result<(), Stop>
 fn write_ready<K: Sink>(alloc: Global, device: &DeviceLine, out: &mut K) -> Result<(), Stop>
     ensures ok { OnOk result (Gained (K.written out.old) (spelled.device_text device.now) (K.written out.new)) }
     ensures err { OnErr result (GainedFront (K.written out.old) (spelled.device_text device.now) (K.written out.new)) }
-    ensures fault { IsErrOf result Stop.WriteFault → Rose (K.faults out.old) (K.faults out.new) }
-    ensures later { K.faults out.old ≤ K.faults out.new }
-    ensures calm { OnOk result (K.faults out.new ≡ K.faults out.old) }
-    ensures wanting { IsErrOf result Stop.NoMemory → K.faults out.new ≡ K.faults out.old }
+    ensures faults { SinkFaults (K.faults out.old) (K.faults out.new) result }
 {
     let mut text = Bytes::new(alloc);
     device_text(alloc, device, &mut text)?;
@@ -66,10 +62,7 @@ pub fn write_readies<K: Sink>(
 ) -> Result<(), Stop>
     ensures ok { OnOk result (Gained (K.written out.old) (flat_map spelled.device_text devices.now) (K.written out.new)) }
     ensures err { OnErr result (GainedFront (K.written out.old) (flat_map spelled.device_text devices.now) (K.written out.new)) }
-    ensures fault { IsErrOf result Stop.WriteFault → Rose (K.faults out.old) (K.faults out.new) }
-    ensures later { K.faults out.old ≤ K.faults out.new }
-    ensures calm { OnOk result (K.faults out.new ≡ K.faults out.old) }
-    ensures wanting { IsErrOf result Stop.NoMemory → K.faults out.new ≡ K.faults out.old }
+    ensures faults { SinkFaults (K.faults out.old) (K.faults out.new) result }
 {
     for device in devices {
         write_ready(alloc, device, out)?;
@@ -77,6 +70,7 @@ pub fn write_readies<K: Sink>(
     Ok(())
 }
 
+/// Writes the line of an event, with its answer.
 fn write_event<K: Sink>(
     alloc: Global,
     device: &DeviceLine,
@@ -86,10 +80,7 @@ fn write_event<K: Sink>(
 ) -> Result<(), Stop>
     ensures ok { OnOk result (Gained (K.written out.old) (spelled.event_line device.now.name device.now.settings.qfull (event_data event.now) (answer_data answer.now)) (K.written out.new)) }
     ensures err { OnErr result (GainedFront (K.written out.old) (spelled.event_line device.now.name device.now.settings.qfull (event_data event.now) (answer_data answer.now)) (K.written out.new)) }
-    ensures fault { IsErrOf result Stop.WriteFault → Rose (K.faults out.old) (K.faults out.new) }
-    ensures later { K.faults out.old ≤ K.faults out.new }
-    ensures calm { OnOk result (K.faults out.new ≡ K.faults out.old) }
-    ensures wanting { IsErrOf result Stop.NoMemory → K.faults out.new ≡ K.faults out.old }
+    ensures faults { SinkFaults (K.faults out.old) (K.faults out.new) result }
 {
     let mut text = Bytes::new(alloc);
     event_line(
@@ -103,6 +94,7 @@ fn write_event<K: Sink>(
     write_line(out, text.as_slice())
 }
 
+/// Writes the line of a completion.
 fn write_completion<K: Sink>(
     alloc: Global,
     device: &DeviceLine,
@@ -111,16 +103,14 @@ fn write_completion<K: Sink>(
 ) -> Result<(), Stop>
     ensures ok { OnOk result (Gained (K.written out.old) (spelled.completion_text device.now.name done.now) (K.written out.new)) }
     ensures err { OnErr result (GainedFront (K.written out.old) (spelled.completion_text device.now.name done.now) (K.written out.new)) }
-    ensures fault { IsErrOf result Stop.WriteFault → Rose (K.faults out.old) (K.faults out.new) }
-    ensures later { K.faults out.old ≤ K.faults out.new }
-    ensures calm { OnOk result (K.faults out.new ≡ K.faults out.old) }
-    ensures wanting { IsErrOf result Stop.NoMemory → K.faults out.new ≡ K.faults out.old }
+    ensures faults { SinkFaults (K.faults out.old) (K.faults out.new) result }
 {
     let mut text = Bytes::new(alloc);
     completion_line(alloc, &device.name, done, &mut text)?;
     write_line(out, text.as_slice())
 }
 
+/// Writes the lines of completions, in order.
 fn write_completions<K: Sink>(
     alloc: Global,
     device: &DeviceLine,
@@ -129,10 +119,7 @@ fn write_completions<K: Sink>(
 ) -> Result<(), Stop>
     ensures ok { OnOk result (Gained (K.written out.old) (flat_map (spelled.completion_text device.now.name) logged.now) (K.written out.new)) }
     ensures err { OnErr result (GainedFront (K.written out.old) (flat_map (spelled.completion_text device.now.name) logged.now) (K.written out.new)) }
-    ensures fault { IsErrOf result Stop.WriteFault → Rose (K.faults out.old) (K.faults out.new) }
-    ensures later { K.faults out.old ≤ K.faults out.new }
-    ensures calm { OnOk result (K.faults out.new ≡ K.faults out.old) }
-    ensures wanting { IsErrOf result Stop.NoMemory → K.faults out.new ≡ K.faults out.old }
+    ensures faults { SinkFaults (K.faults out.old) (K.faults out.new) result }
 {
     for done in logged {
         write_completion(alloc, device, done, out)?;
@@ -151,10 +138,7 @@ pub fn write_entry<K: Sink>(
 ) -> Result<(), Stop>
     ensures ok { OnOk result (Gained (K.written out.old) (event_lines device.now (event_data event.now) (answer_data answer.now) logged.now) (K.written out.new)) }
     ensures err { OnErr result (GainedFront (K.written out.old) (event_lines device.now (event_data event.now) (answer_data answer.now) logged.now) (K.written out.new)) }
-    ensures fault { IsErrOf result Stop.WriteFault → Rose (K.faults out.old) (K.faults out.new) }
-    ensures later { K.faults out.old ≤ K.faults out.new }
-    ensures calm { OnOk result (K.faults out.new ≡ K.faults out.old) }
-    ensures wanting { IsErrOf result Stop.NoMemory → K.faults out.new ≡ K.faults out.old }
+    ensures faults { SinkFaults (K.faults out.old) (K.faults out.new) result }
 {
     write_event(alloc, device, event, answer, out)?;
     write_completions(alloc, device, logged, out)
@@ -169,10 +153,7 @@ pub fn write_end<K: Sink>(
 ) -> Result<(), Stop>
     ensures ok { OnOk result (Gained (K.written out.old) (spelled.end_text device.now.name count) (K.written out.new)) }
     ensures err { OnErr result (GainedFront (K.written out.old) (spelled.end_text device.now.name count) (K.written out.new)) }
-    ensures fault { IsErrOf result Stop.WriteFault → Rose (K.faults out.old) (K.faults out.new) }
-    ensures later { K.faults out.old ≤ K.faults out.new }
-    ensures calm { OnOk result (K.faults out.new ≡ K.faults out.old) }
-    ensures wanting { IsErrOf result Stop.NoMemory → K.faults out.new ≡ K.faults out.old }
+    ensures faults { SinkFaults (K.faults out.old) (K.faults out.new) result }
 {
     let mut text = Bytes::new(alloc);
     end_text(alloc, &device.name, count, &mut text)?;

@@ -32,7 +32,7 @@ loop-event-preserved g c =
     record {
       sofar = λ at. draining_more g.P.Path.relation at c.args.device.now _ (g.P.Path.device c.loop-event.path) _ (event_data c.in-Some.event) _ _ _ (c.loop-event.invariant.sofar at) picked (c.in_ok-play.ensures.ok at);
       sound = sound_step g.P.Path.relation _ _ (c.in_ok-play.ensures.ok 0).made.entry c.loop-event.invariant.sound (c.in_ok-play.ensures.ok 0).made.step;
-      calm = c.in_ok-play.ensures.calm ∙ c.loop-event.invariant.calm;
+      calm = c.in_ok-play.ensures.faults.calm ∙ c.loop-event.invariant.calm;
       accepts = record {
         least = omega (arith, c.loop-event.invariant.accepts.least, c.in_ok-play.ensures.accepts.least);
         most = omega (arith, none, c.loop-event.invariant.accepts.most, c.in_ok-play.ensures.accepts.most);

@@ -25,7 +25,8 @@ loop-at-preserved g c =
       sofar = drained_more R c.args.devices.now at (DrainsEach R 0 (states_of g.P.Path.device c.args.set.now)) _ ds ds' _ _ _ c.loop-at.invariant.sofar w;
       few = every_kept (λ (d : Device). d.state.accepted < 2 ^ 63) R c.args.devices.now at 0 (Drains R at) ds ds' _ _ w (λ h. omega (arith, h, w.accepts.most)) c.loop-at.invariant.few;
       count = omega (arith, states_count g.P.Path.device c.loop-at.set, states_count g.P.Path.device c.drain_on.new.set, count_kept R c.args.devices.now at 0 (Drains R at) ds ds' _ _ w, c.loop-at.invariant.count);
-      calm = c.in_ok-drain_on.ensures.calm ∙ c.loop-at.invariant.calm;
+      names = c.drain_on.ensures.names ∙ c.loop-at.invariant.names;
+      calm = c.in_ok-drain_on.ensures.faults.calm ∙ c.loop-at.invariant.calm;
     }
 
 pub returns-clause-ok : goal.returns-clause-ok

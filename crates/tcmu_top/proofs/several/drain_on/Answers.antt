@@ -4,7 +4,7 @@ use Rattle.std.proofs.lemmas.Result.{on_ok_weaker, on_err_weaker}
 use Rattle.tcmu_model.specs.Device.{Device}
 use Rattle.tcmu_model.specs.Drain.{Drains}
 use Rattle.tcmu_model.specs.Sound.{IsSound}
-use Rattle.device_set.proofs.Places.{length-with_device}
+use Rattle.device_set.proofs.Places.{length-with_device, names-with_device}
 use Rattle.tcmu_top.specs.Playing.{states_of}
 use Rattle.tcmu_top.proofs.Sets.{states_get, wrote_on, wrote_on_front}
 use Rattle.tcmu_top.proofs.several.drain_on.Goals as goal
@@ -38,3 +38,6 @@ returns-clause-err g c =
 
 pub returns-clause-count : goal.returns-clause-count
 returns-clause-count g c = length-with_device c.args.set.now c.args.at c.drain.new.path
+
+pub returns-clause-names : goal.returns-clause-names
+returns-clause-names g c = names-with_device c.args.set.now c.args.at c.drain.new.path

@@ -6,7 +6,7 @@ use Rattle.tcmu_model.specs.Replay.{Plays}
 use Rattle.tcmu_model.specs.ScenarioData.{LineData}
 use Rattle.tcmu_model.specs.Sound.{IsSound}
 use Rattle.device_set.specs.Sets.{with_device}
-use Rattle.device_set.proofs.Places.{length-with_device}
+use Rattle.device_set.proofs.Places.{length-with_device, names-with_device}
 use Rattle.tcmu_top.specs.Playing.{states_of, WroteOn, WroteOnFront}
 use Rattle.tcmu_top.proofs.Sets.{states_get, wrote_on, wrote_on_front}
 use Rattle.tcmu_top.proofs.several.play_on.Goals as goal
@@ -52,3 +52,6 @@ returns-clause-err g c =
 
 pub returns-clause-count : goal.returns-clause-count
 returns-clause-count g c = length-with_device c.args.set.now c.line.inside.device c.play_line.new.path
+
+pub returns-clause-names : goal.returns-clause-names
+returns-clause-names g c = names-with_device c.args.set.now c.line.inside.device c.play_line.new.path

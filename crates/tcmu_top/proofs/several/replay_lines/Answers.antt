@@ -58,7 +58,8 @@ loop-line-preserved g c =
       few = every_turned (λ (d : Device). d.state.accepted + n < 2 ^ 63 + i) (λ (d : Device). d.state.accepted + n < 2 ^ 63 + (i + 1)) R c.args.devices.now l.device 1 (PlaysLine R l) ds ds' _ _ w
           (λ d h. omega (arith, h)) (λ h. omega (arith, h, w.accepts.most)) c.loop-line.invariant.few;
       count = omega (arith, states_count g.P.Path.device c.loop-line.set, states_count g.P.Path.device c.play_on.new.set, count_kept R c.args.devices.now l.device 1 (PlaysLine R l) ds ds' _ _ w, c.loop-line.invariant.count);
-      calm = c.in_ok-play_on.ensures.calm ∙ c.loop-line.invariant.calm;
+      names = c.play_on.ensures.names ∙ c.loop-line.invariant.names;
+      calm = c.in_ok-play_on.ensures.faults.calm ∙ c.loop-line.invariant.calm;
     }
 
 pub drain_each-requires-clause-few : goal.drain_each-requires-clause-few

@@ -1,6 +1,7 @@
 use Rattle.std.proofs.Common.{◌≡◌, ◌+◌, ◌<◌, ◌^◌, length, drop}
 use Rattle.tcmu_model.specs.Sound.{Every}
 use Rattle.tcmu_model.specs.Several.{ReplaysEach}
+use Rattle.device_set.specs.Sets.{names}
 use Rattle.tcmu_top.specs.Playing.{states_of}
 use Rattle.tcmu_path.specs.Tasks.{IsFitFor}
 use Rattle.tcmu_top.proofs.Each.{SoFar}
@@ -12,5 +13,6 @@ invariant-loop-line g l = record {
   fit : Every (IsFitFor (length l.fn.set)) (drop l.line-index l.lines);
   few : Every (λ d. d.state.accepted + length l.lines < 2 ^ 63 + l.line-index) (states_of g.P.Path.device l.set);
   count : length l.set ≡ length l.fn.set;
+  names : names l.set ≡ names l.fn.set;
   calm : g.K.Sink.faults l.out ≡ g.K.Sink.faults l.fn.out;
 }

@@ -45,5 +45,5 @@ loop-at-preserved g c =
     let last = rw c.open_count-count.ensures at c.in_ok-write_end.ensures.ok in
     record {
       gained = gained_as _ _ _ _ (sym (ends_more ls ds i l d named found)) (gained_more _ _ _ (ends_text (take i ls) (take i ds)) (last_text l d) c.loop-at.invariant.gained last);
-      calm = c.in_ok-write_end.ensures.calm ∙ c.loop-at.invariant.calm;
+      calm = c.in_ok-write_end.ensures.faults.calm ∙ c.loop-at.invariant.calm;
     }

@@ -28,7 +28,7 @@ returns-in-Ok-clause-ends g c entry before after calm ready =
     let mid = g.F.Files.state c.args.files.now in
     let last = g.F.Files.state c.keep_files.new.files in
     let kept = subst (λ (l : List DeviceLineData). KeepsEach l ends mid last) same c.keep_files.ensures.kept in
-    scenario_ok s entry last before after _ _ _ _ calm c.in-Ok.ensures.calm (text_written s entry mid last ds ends _ _ c.requires.limits ready c.in-Ok.ensures.ok kept)
+    scenario_ok s entry last before after _ _ _ _ calm c.in-Ok.ensures.faults.calm (text_written s entry mid last ds ends _ _ c.requires.limits ready c.in-Ok.ensures.ok kept)
 
 pub returns-in-Err-WriteFault-clause-ends : goal.returns-in-Err-WriteFault-clause-ends
 returns-in-Err-WriteFault-clause-ends g c entry before after calm ready =
@@ -41,7 +41,7 @@ returns-in-Err-WriteFault-clause-ends g c entry before after calm ready =
     let kept = subst (λ (l : List DeviceLineData). KeepsEach l ends mid last) same c.keep_files.ensures.kept in
     let count : length ends ≡ length ds = states_count (λ d. d) c.replay_devices-ended.new.set ∙ c.replay_devices-ended.ensures.count ∙ sym (states_count (λ d. d) c.args.set) in
     let which : c.in-Err-WriteFault.field-0 ≡ stop.WriteFault = rw c.in-Err-WriteFault.is at c.in-Err-WriteFault.field-0-is in
-    scenario_cut s entry last before after _ _ _ _ calm (c.replay_devices-ended.ensures.fault (c.in-Err-WriteFault.is ∙ ap (λ (x : Stop). Err x) which))
+    scenario_cut s entry last before after _ _ _ _ calm (c.replay_devices-ended.ensures.faults.failed (c.in-Err-WriteFault.is ∙ ap (λ (x : Stop). Err x) which))
     (cut_short s entry mid last ds ends _ _ c.requires.limits ready count (rw c.in-Err-WriteFault.is at c.replay_devices-ended.ensures.err) kept)
 
 pub returns-in-Err-NoMemory-clause-ends : goal.returns-in-Err-NoMemory-clause-ends
@@ -55,4 +55,4 @@ returns-in-Err-NoMemory-clause-ends g c entry before after calm ready =
     let kept = subst (λ (l : List DeviceLineData). KeepsEach l ends mid last) same c.keep_files.ensures.kept in
     let count : length ends ≡ length ds = states_count (λ d. d) c.replay_devices-ended.new.set ∙ c.replay_devices-ended.ensures.count ∙ sym (states_count (λ d. d) c.args.set) in
     let which : c.in-Err-NoMemory.field-0 ≡ stop.NoMemory = rw c.in-Err-NoMemory.is at c.in-Err-NoMemory.field-0-is in
-    scenario_wanting s entry last before after _ _ _ _ calm (c.replay_devices-ended.ensures.wanting (c.in-Err-NoMemory.is ∙ ap (λ (x : Stop). Err x) which)) (inr (cut_short s entry mid last ds ends _ _ c.requires.limits ready count (rw c.in-Err-NoMemory.is at c.replay_devices-ended.ensures.err) kept))
+    scenario_wanting s entry last before after _ _ _ _ calm (c.replay_devices-ended.ensures.faults.wanting (c.in-Err-NoMemory.is ∙ ap (λ (x : Stop). Err x) which)) (inr (cut_short s entry mid last ds ends _ _ c.requires.limits ready count (rw c.in-Err-NoMemory.is at c.replay_devices-ended.ensures.err) kept))
