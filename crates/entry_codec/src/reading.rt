@@ -1,5 +1,5 @@
 //! Reading entries that anyone may have written. Every `at` is a byte offset in the ring, which begins at byte 128 of the front.
-ghost use Rattle.std.specs.Prelude.{◌≡◌, ℕ, ◌+◌, ◌-◌, ◌*◌, ◌%◌, ◌≤◌, ◌<◌, length, IfOk};
+ghost use Rattle.std.specs.Prelude.{◌≡◌, ◌+◌, ◌-◌, ◌*◌, ◌%◌, ◌≤◌, ◌<◌, length, IfOk};
 ghost use Rattle.tcmu_model.specs.Layout.{ring_start, data_start};
 ghost use Rattle.tcmu_model.specs.MailboxReading.{IsMailbox};
 ghost use Rattle.tcmu_model.specs.EntryReading.{iov_at, lies_inside, tmr_id_at, first_outside, cdb_at, command_read, tmr_read, limit_of, least_of, kind_read, sized_read, entry_read, response_at, ReadsEntry, KeepsBounds};
@@ -12,8 +12,8 @@ use tcmu_types::{Cdb, Iov, PAGE, group_length};
 /// The iovec of this number, from 0, of the command's entry at ring offset `at`, which lies in `front`, whatever its bytes say.
 #[tactic(auto, unfolding(tcmu_model::specs::EntryReading::iov_at))]
 pub fn read_iov(front: &[u8], at: u32, index: u32) -> Iov
-    requires { 128 + at + 64 + 16 * index ≤ length front.now }
-    ensures { result ≡ iov_at front.now (128 + at) index }
+    requires { ring_start + at + 64 + 16 * index ≤ length front.now }
+    ensures { result ≡ iov_at front.now (ring_start + at) index }
 {
     let slot = MAILBOX_LEN + at as usize + 48 + 16 * index as usize;
     Iov {
@@ -26,8 +26,8 @@ pub fn read_iov(front: &[u8], at: u32, index: u32) -> Iov
 /// `front`.
 #[tactic(auto, unfolding(tcmu_model::specs::EntryReading::tmr_id_at))]
 pub fn read_tmr_id(front: &[u8], at: u32, index: u32) -> u16
-    requires { 128 + at + 34 + 2 * index ≤ length front.now }
-    ensures { result ≡ tmr_id_at front.now (128 + at) index }
+    requires { ring_start + at + 34 + 2 * index ≤ length front.now }
+    ensures { result ≡ tmr_id_at front.now (ring_start + at) index }
 {
     le_u16_at(front, MAILBOX_LEN + at as usize + 32 + 2 * index as usize)
 }
@@ -45,8 +45,8 @@ fn lies_inside(iov: Iov, low: u64, area: u64) -> bool
 
 /// The first iovec that does not lie inside the data area.
 fn first_outside(front: &[u8], at: u32, count: u32, low: u64, area: u64) -> Option<u32>
-    requires slots { 128 + at + 48 + 16 * count ≤ length front.now }
-    ensures { result ≡ first_outside front.now (128 + at) low (low + area) 0 count }
+    requires slots { ring_start + at + 48 + 16 * count ≤ length front.now }
+    ensures { result ≡ first_outside front.now (ring_start + at) low (low + area) 0 count }
 {
     for index in 0..count {
         let iov = read_iov(front, at, index);
@@ -73,6 +73,7 @@ fn cdb_at(front: &[u8], low: u64, high: u64, off: u64) -> Option<Cdb>
     Cdb::new(&front[off as usize..(off + length) as usize]).ok()
 }
 
+/// The command's entry at ring offset `at`, of `len` bytes, or the first rule that it breaks.
 #[tactic(auto, unfolding(tcmu_model::specs::EntryReading::command_read))]
 fn read_cmd(
     front: &[u8],
@@ -82,8 +83,8 @@ fn read_cmd(
     len: u32,
 ) -> Result<EntryRef, EntryFault>
     requires least { 112 ≤ len }
-    requires inside { 128 + at + len ≤ length front.now }
-    ensures { result ≡ command_read front.now area data_off (128 + at) len }
+    requires inside { ring_start + at + len ≤ length front.now }
+    ensures { result ≡ command_read front.now area data_off (ring_start + at) len }
 {
     let start = MAILBOX_LEN + at as usize;
     let iov_cnt = le_u32_at(front, start + 8);
@@ -115,11 +116,12 @@ fn read_cmd(
     }
 }
 
+/// The task management entry at ring offset `at`, of `len` bytes, or the rule that it breaks.
 #[tactic(auto, unfolding(tcmu_model::specs::EntryReading::tmr_read))]
 fn read_tmr(front: &[u8], at: u32, len: u32) -> Result<EntryRef, EntryFault>
     requires least { 32 ≤ len }
-    requires inside { 128 + at + len ≤ length front.now }
-    ensures { result ≡ tmr_read front.now (128 + at) len }
+    requires inside { ring_start + at + len ≤ length front.now }
+    ensures { result ≡ tmr_read front.now (ring_start + at) len }
 {
     let start = MAILBOX_LEN + at as usize;
     let count = le_u32_at(front, start + 12);
@@ -133,6 +135,7 @@ fn read_tmr(front: &[u8], at: u32, len: u32) -> Result<EntryRef, EntryFault>
     })
 }
 
+/// How many bytes an entry at this place may have: up to the head where that is behind it, else up to the ring's end.
 #[tactic(auto, unfolding(tcmu_model::specs::EntryReading::limit_of))]
 fn limit_of(mailbox: &Mailbox, at: u32) -> u32
     requires ring { at < mailbox.now.cmdr_size }
@@ -147,6 +150,7 @@ fn limit_of(mailbox: &Mailbox, at: u32) -> u32
     }
 }
 
+/// The least bytes of an entry of this opcode.
 #[tactic(auto, unfolding(tcmu_model::specs::EntryReading::least_of))]
 fn least_of(op: u8) -> u32
     ensures { result ≡ least_of op }
@@ -158,6 +162,7 @@ fn least_of(op: u8) -> u32
     }
 }
 
+/// The entry of this opcode, long enough for it and inside the ring.
 #[tactic(auto, unfolding(tcmu_model::specs::EntryReading::kind_read, tcmu_model::specs::EntryReading::least_of))]
 fn read_kind(
     front: &[u8],
@@ -168,8 +173,8 @@ fn read_kind(
     len: u32,
 ) -> Result<EntryRef, EntryFault>
     requires least { least_of op ≤ len }
-    requires inside { 128 + at + len ≤ length front.now }
-    ensures { result ≡ kind_read front.now area data_off (128 + at) op len }
+    requires inside { ring_start + at + len ≤ length front.now }
+    ensures { result ≡ kind_read front.now area data_off (ring_start + at) op len }
 {
     if op == 0 {
         return Ok(EntryRef::Pad { len });
@@ -183,6 +188,7 @@ fn read_kind(
     Ok(EntryRef::Unknown { op, len })
 }
 
+/// The entry of this opcode and length, where the length is one that it may have.
 #[tactic(auto, unfolding(tcmu_model::specs::EntryReading::sized_read))]
 fn read_sized(
     front: &[u8],
@@ -194,7 +200,7 @@ fn read_sized(
 ) -> Result<EntryRef, EntryFault>
     requires mailbox { IsMailbox mailbox.now }
     requires ring { at < mailbox.now.cmdr_size }
-    requires reaches { 4096 + mailbox.now.cmdr_size ≤ length front.now }
+    requires reaches { data_start mailbox.now.cmdr_size ≤ length front.now }
     ensures { result ≡ sized_read front.now area mailbox.now at op len }
 {
     if len < least_of(op) {
@@ -220,7 +226,7 @@ pub fn read_entry(
     requires mailbox { IsMailbox mailbox.now }
     requires aligned { at % 8 ≡ 0 }
     requires ring { at < mailbox.now.cmdr_size }
-    requires reaches { 4096 + mailbox.now.cmdr_size ≤ length front.now }
+    requires reaches { data_start mailbox.now.cmdr_size ≤ length front.now }
     ensures value { result ≡ entry_read front.now area mailbox.now at }
     ensures exact { ReadsEntry front.now area mailbox.now at result }
     ensures bounds { IfOk result (λ entry. KeepsBounds front.now area mailbox.now at entry) }
@@ -232,8 +238,8 @@ pub fn read_entry(
 /// The response in the command's entry at ring offset `at` (its bytes 4 to 111), which lies in `front`, whatever these bytes say.
 #[tactic(auto, unfolding(tcmu_model::specs::EntryReading::response_at))]
 pub fn read_response(front: &[u8], at: u32) -> Response
-    requires { 128 + at + 112 ≤ length front.now }
-    ensures { result ≡ response_at front.now (128 + at) }
+    requires { ring_start + at + 112 ≤ length front.now }
+    ensures { result ≡ response_at front.now (ring_start + at) }
 {
     let start = MAILBOX_LEN + at as usize;
     let mut sense = [0; 96];

@@ -1,8 +1,8 @@
 //! Writing entries. Each entry that is written lies in `front`. Each writer writes just its bytes, and leaves all others. Every `at`
 //! is a byte offset in the ring, which begins at byte 128 of the front.
-ghost use Rattle.std.specs.Prelude.{◌≡◌, ℕ, ◌+◌, ◌-◌, ◌*◌, ◌%◌, ◌^◌, ◌≤◌, ◌<◌, length};
+ghost use Rattle.std.specs.Prelude.{◌≡◌, ◌+◌, ◌-◌, ◌*◌, ◌%◌, ◌^◌, ◌≤◌, ◌<◌, length};
 ghost use Rattle.tcmu_model.specs.Lengths.{round_up, tmr_length};
-ghost use Rattle.tcmu_model.specs.Layout.{ring_start, put, padded, zeros, entry_header, pad_bytes, tmr_bytes, command_bytes, command_head, command_length, cdb_place, answer_bytes, iovs_bytes, ids_bytes, with_response};
+ghost use Rattle.tcmu_model.specs.Layout.{ring_start, put, padded, entry_header, pad_bytes, tmr_bytes, command_bytes, command_head, command_length, answer_bytes, iovs_bytes, ids_bytes, with_response};
 
 use mailbox_bytes::MAILBOX_LEN;
 use mailbox_bytes::fields::{put_bytes, put_u8, put_u16, put_u32, put_u64, put_zeros};
@@ -31,6 +31,7 @@ pub fn write_pad(front: &mut [u8], at: u32, len: u32)
     put_zeros(front, start + 8, len as usize - 8);
 }
 
+/// The first 48 bytes of a command's entry: its header, the number of iovecs, and where its command descriptor block stands.
 fn put_command_head(front: &mut [u8], start: usize, len: u32, id: u16, count: u32, cdb_off: u64)
     requires room { start + 48 ≤ length front.old }
     requires fits { len + 1 < 2 ^ 32 }
@@ -45,6 +46,7 @@ fn put_command_head(front: &mut [u8], start: usize, len: u32, id: u16, count: u3
     put_zeros(front, start + 32, 16);
 }
 
+/// Iovecs, 16 bytes each.
 fn put_iovs(front: &mut [u8], start: usize, iovs: &Iovs)
     requires room { start + 16 * length iovs.now.items ≤ length front.old }
     ensures { front.new ≡ put front.old start (iovs_bytes iovs.now.items) }
@@ -57,6 +59,7 @@ fn put_iovs(front: &mut [u8], start: usize, iovs: &Iovs)
     }
 }
 
+/// Ids, two bytes each.
 fn put_ids(front: &mut [u8], start: usize, ids: &Ids)
     requires room { start + 2 * length ids.now.items ≤ length front.old }
     ensures { front.new ≡ put front.old start (ids_bytes ids.now.items) }
@@ -66,6 +69,14 @@ fn put_ids(front: &mut [u8], start: usize, ids: &Ids)
         put_u16(front, at, *id);
         at += 2;
     }
+}
+
+/// The next multiple of 8.
+fn round_up(len: usize) -> usize
+    requires { len < 2 ^ 62 }
+    ensures { result ≡ round_up len }
+{
+    len.div_ceil(8) * 8
 }
 
 /// Bytes, and zeros behind them up to a length.
@@ -88,7 +99,7 @@ pub fn write_request(front: &mut [u8], at: u32, id: u16, blocks: u32, iovs: &Iov
     let start = MAILBOX_LEN + at as usize;
     let place = 112_usize.max(48 + 16 * blocks as usize);
     let cdb = cdb.as_bytes();
-    let cdb_len = (cdb.len() + 7) / 8 * 8;
+    let cdb_len = round_up(cdb.len());
     let count = iovs.len();
     let iovs_end = 48 + 16 * count;
     put_command_head(
@@ -113,7 +124,7 @@ pub fn write_tmr(front: &mut [u8], at: u32, kind: u8, ids: &Ids)
     let start = MAILBOX_LEN + at as usize;
     let count = ids.len();
     let used = 32 + 2 * count;
-    let len = (used + 7) / 8 * 8;
+    let len = round_up(used);
     put_header(front, start, 2, len as u32, 0);
     put_u8(front, start + 8, kind);
     put_zeros(front, start + 9, 3);
@@ -123,6 +134,7 @@ pub fn write_tmr(front: &mut [u8], at: u32, kind: u8, ids: &Ids)
     put_zeros(front, start + used, len - used);
 }
 
+/// Writes bytes 7 to 111 of an entry, which begin at `start` of the front.
 fn put_response(front: &mut [u8], start: usize, uflags: u8, status: u8, read_len: u32, sense: &[u8])
     requires sense { length sense.now ≤ 96 }
     requires room { start + 105 ≤ length front.old }
