@@ -132,7 +132,7 @@ impl Ring {
         (self.cleaned + self.used) % self.size
     }
 
-    /// Where the bytes in use begin.
+    /// Where the bytes in use begin, a byte offset in the ring: what is laid longest stands there.
     pub fn cleaned(&self) -> u32
         ensures { result ≡ self.now.cleaned }
     {
@@ -146,7 +146,7 @@ impl Ring {
         self.used
     }
 
-    /// How many more bytes can be used.
+    /// How many more bytes can be used: the size less those in use, and less the one byte that never is.
     pub fn free(&self) -> u32
         ensures { result ≡ free self.now }
     {

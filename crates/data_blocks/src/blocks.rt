@@ -142,14 +142,14 @@ impl Blocks {
         end
     }
 
-    /// How many blocks are free.
+    /// How many blocks are not held. Those that `reserve` promised are among them.
     pub fn free(&self) -> u32
         ensures { result ≡ free self.now }
     {
         self.limit - self.held
     }
 
-    /// How many blocks are held.
+    /// How many blocks are held, by all commands together.
     pub fn held(&self) -> u32
         ensures value { result ≡ length self.now.held }
         ensures sound { IsHeldBlocks self.now }

@@ -8,7 +8,7 @@ ghost use Rattle.data_blocks.specs.Bitmap.{first_clear};
 
 use std::simd::prelude::*;
 
-/// How many words are searched at a time.
+/// How many words are searched at a time: the lanes of `u64x8`.
 const LANES: usize = 8;
 
 /// Whether the first eight words are all ones.

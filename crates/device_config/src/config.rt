@@ -1,5 +1,5 @@
 //! Config texts, `tcm-user/<hba_num>/<device_name>/<subtype>/<path>`, read into a `Config` or their first fault.
-ghost use Rattle.std.specs.Prelude.{◌≡◌, ◌==◌, ℕ, List, Some, None, IfOk, IfSome, IfNone, length, bytes_eq, [], nat_le, ◌&&◌};
+ghost use Rattle.std.specs.Prelude.{◌≡◌, ◌==◌, Some, None, IfOk, [], ◌&&◌};
 ghost use Rattle.std.specs.List.{list_all, position};
 ghost use Rattle.std.specs.Option.{option_map};
 ghost use Rattle.tcmu_model.specs.Fields.{number_of, name_of};
@@ -71,19 +71,13 @@ fn first_colon(text: &[u8]) -> Option<usize>
 fn subtype_of(text: &[u8]) -> Option<Subtype>
     ensures { result ≡ subtype_of text.now }
 {
-    if is_text(text, b"mem") {
-        return Some(Subtype::Mem);
+    match text {
+        word if is_text(word, b"mem") => Some(Subtype::Mem),
+        word if is_text(word, b"file") => Some(Subtype::File),
+        word if is_text(word, b"ro") => Some(Subtype::Ro),
+        word if is_text(word, b"fail") => Some(Subtype::Fail),
+        _ => None,
     }
-    if is_text(text, b"file") {
-        return Some(Subtype::File);
-    }
-    if is_text(text, b"ro") {
-        return Some(Subtype::Ro);
-    }
-    if is_text(text, b"fail") {
-        return Some(Subtype::Fail);
-    }
-    None
 }
 
 fn all_shown(text: &[u8]) -> bool
@@ -95,13 +89,7 @@ fn all_shown(text: &[u8]) -> bool
 fn is_file_name(text: &[u8]) -> bool
     ensures { result ≡ is_file_name text.now }
 {
-    if text.len() < 1 {
-        return false;
-    }
-    if 200 < text.len() {
-        return false;
-    }
-    all_shown(text)
+    !text.is_empty() && text.len() <= 200 && all_shown(text)
 }
 
 fn memory_of(text: &[u8]) -> Option<MediumKind>
@@ -158,9 +146,8 @@ fn failing_path(alloc: Global, text: &[u8]) -> Result<Option<MediumPath>, NoMemo
 fn plain_path(alloc: Global, kind: Option<MediumKind>, protected: bool) -> Option<MediumPath>
     ensures { result ≡ option_map (λ m. record { kind = m; protected = protected; fails = [] }) (option_map medium_data kind) }
 {
-    let kind = kind?;
     Some(MediumPath {
-        kind,
+        kind: kind?,
         protected,
         fails: Serials::new(alloc),
     })
@@ -210,12 +197,11 @@ fn parts_of(alloc: Global, text: &[u8]) -> Result<Config, ConfigFault>
     let (hba, rest) = hba_part(rest)?;
     let (name, rest) = name_part(rest)?;
     let (subtype, rest) = subtype_part(rest)?;
-    let path = path_of(alloc, subtype, rest)?.ok_or(ConfigFault::Path)?;
     let MediumPath {
         kind,
         protected,
         fails,
-    } = path;
+    } = path_of(alloc, subtype, rest)?.ok_or(ConfigFault::Path)?;
     Ok(Config {
         hba,
         name,

@@ -1,6 +1,6 @@
-//! Numbers, names, digits, runs and lists, read from a field.
-ghost use Rattle.std.specs.Prelude.{◌≡◌, ℕ, ◌+◌, ◌*◌, ◌^◌, ◌<◌, ◌≤◌, ◌==◌, List, [], ◌∷◌, ◌++◌, length, true, IfOk, IfSome, IfNone, Some, None, bytes_eq, map, replicate, if◌then◌else◌};
-ghost use Rattle.std.specs.List.{slice_split, list_all, position};
+//! Fields of config texts and of scenario lines: numbers, names, digits, runs, flags and lists.
+ghost use Rattle.std.specs.Prelude.{◌≡◌, ◌+◌, ◌*◌, ◌^◌, ◌<◌, ◌≤◌, ◌==◌, [], ◌∷◌, ◌++◌, length, true, IfOk, IfSome, IfNone, Some, None, bytes_eq, replicate, if◌then◌else◌};
+ghost use Rattle.std.specs.List.{list_all, position};
 ghost use Rattle.std.specs.Option.{option_map};
 ghost use Rattle.tcmu_types.specs.declared.settings.Flags.{Flags};
 ghost use Rattle.tcmu_model.specs.Reading.{each};
@@ -9,6 +9,14 @@ ghost use Rattle.tcmu_model.specs.Fields.{cut_at, pieces, name_of, is_digit, is_
 use std::alloc::Global;
 use tcmu_types::{Bytes, Cdb, Flags, MOST_PAYLOAD, Name, NoMemory, Serials};
 
+/// No flag set.
+const NO_FLAGS: Flags = Flags {
+    ooo: false,
+    read_len: false,
+    tmr: false,
+};
+
+/// The place of the first such byte.
 fn place_of(bytes: &[u8], at: u8) -> Option<usize>
     ensures { result ≡ position (λ b. b == at) bytes.now }
 {
@@ -27,7 +35,7 @@ pub fn cut(bytes: &[u8], at: u8) -> Option<(&[u8], &[u8])>
     Some((&bytes[..i], &bytes[i + 1..]))
 }
 
-/// Whether a text is this one, byte by byte.
+/// Whether a text is this word, in lower and upper case as it stands.
 pub fn is_text(text: &[u8], wanted: &[u8]) -> bool
     ensures { result ≡ bytes_eq text.now wanted.now }
 {
@@ -90,6 +98,7 @@ pub fn number_of(low: u64, high: u64, text: &[u8]) -> Option<u64>
     Some(n)
 }
 
+/// Numbers from 1 to `high`, with such a byte between them; None where the text is none.
 fn numbers_of(alloc: Global, at: u8, high: u64, text: &[u8]) -> Result<Option<Vec<u64>>, NoMemory>
     requires { high < 2 ^ 60 }
     ensures { IfOk result (λ o. option_map (λ v. v.items) o ≡ each (number_of 1 high) (pieces at text.now)) }
@@ -110,6 +119,7 @@ fn numbers_of(alloc: Global, at: u8, high: u64, text: &[u8]) -> Result<Option<Ve
     Ok(Some(numbers))
 }
 
+/// Whether each number is above the one before it.
 fn is_rising(numbers: &[u64]) -> bool
     ensures { result ≡ is_rising numbers.now }
 {
@@ -129,16 +139,15 @@ pub fn rising_of(alloc: Global, at: u8, high: u64, text: &[u8]) -> Result<Option
     requires { high < 2 ^ 60 }
     ensures { IfOk result (λ o. option_map (λ s. s.items) o ≡ rising_of at high text.now) }
 {
-    let Some(numbers) = numbers_of(alloc, at, high, text)? else {
-        return Ok(None);
-    };
-    if is_rising(&numbers) && numbers.len() <= 64 {
-        Ok(Some(Serials::from_vec(numbers)))
-    } else {
-        Ok(None)
+    match numbers_of(alloc, at, high, text)? {
+        Some(numbers) if is_rising(&numbers) && numbers.len() <= 64 => {
+            Ok(Some(Serials::from_vec(numbers)))
+        }
+        _ => Ok(None),
     }
 }
 
+/// The value of a hexadecimal digit, in lower case alone.
 fn hex_value(b: u8) -> Option<u8>
     ensures value { result ≡ hex_value b }
     ensures small { IfSome result (λ x. x < 16) }
@@ -152,14 +161,14 @@ fn hex_value(b: u8) -> Option<u8>
     None
 }
 
-fn hex_pair(a: u8, b: u8) -> Option<u8>
-    ensures { result ≡ hex_pair a b }
+/// The byte that two hexadecimal digits spell, the high one first.
+fn hex_pair(high: u8, low: u8) -> Option<u8>
+    ensures { result ≡ hex_pair high low }
 {
-    let x = hex_value(a)?;
-    let y = hex_value(b)?;
-    Some(16 * x + y)
+    Some(16 * hex_value(high)? + hex_value(low)?)
 }
 
+/// The bytes that pairs of hexadecimal digits spell; None where the text is none.
 fn bytes_of_hex(alloc: Global, text: &[u8]) -> Result<Option<Vec<u8>>, NoMemory>
     ensures { IfOk result (λ o. option_map (λ v. v.items) o ≡ bytes_of_hex text.now) }
 {
@@ -240,6 +249,7 @@ pub fn runs_of(alloc: Global, text: &[u8]) -> Result<Option<Bytes>, NoMemory>
     Ok(Some(Bytes::from_vec(bytes)))
 }
 
+/// With the flag of this word, which was not set; None where it was, or where the word is none.
 fn with_flag(flags: Flags, word: &[u8]) -> Option<Flags>
     ensures { result ≡ with_flag flags word.now }
 {
@@ -254,14 +264,11 @@ fn with_flag(flags: Flags, word: &[u8]) -> Option<Flags>
     }
 }
 
+/// The flags of words with commas between them, each once; None where the text is none.
 fn with_flags(text: &[u8]) -> Option<Flags>
     ensures { result ≡ with_flags no_flags (pieces 44 text.now) }
 {
-    let mut flags = Flags {
-        ooo: false,
-        read_len: false,
-        tmr: false,
-    };
+    let mut flags = NO_FLAGS;
     let mut rest = text;
     while let Some((first, after)) = cut(rest, b',') {
         flags = with_flag(flags, first)?;
@@ -276,11 +283,7 @@ pub fn flags_of(text: &[u8]) -> Option<Flags>
     ensures { result ≡ flags_of text.now }
 {
     if is_text(text, b"none") {
-        return Some(Flags {
-            ooo: false,
-            read_len: false,
-            tmr: false,
-        });
+        return Some(NO_FLAGS);
     }
     with_flags(text)
 }

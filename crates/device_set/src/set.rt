@@ -1,6 +1,6 @@
 //! Devices by name.
 ghost use Rattle.std.specs.Prelude.{◌≡◌, ◌<◌, ◌-◌, ◌++◌, ◌∷◌, [], Some, None, IfOk, IfErr, OnOk, OnErr, length, slice_get, take};
-ghost use Rattle.device_set.specs.Sets.{names, devices, number_of};
+ghost use Rattle.device_set.specs.Sets.{devices, number_of};
 
 use indexmap::IndexMap;
 use std::alloc::{AllocFailed, Global};

@@ -2,6 +2,7 @@
 //! write.
 #![tactic(auto)]
 
+mod fields;
 mod laws;
 mod reading;
 #[cfg(test)]

@@ -1,9 +1,13 @@
 //! Reading entries that anyone may have written. Every `at` is a byte offset in the ring, which begins at byte 128 of the front.
-ghost use Rattle.std.specs.Prelude.{◌≡◌, ℕ, ◌+◌, ◌-◌, ◌*◌, ◌%◌, ◌≤◌, ◌<◌, length, IfOk};
+ghost use Rattle.std.specs.Prelude.{◌≡◌, ◌+◌, ◌-◌, ◌*◌, ◌%◌, ◌≤◌, ◌<◌, length, IfOk};
 ghost use Rattle.tcmu_model.specs.Layout.{ring_start, data_start};
 ghost use Rattle.tcmu_model.specs.MailboxReading.{IsMailbox};
 ghost use Rattle.tcmu_model.specs.EntryReading.{iov_at, lies_inside, tmr_id_at, first_outside, cdb_at, command_read, tmr_read, limit_of, least_of, kind_read, sized_read, entry_read, response_at, ReadsEntry, KeepsBounds};
 
+use crate::fields::{
+    BIDI_COUNT, CDB_OFFSET, COMMAND, HEADER_LEN, ID, ID_COUNT, IDS, IOV_COUNT, IOV_LEN, IOVECS,
+    LEAST_COMMAND, LEAST_TMR, PAD, PROTECTION_COUNT, TMR, TMR_TYPE, UFLAGS,
+};
 use mailbox_bytes::MAILBOX_LEN;
 use mailbox_bytes::fields::{le_u16_at, le_u32_at, le_u64_at, u8_at};
 use tcmu_model::{EntryFault, EntryRef, Mailbox, Response};
@@ -12,10 +16,10 @@ use tcmu_types::{Cdb, Iov, PAGE, group_length};
 /// The iovec of this number, from 0, of the command's entry at ring offset `at`, which lies in `front`, whatever its bytes say.
 #[tactic(auto, unfolding(tcmu_model::specs::EntryReading::iov_at))]
 pub fn read_iov(front: &[u8], at: u32, index: u32) -> Iov
-    requires { 128 + at + 64 + 16 * index ≤ length front.now }
-    ensures { result ≡ iov_at front.now (128 + at) index }
+    requires { ring_start + at + 64 + 16 * index ≤ length front.now }
+    ensures { result ≡ iov_at front.now (ring_start + at) index }
 {
-    let slot = MAILBOX_LEN + at as usize + 48 + 16 * index as usize;
+    let slot = MAILBOX_LEN + at as usize + IOVECS + IOV_LEN * index as usize;
     Iov {
         base: le_u64_at(front, slot),
         len: le_u64_at(front, slot + 8),
@@ -26,10 +30,10 @@ pub fn read_iov(front: &[u8], at: u32, index: u32) -> Iov
 /// `front`.
 #[tactic(auto, unfolding(tcmu_model::specs::EntryReading::tmr_id_at))]
 pub fn read_tmr_id(front: &[u8], at: u32, index: u32) -> u16
-    requires { 128 + at + 34 + 2 * index ≤ length front.now }
-    ensures { result ≡ tmr_id_at front.now (128 + at) index }
+    requires { ring_start + at + 34 + 2 * index ≤ length front.now }
+    ensures { result ≡ tmr_id_at front.now (ring_start + at) index }
 {
-    le_u16_at(front, MAILBOX_LEN + at as usize + 32 + 2 * index as usize)
+    le_u16_at(front, MAILBOX_LEN + at as usize + IDS + 2 * index as usize)
 }
 
 /// Whether an iovec lies inside the `area` bytes from `low` on.
@@ -45,8 +49,8 @@ fn lies_inside(iov: Iov, low: u64, area: u64) -> bool
 
 /// The first iovec that does not lie inside the data area.
 fn first_outside(front: &[u8], at: u32, count: u32, low: u64, area: u64) -> Option<u32>
-    requires slots { 128 + at + 48 + 16 * count ≤ length front.now }
-    ensures { result ≡ first_outside front.now (128 + at) low (low + area) 0 count }
+    requires slots { ring_start + at + 48 + 16 * count ≤ length front.now }
+    ensures { result ≡ first_outside front.now (ring_start + at) low (low + area) 0 count }
 {
     for index in 0..count {
         let iov = read_iov(front, at, index);
@@ -73,6 +77,7 @@ fn cdb_at(front: &[u8], low: u64, high: u64, off: u64) -> Option<Cdb>
     Cdb::new(&front[off as usize..(off + length) as usize]).ok()
 }
 
+/// The command's entry at ring offset `at`, of `len` bytes, or the first rule that it breaks.
 #[tactic(auto, unfolding(tcmu_model::specs::EntryReading::command_read))]
 fn read_cmd(
     front: &[u8],
@@ -82,57 +87,60 @@ fn read_cmd(
     len: u32,
 ) -> Result<EntryRef, EntryFault>
     requires least { 112 ≤ len }
-    requires inside { 128 + at + len ≤ length front.now }
-    ensures { result ≡ command_read front.now area data_off (128 + at) len }
+    requires inside { ring_start + at + len ≤ length front.now }
+    ensures { result ≡ command_read front.now area data_off (ring_start + at) len }
 {
     let start = MAILBOX_LEN + at as usize;
-    let iov_cnt = le_u32_at(front, start + 8);
-    if len as u64 <= 48 + 16 * iov_cnt as u64 {
+    let iov_cnt = le_u32_at(front, start + IOV_COUNT);
+    let iovs_end = IOVECS as u64 + IOV_LEN as u64 * iov_cnt as u64;
+    if len as u64 <= iovs_end {
         return Err(EntryFault::BadCount(iov_cnt));
     }
-    let bidi = le_u32_at(front, start + 12);
+    let bidi = le_u32_at(front, start + BIDI_COUNT);
     if bidi != 0 {
         return Err(EntryFault::BadCount(bidi));
     }
-    let dif = le_u32_at(front, start + 16);
-    if dif != 0 {
-        return Err(EntryFault::BadCount(dif));
+    let protection = le_u32_at(front, start + PROTECTION_COUNT);
+    if protection != 0 {
+        return Err(EntryFault::BadCount(protection));
     }
-    let off = le_u64_at(front, start + 24);
-    let id = le_u16_at(front, start + 4);
-    let low = start as u64 + 48 + 16 * iov_cnt as u64;
-    match cdb_at(front, low, start as u64 + len as u64, off) {
-        None => Err(EntryFault::CdbOutside(off)),
-        Some(cdb) => match first_outside(front, at, iov_cnt, data_off as u64, area) {
-            None => Ok(EntryRef::Cmd {
-                len,
-                id,
-                iov_cnt,
-                cdb,
-            }),
-            Some(index) => Err(EntryFault::IovOutside(index)),
-        },
+    let off = le_u64_at(front, start + CDB_OFFSET);
+    let id = le_u16_at(front, start + ID);
+    let low = start as u64 + iovs_end;
+    let cdb = cdb_at(front, low, start as u64 + len as u64, off).ok_or(EntryFault::CdbOutside(
+        off,
+    ))?;
+    if let Some(index) = first_outside(front, at, iov_cnt, data_off as u64, area) {
+        return Err(EntryFault::IovOutside(index));
     }
+    Ok(EntryRef::Cmd {
+        len,
+        id,
+        iov_cnt,
+        cdb,
+    })
 }
 
+/// The task management entry at ring offset `at`, of `len` bytes, or the rule that it breaks.
 #[tactic(auto, unfolding(tcmu_model::specs::EntryReading::tmr_read))]
 fn read_tmr(front: &[u8], at: u32, len: u32) -> Result<EntryRef, EntryFault>
     requires least { 32 ≤ len }
-    requires inside { 128 + at + len ≤ length front.now }
-    ensures { result ≡ tmr_read front.now (128 + at) len }
+    requires inside { ring_start + at + len ≤ length front.now }
+    ensures { result ≡ tmr_read front.now (ring_start + at) len }
 {
     let start = MAILBOX_LEN + at as usize;
-    let count = le_u32_at(front, start + 12);
-    if (len as u64) < 32 + 2 * count as u64 {
+    let count = le_u32_at(front, start + ID_COUNT);
+    if (len as u64) < IDS as u64 + 2 * count as u64 {
         return Err(EntryFault::BadCount(count));
     }
     Ok(EntryRef::Tmr {
         len,
-        kind: u8_at(front, start + 8),
+        kind: u8_at(front, start + TMR_TYPE),
         count,
     })
 }
 
+/// How many bytes an entry at this place may have: up to the head where that is behind it, else up to the ring's end.
 #[tactic(auto, unfolding(tcmu_model::specs::EntryReading::limit_of))]
 fn limit_of(mailbox: &Mailbox, at: u32) -> u32
     requires ring { at < mailbox.now.cmdr_size }
@@ -147,17 +155,19 @@ fn limit_of(mailbox: &Mailbox, at: u32) -> u32
     }
 }
 
+/// The least bytes of an entry of this opcode.
 #[tactic(auto, unfolding(tcmu_model::specs::EntryReading::least_of))]
 fn least_of(op: u8) -> u32
     ensures { result ≡ least_of op }
 {
     match op {
-        1 => 112,
-        2 => 32,
-        _ => 8,
+        COMMAND => LEAST_COMMAND,
+        TMR => LEAST_TMR,
+        _ => HEADER_LEN,
     }
 }
 
+/// The entry of this opcode, long enough for it and inside the ring.
 #[tactic(auto, unfolding(tcmu_model::specs::EntryReading::kind_read, tcmu_model::specs::EntryReading::least_of))]
 fn read_kind(
     front: &[u8],
@@ -168,21 +178,18 @@ fn read_kind(
     len: u32,
 ) -> Result<EntryRef, EntryFault>
     requires least { least_of op ≤ len }
-    requires inside { 128 + at + len ≤ length front.now }
-    ensures { result ≡ kind_read front.now area data_off (128 + at) op len }
+    requires inside { ring_start + at + len ≤ length front.now }
+    ensures { result ≡ kind_read front.now area data_off (ring_start + at) op len }
 {
-    if op == 0 {
-        return Ok(EntryRef::Pad { len });
+    match op {
+        PAD => Ok(EntryRef::Pad { len }),
+        COMMAND => read_cmd(front, area, data_off, at, len),
+        TMR => read_tmr(front, at, len),
+        _ => Ok(EntryRef::Unknown { op, len }),
     }
-    if op == 1 {
-        return read_cmd(front, area, data_off, at, len);
-    }
-    if op == 2 {
-        return read_tmr(front, at, len);
-    }
-    Ok(EntryRef::Unknown { op, len })
 }
 
+/// The entry of this opcode and length, where the length is one that it may have.
 #[tactic(auto, unfolding(tcmu_model::specs::EntryReading::sized_read))]
 fn read_sized(
     front: &[u8],
@@ -194,7 +201,7 @@ fn read_sized(
 ) -> Result<EntryRef, EntryFault>
     requires mailbox { IsMailbox mailbox.now }
     requires ring { at < mailbox.now.cmdr_size }
-    requires reaches { 4096 + mailbox.now.cmdr_size ≤ length front.now }
+    requires reaches { data_start mailbox.now.cmdr_size ≤ length front.now }
     ensures { result ≡ sized_read front.now area mailbox.now at op len }
 {
     if len < least_of(op) {
@@ -220,7 +227,7 @@ pub fn read_entry(
     requires mailbox { IsMailbox mailbox.now }
     requires aligned { at % 8 ≡ 0 }
     requires ring { at < mailbox.now.cmdr_size }
-    requires reaches { 4096 + mailbox.now.cmdr_size ≤ length front.now }
+    requires reaches { data_start mailbox.now.cmdr_size ≤ length front.now }
     ensures value { result ≡ entry_read front.now area mailbox.now at }
     ensures exact { ReadsEntry front.now area mailbox.now at result }
     ensures bounds { IfOk result (λ entry. KeepsBounds front.now area mailbox.now at entry) }
@@ -232,15 +239,15 @@ pub fn read_entry(
 /// The response in the command's entry at ring offset `at` (its bytes 4 to 111), which lies in `front`, whatever these bytes say.
 #[tactic(auto, unfolding(tcmu_model::specs::EntryReading::response_at))]
 pub fn read_response(front: &[u8], at: u32) -> Response
-    requires { 128 + at + 112 ≤ length front.now }
-    ensures { result ≡ response_at front.now (128 + at) }
+    requires { ring_start + at + 112 ≤ length front.now }
+    ensures { result ≡ response_at front.now (ring_start + at) }
 {
     let start = MAILBOX_LEN + at as usize;
     let mut sense = [0; 96];
     sense.copy_from_slice(&front[start + 16..start + 112]);
     Response {
-        id: le_u16_at(front, start + 4),
-        uflags: u8_at(front, start + 7),
+        id: le_u16_at(front, start + ID),
+        uflags: u8_at(front, start + UFLAGS),
         status: u8_at(front, start + 8),
         read_len: le_u32_at(front, start + 12),
         sense,

@@ -1,5 +1,4 @@
 //! The worked bytes of entries, and each fault at its border. The region has a ring of 4096 bytes, its data area begins at byte 8192.
-ghost use Rattle.std.specs.Prelude.{◌≡◌, length};
 
 use super::*;
 use mailbox_bytes::fields::{put_u32, put_u64};

@@ -1,5 +1,5 @@
 //! Data blocks as values.
-ghost use Rattle.std.specs.Prelude.{◌≡◌, ℕ, ◌+◌, ◌-◌, ◌≤◌, ◌<◌, min, [], ◌∷◌, ◌++◌, List, length, take, drop, replicate, IfOk, OnOk, slice_get, slice_set, slice_index_or, Some, IsSome, option_to_list, ◌↔◌};
+ghost use Rattle.std.specs.Prelude.{◌≡◌, ℕ, ◌+◌, ◌-◌, ◌≤◌, ◌<◌, min, [], ◌∷◌, ◌++◌, List, length, take, IfOk, OnOk, IsSome, option_to_list, ◌↔◌};
 ghost use Rattle.tcmu_model.specs.Layout.{zeros, put};
 ghost use Rattle.tcmu_model.specs.Iovecs.{scattered, gathered, room_of};
 
@@ -68,7 +68,7 @@ impl Block {
         clear_bytes(&mut self.bytes, length);
     }
 
-    /// Writes bytes over those from a place on.
+    /// Writes bytes over those from byte `at` of the block on.
     pub fn put(&mut self, at: usize, bytes: &[u8])
         requires { at + length bytes.now ≤ length self.old }
         ensures { self.new ≡ put self.old at bytes.now }
@@ -77,7 +77,7 @@ impl Block {
     }
 }
 
-/// A list of blocks.
+/// Blocks that are lent, in the order of their iovecs: the parts of a job.
 #[derive(Drop)]
 pub struct Parts {
     blocks: Vec<Block>,

@@ -1,8 +1,9 @@
 //! Numbers among bytes, the lowest byte first. Each call asks that the bytes which it names lie in the slice.
-ghost use Rattle.std.specs.Prelude.{◌≡◌, ℕ, ◌+◌, ◌≤◌, length, ◌∷◌, []};
+ghost use Rattle.std.specs.Prelude.{◌≡◌, ◌+◌, ◌≤◌, length};
 ghost use Rattle.tcmu_model.specs.Layout.{le, field, zeros, put};
 
 use byteorder::{ByteOrder, LittleEndian};
+use tcmu_types::overwrite;
 
 /// Writes a number over the two bytes from `at` on.
 pub fn put_u16(into: &mut [u8], at: usize, value: u16)
@@ -45,11 +46,12 @@ pub fn put_zeros(into: &mut [u8], at: usize, count: usize)
 }
 
 /// Writes bytes over those from `at` on.
+#[tactic(auto, unfolding(tcmu_model::specs::Layout::put))]
 pub fn put_bytes(into: &mut [u8], at: usize, bytes: &[u8])
     requires { at + length bytes.now ≤ length into.old }
     ensures { into.new ≡ put into.old at bytes.now }
 {
-    into[at..at + bytes.len()].copy_from_slice(bytes);
+    overwrite(into, at, bytes);
 }
 
 /// The number in the two bytes from `at` on.

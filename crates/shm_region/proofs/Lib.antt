@@ -1,6 +1,7 @@
 mod Sized
 mod Opening
 mod Lent
+mod Returned
 mod Over
 mod Shown
 mod Copied

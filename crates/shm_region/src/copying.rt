@@ -1,8 +1,8 @@
 //! Bytes copied along iovecs, by byte offsets in the region. A lent block reads as zeros, and is not changed.
-ghost use Rattle.std.specs.Prelude.{◌≡◌, ℕ, ◌+◌, ◌-◌, ◌*◌, ◌^◌, ◌<◌, ◌≤◌, length, take, drop, min};
+ghost use Rattle.std.specs.Prelude.{◌≡◌, ◌+◌, ◌-◌, ◌^◌, ◌<◌, ◌≤◌, length, take, drop, min};
 ghost use Rattle.tcmu_model.specs.Layout.{put};
 ghost use Rattle.tcmu_model.specs.Iovecs.{EndBelow, total_of, along};
-ghost use Rattle.tcmu_model.specs.Regions.{bytes_of, size_of, wrote, copied_in, LieInRegion};
+ghost use Rattle.tcmu_model.specs.Regions.{bytes_of, wrote, copied_in, LieInRegion};
 
 use crate::Region;
 use mailbox_bytes::fields::{put_bytes, put_zeros};
@@ -83,6 +83,7 @@ impl Region {
         }
     }
 
+    /// Writes bytes along iovecs, as many as these have room for, and answers how many.
     fn write_along(&mut self, iovs: &[Iov], bytes: &[u8]) -> u64
         requires { EndBelow iovs.now }
         ensures region { self.new ≡ copied_in self.old iovs.now bytes.now }
@@ -97,6 +98,7 @@ impl Region {
         (bytes.len() - rest.len()) as u64
     }
 
+    /// Fills `into` along iovecs, which have at least so many bytes.
     fn read_along(&self, iovs: &[Iov], into: &mut [u8])
         requires inside { LieInRegion self.now iovs.now }
         requires enough { length into.old ≤ total_of iovs.now }
@@ -116,6 +118,7 @@ impl Region {
         ensures region { self.new ≡ copied_in self.old iovs.now.items bytes.now }
         ensures count { result ≡ min (length bytes.now) (total_of iovs.now.items) }
     {
+        // What this call ensures is used: the limits of every region.
         let _ = self.data_off();
         self.write_along(iovs.as_slice(), bytes)
     }

@@ -1,6 +1,5 @@
 //! The region of one device.
-ghost use Rattle.std.specs.Prelude.{◌≡◌, ℕ, [], ◌∷◌, ◌+◌, ◌-◌, ◌*◌, ◌^◌, ◌<◌, ◌≤◌, ◌++◌, length, slice_get, Some, None, true, IfSome, IsSome, is_ok, is_some, option_map, if◌then◌else◌, IfOk, OnOk, OnErr};
-ghost use Rattle.tcmu_model.specs.Lengths.{block_size};
+ghost use Rattle.std.specs.Prelude.{◌≡◌, [], ◌∷◌, ◌+◌, ◌-◌, ◌*◌, ◌^◌, ◌<◌, ◌≤◌, ◌++◌, length, slice_get, Some, None, true, IfSome, IsSome, is_ok, is_some, option_map, if◌then◌else◌, IfOk, OnOk, OnErr};
 ghost use Rattle.tcmu_model.specs.Layout.{le, field, put, zeros, padded, flag_bits, head_place, tail_place, data_start, mailbox_bytes, device_mailbox};
 ghost use Rattle.tcmu_model.specs.Regions.{RegionState, IsRegion, size_of, bytes_of, block_at, home, is_home, put_home, opening_region, cleared, grown_to, shrunk_to, with_block, overlaid};
 ghost use Rattle.std.specs.Borrow.{sem};
@@ -32,6 +31,7 @@ impl Model for Region {
     ghost invariant = { λ a. IsRegion a.front.items a.blocks.items a.pages };
 }
 
+/// The flags as the mailbox has them: bit 0 for completions in any order, bit 1 for read lengths, bit 2 for task management.
 fn flag_bits(flags: Flags) -> u16
     ensures { result ≡ flag_bits flags }
 {
@@ -73,6 +73,7 @@ fn overlay(part: &mut [u8], place: u64, at: u64, bytes: &[u8])
     put_bytes(part, start as usize, &rest[..count]);
 }
 
+/// The same for a block.
 fn overlay_of(block: &mut Block, place: u64, at: u64, bytes: &[u8])
     ensures { block.new ≡ overlaid place at bytes.now block.old }
 {
@@ -150,11 +151,12 @@ impl Region {
         self.front.len() as u64
     }
 
-    /// The bytes of the data area, which ends where the region ends.
+    /// How many bytes the data area has, those of lent blocks too. It ends where the region ends.
     pub fn area_len(&self) -> u64
         ensures value { result ≡ size_of self.now * length self.now.blocks }
         ensures end { length (bytes_of self.now) ≡ length self.now.front + result }
     {
+        // What this call ensures is used: the limits of every region.
         let _ = self.data_off();
         (PAGE * self.pages) as u64 * self.blocks.len() as u64
     }
@@ -218,6 +220,7 @@ impl Region {
         ensures value { option_map (λ b. b.now) result ≡ block_at self.now block }
         ensures size { IfSome result (λ b. length b.now ≡ size_of self.now) }
     {
+        // What this call ensures is used: the limits of every region.
         let _ = self.data_off();
         self.home(block)
     }
@@ -308,7 +311,7 @@ impl Region {
         Ok(())
     }
 
-    /// Makes a block at home zero, and leaves a lent one as it is.
+    /// Makes a block zero. A lent one stays as it is: its bytes are in a job.
     pub fn clear(&mut self, block: u32)
         requires { block < length self.old.blocks }
         ensures { self.new ≡ with_block self.old block (cleared (size_of self.old) (block_at self.old block)) }
