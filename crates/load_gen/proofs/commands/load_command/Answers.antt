@@ -7,4 +7,4 @@ command_of-requires c =
 
 pub command_of-requires-2 : goal.command_of-requires-2
 command_of-requires-2 c =
-    rw (c.cdb_of-cdb-2.ensures, c.new.ensures, c.from.ensures, c.from-2.ensures) (read_sendable c.args.tag c.load_lba-lba.result c.load_count-count.result c.load_count-count.ensures.most)
+    rw (c.cdb_of-cdb-2.ensures, c.new.ensures, c.from-in_len.ensures) (read_sendable c.args.tag c.load_lba-lba.result c.load_count-count.result c.load_count-count.ensures.most)
