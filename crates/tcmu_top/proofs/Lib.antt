@@ -15,3 +15,4 @@ pub mod Keeping
 pub mod GivenBack
 pub mod Scenarios
 pub mod Agreed
+pub mod OneLine

@@ -1,5 +1,5 @@
-//! The laws of texts: what holds of the text of every scenario over media in memory.
-ghost use Rattle.tcmu_top.specs.Laws.{TextsAgree};
+//! The laws of texts: what holds of the text of every scenario over media in memory, and of the line of every load.
+ghost use Rattle.tcmu_top.specs.Laws.{TextsAgree, HasOneLine};
 ghost use Rattle.text_laws.specs.InMemory.{LawOfReplay, LawOfJournals, HasOneText, HasOneJournal};
 
 /// The law of replay. The text of a replay without dumps is a scenario where it has at most 4,194,304 bytes and the replay has at
@@ -24,4 +24,9 @@ pub fn text_law()
 /// Where all media lie in memory, the texts that `run_replay` may write are those of which these laws speak, whatever the files.
 pub fn memory_law()
     ensures { TextsAgree }
+{}
+
+/// A seed and a count have one line: the load at the same words writes the same.
+pub fn load_law()
+    ensures { HasOneLine }
 {}

@@ -1,5 +1,7 @@
 //! The worked rows, over a source and a sink in memory.
-use crate::{Status, Why, run_load, run_replay, tcmu_top};
+use crate::{
+    Status, Why, load_law, memory_law, replay_law, run_load, run_replay, tcmu_top, text_law,
+};
 use edge::{MemFiles, MemSink, MemSource};
 use std::alloc::Global;
 use std::test::Fail;
@@ -244,4 +246,12 @@ fn load_calls(rt: HostRuntime) -> Result<(), Fail> {
         assert_eq!(rt; out.calls(), 1, "at {fails}");
     }
     Ok(())
+}
+
+#[test]
+fn laws_hold() {
+    replay_law();
+    text_law();
+    memory_law();
+    load_law();
 }
