@@ -1,6 +1,7 @@
 //! The worked rows, over a source and a sink in memory.
 use crate::{
-    Status, Why, load_law, memory_law, replay_law, run_load, run_replay, tcmu_top, text_law,
+    Status, Why, completions_law, load_law, memory_law, replay_law, run_load, run_replay, tcmu_top,
+    text_law,
 };
 use edge::{MemFiles, MemSink, MemSource};
 use std::alloc::Global;
@@ -253,5 +254,6 @@ fn laws_hold() {
     replay_law();
     text_law();
     memory_law();
+    completions_law();
     load_law();
 }
