@@ -75,13 +75,13 @@ submit_counts d c (submit.TooBig have limit) = omega arith
 submit_counts d c (submit.FullRing need free) = omega arith
 submit_counts d c (submit.FullBlocks need free) = omega arith
 
-abbrev entry_of : EventData → AnswerData → ℕ → EntryData
+abbrev pub entry_of : EventData → AnswerData → ℕ → EntryData
 entry_of event a logged = record { device = 0; event = event; answer = a; logged = logged }
 
 none_more : (d d' : Device) → Accepts 0 d d' → d'.state.accepted ≡ d.state.accepted + 0
 none_more d d' k = omega (arith, k.least, k.most)
 
-numbered : (R : HandlerRelation) (d d' : Device) (event : EventData) (a : AnswerData) (n : ℕ) → Makes R d event a d' → Accepts (accepted_by event) d d' → Numbers d (entry_of event a n) d'
+pub numbered : (R : HandlerRelation) (d d' : Device) (event : EventData) (a : AnswerData) (n : ℕ) → Makes R d event a d' → Accepts (accepted_by event) d d' → Numbers d (entry_of event a n) d'
 numbered R d d' (ev.Submit c) (ev.Submitted a) n h k =
     record {
       count = ap (λ (x : Device). x.state.accepted) h.after ∙ submit_counts d.state c a;

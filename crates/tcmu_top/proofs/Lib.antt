@@ -15,3 +15,6 @@ pub mod Keeping
 pub mod GivenBack
 pub mod Scenarios
 pub mod Agreed
+pub mod Settings
+pub mod Completions
+pub mod OneLine

@@ -1,11 +1,25 @@
--- The texts of scenarios over media in memory, whatever the files.
-use Rattle.std.specs.Prelude.{ℕ, List, Option}
+-- Laws of what a replay and a load write: the texts over media in memory, the completions of a journal, and the line of a load.
+use Rattle.std.specs.Prelude.{◌≡◌, ℕ, ◌+◌, ◌<◌, Bool, true, false, List, length, map, Option, Some, Ok, slice_get}
+use Rattle.std.specs.List.{filter, flat_map, count_by}
+use Rattle.tcmu_types.specs.Data.{CommandData, DoneData}
+use Rattle.tcmu_types.specs.Events.{AnswerData}
+use Rattle.tcmu_types.specs.Events as ev
+use Rattle.tcmu_types.specs.declared.answer.Submit.TheVariants as submit
 use Rattle.edge.specs.Stores.{FilesState}
+use Rattle.load_run.specs.Loading.{IsLoadText}
+use Rattle.tcmu_model.specs.Device.{Device}
 use Rattle.tcmu_model.specs.Config.{MediumData, InMemory, InFile}
 use Rattle.tcmu_model.specs.ScenarioData.{DeviceLineData, ScenarioData}
-use Rattle.tcmu_model.specs.Sound.{Every}
+use Rattle.tcmu_model.specs.Scenario.{scenario_of}
+use Rattle.tcmu_model.specs.Replay.{open_count}
+use Rattle.tcmu_model.specs.Several.{Journaled, is_of}
+use Rattle.tcmu_model.specs.Journals.{WasAccepted, IsExplained}
+use Rattle.tcmu_model.specs.Sound.{Every, Differ, times_logged, times_open}
 use Rattle.text_laws.specs.InMemory as memory
+use Rattle.text_laws.specs.Replays.{entries_of}
 use Rattle.tcmu_top.specs.Top.{IsTextOf}
+
+-- ==== texts over media in memory
 
 abbrev pub LiesInMemory : MediumData → Type 0
 LiesInMemory (InMemory blocks) = Unit {0}
@@ -19,3 +33,54 @@ abbrev pub TextsAgree : Type 0
 TextsAgree =
     (files : Option FilesState) (s : ScenarioData) (text : List ℕ) → LieInMemory s.devices
     → (IsTextOf files s text → memory.IsTextOf s text) × (memory.IsTextOf s text → IsTextOf files s text)
+
+-- ==== completions
+
+-- the completions that these entries logged
+abbrev pub completions_of : List Journaled → List DoneData
+completions_of js = flat_map (λ j. j.completions) js
+
+-- whether this answer accepts a command
+abbrev pub accepts : AnswerData → Bool
+accepts (ev.Submitted (submit.Queued serial)) = true
+accepts (ev.Submitted (submit.Delayed serial)) = true
+accepts answer = false
+
+-- What the completions of a device owe to its journal: this is its line, these are its entries, and it ends so.
+pub record CompletesOnce (l : DeviceLineData) (js : List Journaled) (d : Device) : Type 0 where
+  -- they are all that the device logged
+  pub logged : d.state.log ≡ completions_of js
+  -- no serial is completed twice
+  pub differ : Differ (map (λ e. e.serial) (completions_of js))
+  -- each completion is of a command that was accepted, and carries its own handler's reply or a fixed status
+  pub explained : Every (IsExplained (entries_of js) l.settings.flags.read_len) (completions_of js)
+  -- each command that was accepted is completed once, or is open
+  pub once : (serial : ℕ) (c : CommandData) → WasAccepted (entries_of js) serial c → times_logged (completions_of js) serial + times_open d.state serial ≡ 1
+  -- and it is completed where none is open
+  pub complete : open_count d.state ≡ 0 → (serial : ℕ) (c : CommandData) → WasAccepted (entries_of js) serial c → times_logged (completions_of js) serial ≡ 1
+  -- the open ones, whose number the end line tells, and those completed are as many as were accepted
+  pub count : length (completions_of js) + open_count d.state ≡ count_by (λ e. accepts e.answer) (entries_of js)
+  -- none is open where the user side is attached
+  pub none_open : d.state.attached ≡ true → open_count d.state ≡ 0
+
+-- so it is of each device of a replay, whatever the files, in the entries of this device
+abbrev pub CommandsComplete : Type 0
+CommandsComplete =
+    (files : Option FilesState) (bytes text : List ℕ) (s : ScenarioData) → scenario_of bytes ≡ Ok s → (is : IsTextOf files s text)
+    → (at : ℕ) (l : DeviceLineData) (d : Device) → slice_get s.devices at ≡ Some l → slice_get is.replay.ends at ≡ Some d
+    → CompletesOnce l (filter (is_of at) is.replay.journal) d
+
+-- the devices of a replay: one for each device line as they open and as they end, and each entry is of one of them
+pub record HasItsDevices (files : Option FilesState) (s : ScenarioData) (text : List ℕ) (is : IsTextOf files s text) : Type 0 where
+  pub opened : length is.opened ≡ length s.devices
+  pub ends : length is.replay.ends ≡ length s.devices
+  pub entries : Every (λ j. j.entry.device < length s.devices) is.replay.journal
+
+abbrev pub DevicesStay : Type 0
+DevicesStay = (files : Option FilesState) (bytes text : List ℕ) (s : ScenarioData) → scenario_of bytes ≡ Ok s → (is : IsTextOf files s text) → HasItsDevices files s text is
+
+-- ==== loads
+
+-- a load has one line
+abbrev pub HasOneLine : Type 0
+HasOneLine = (seed count : ℕ) (t u : List ℕ) → IsLoadText seed count t → IsLoadText seed count u → t ≡ u

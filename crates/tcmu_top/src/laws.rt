@@ -1,5 +1,6 @@
-//! The laws of texts: what holds of the text of every scenario over media in memory.
-ghost use Rattle.tcmu_top.specs.Laws.{TextsAgree};
+//! The laws of texts: what holds of the text of every scenario over media in memory, of the completions in the journal of every
+//! scenario, and of the line of every load.
+ghost use Rattle.tcmu_top.specs.Laws.{TextsAgree, CommandsComplete, DevicesStay, HasOneLine};
 ghost use Rattle.text_laws.specs.InMemory.{LawOfReplay, LawOfJournals, HasOneText, HasOneJournal};
 
 /// The law of replay. The text of a replay without dumps is a scenario where it has at most 4,194,304 bytes and the replay has at
@@ -24,4 +25,17 @@ pub fn text_law()
 /// Where all media lie in memory, the texts that `run_replay` may write are those of which these laws speak, whatever the files.
 pub fn memory_law()
     ensures { TextsAgree }
+{}
+
+/// In the journal of a replay, whatever the files, each command that a device accepted completes once, or is open as the end line
+/// counts it; none is open on a device that ends with its user side attached. A completion carries its own handler's reply, or a fixed
+/// status that no handler answered.
+pub fn completions_law()
+    ensures completions { CommandsComplete }
+    ensures devices { DevicesStay }
+{}
+
+/// A seed and a count have one line: the load at the same words writes the same.
+pub fn load_law()
+    ensures { HasOneLine }
 {}

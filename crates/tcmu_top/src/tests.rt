@@ -1,5 +1,8 @@
 //! Worked examples of the program's calls, over a source, sinks and files in memory.
-use crate::{Status, Why, run_load, run_replay, tcmu_top};
+use crate::{
+    Status, Why, completions_law, load_law, memory_law, replay_law, run_load, run_replay, tcmu_top,
+    text_law,
+};
 use edge::{MemFiles, MemSink, MemSource};
 use std::alloc::Global;
 use std::test::Fail;
@@ -245,4 +248,13 @@ fn a_load_makes_one_call_of_the_sink(rt: HostRuntime) -> Result<(), Fail> {
         assert_eq!(rt; out.calls(), 1, "at {fails}");
     }
     Ok(())
+}
+
+#[test]
+fn laws_hold() {
+    replay_law();
+    text_law();
+    memory_law();
+    completions_law();
+    load_law();
 }

@@ -1,5 +1,5 @@
 -- How many commands a device has accepted: a submit brings at most one, and other events bring none.
-use Rattle.std.proofs.Common.{◌≡◌, ℕ, ◌+◌, ◌≤◌, Bool, true, false, cond, ◌&&◌, nat_eq, List, refl, ap, ◌∙◌, arith}
+use Rattle.std.proofs.Common.{◌≡◌, ℕ, ◌+◌, ◌≤◌, Bool, true, false, cond, ◌&&◌, nat_eq, List, refl, sym, ap, ◌∙◌, arith, subst}
 use Rattle.tcmu_types.specs.Data.{CommandData, ReplyData}
 use Rattle.tcmu_types.specs.Events.{EventData, AnswerData}
 use Rattle.tcmu_types.specs.Events as ev
@@ -29,14 +29,19 @@ accepts_one (ev.Tmr k ss) = omega arith
 accepts_one ev.Stat = omega arith
 accepts_one ev.Enter = omega arith
 
-after_submit_more : (d : DeviceState) (c : CommandData) (a : Submit) → (after_submit d c a).accepted ≤ d.accepted + 1
+-- at most so many commands were accepted, and none was taken back
+pub record AcceptsUpTo (n : ℕ) (d d' : DeviceState) : Type 0 where
+  pub least : d.accepted ≤ d'.accepted
+  pub most : d'.accepted ≤ d.accepted + n
+
+after_submit_accepts : (d : DeviceState) (c : CommandData) (a : Submit) → AcceptsUpTo 1 d (after_submit d c a)
 unfolding after_submit with_command with_delayed
-after_submit_more d c (submit.Queued s) = omega arith
-after_submit_more d c (submit.Delayed s) = omega arith
-after_submit_more d c submit.Busy = omega arith
-after_submit_more d c (submit.TooBig have limit) = omega arith
-after_submit_more d c (submit.FullRing need free) = omega arith
-after_submit_more d c (submit.FullBlocks need free) = omega arith
+after_submit_accepts d c (submit.Queued s) = record { least = omega arith; most = omega arith }
+after_submit_accepts d c (submit.Delayed s) = record { least = omega arith; most = omega arith }
+after_submit_accepts d c submit.Busy = record { least = omega arith; most = omega arith }
+after_submit_accepts d c (submit.TooBig have limit) = record { least = omega arith; most = omega arith }
+after_submit_accepts d c (submit.FullRing need free) = record { least = omega arith; most = omega arith }
+after_submit_accepts d c (submit.FullBlocks need free) = record { least = omega arith; most = omega arith }
 
 after_clean_same : (d : DeviceState) → (after_clean d).accepted ≡ d.accepted
 unfolding after_clean
@@ -74,15 +79,18 @@ block_same : (d : DeviceState) (b : Bool) → (after_block d b).accepted ≡ d.a
 unfolding after_block
 block_same d b = refl
 
-kept : (d d' : Device) (s : DeviceState) → d' ≡ record d { state = s } → s.accepted ≡ d.state.accepted → d'.state.accepted ≤ d.state.accepted + 0
-kept d d' s e k = omega (arith, ap (λ (x : Device). x.state.accepted) e ∙ k)
+none : (d d' : DeviceState) → d'.accepted ≡ d.accepted → AcceptsUpTo 0 d d'
+none d d' e = record { least = omega (arith, e); most = omega (arith, e) }
 
-pub makes_accepts : (R : HandlerRelation) (d d' : Device) (e : EventData) (a : AnswerData) → Makes R d e a d' → d'.state.accepted ≤ d.state.accepted + accepted_by e
+kept : (d d' : Device) (s : DeviceState) → d' ≡ record d { state = s } → s.accepted ≡ d.state.accepted → AcceptsUpTo 0 d.state d'.state
+kept d d' s e k = none d.state d'.state (ap (λ (x : Device). x.state.accepted) e ∙ k)
+
+pub makes_accepts : (R : HandlerRelation) (d d' : Device) (e : EventData) (a : AnswerData) → Makes R d e a d' → AcceptsUpTo (accepted_by e) d.state d'.state
 unfolding with_command
-makes_accepts R d d' (ev.Submit c) (ev.Submitted a) h = omega (arith, ap (λ (x : Device). x.state.accepted) h.after, after_submit_more d.state c a)
+makes_accepts R d d' (ev.Submit c) (ev.Submitted a) h = subst (λ (x : Device). AcceptsUpTo 1 d.state x.state) (sym h.after) (after_submit_accepts d.state c a)
 makes_accepts R d d' ev.Dispatch (ev.Dispatched a) h = kept d d' _ h.after (dispatch_kept (λ x. x.accepted) d.state (λ i. refl))
-makes_accepts R d d' (ev.Handle s) (ev.Answered (handle.Done reply)) h = omega (arith, ap (λ (x : DeviceState). x.accepted) h.1.state ∙ handled_same d.state s reply)
-makes_accepts R d d' (ev.Handle s) (ev.Answered (handle.NotOut t)) h = omega (arith, ap (λ (x : Device). x.state.accepted) h.2)
+makes_accepts R d d' (ev.Handle s) (ev.Answered (handle.Done reply)) h = none d.state d'.state (ap (λ (x : DeviceState). x.accepted) h.1.state ∙ handled_same d.state s reply)
+makes_accepts R d d' (ev.Handle s) (ev.Answered (handle.NotOut t)) h = none d.state d'.state (ap (λ (x : Device). x.state.accepted) h.2)
 makes_accepts R d d' (ev.Respond s) (ev.Responded a) h = kept d d' _ h.after (respond_kept (λ x. x.accepted) d.state s refl)
 makes_accepts R d d' ev.Publish (ev.Published a) h = kept d d' _ h.after (publish_kept (λ x. x.accepted) d.state refl)
 makes_accepts R d d' ev.Clean (ev.Logged n) h = kept d d' _ h.after (after_clean_same d.state)
@@ -92,6 +100,6 @@ makes_accepts R d d' ev.Unblock (ev.Changed b) h = kept d d' _ h.after (block_sa
 makes_accepts R d d' (ev.Reset level) (ev.WasReset a) h = kept d d' _ h.after (after_reset_same d.state level)
 makes_accepts R d d' ev.Restart (ev.Lost n) h = kept d d' _ h.after (restarted_same d.state)
 makes_accepts R d d' (ev.Tmr kind ss) (ev.Noted a) h = kept d d' _ h.after (after_tmr_same d.state kind ss a)
-makes_accepts R d d' ev.Stat (ev.Told a) h = omega (arith, ap (λ (x : Device). x.state.accepted) h.after)
+makes_accepts R d d' ev.Stat (ev.Told a) h = none d.state d'.state (ap (λ (x : Device). x.state.accepted) h.after)
 makes_accepts R d d' ev.Enter (ev.Entered a) h = kept d d' _ h.after (enter_kept (λ x. x.accepted) d.state a (λ w ws. refl))
 makes_accepts R d d' _ _ h = absurd h

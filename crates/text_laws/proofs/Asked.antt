@@ -108,7 +108,7 @@ record Makes (devices : ℕ) (n : ℕ) (es : List EntryData) (lines : List LineD
   after : HasAccepted n d'
 
 pub step_accepts : (R : HandlerRelation) (n : ℕ) (d d' : Device) (e : EntryData) → HasAccepted n d → Step R d e d' → HasAccepted (n + accepted_by e.event) d'
-step_accepts R n d d' e h s = record { sound = sound_step R d d' e h.sound s; few = omega (arith, makes_accepts R d d' e.event e.answer s.makes, h.few) }
+step_accepts R n d d' e h s = record { sound = sound_step R d d' e h.sound s; few = omega (arith, (makes_accepts R d d' e.event e.answer s.makes).most, h.few) }
 
 silent_line : (l : LineData) (ls : List LineData) → sends l ≡ false → sent (l ∷ ls) ≡ sent ls
 silent_line l ls e = ap (λ b. cond b (l ∷ sent ls) (sent ls)) e

@@ -152,7 +152,7 @@ one_play at d line.Dumps es fs d1 d2 m h k = absurd h
 
 -- ==== replays
 
-abbrev AreInMemory : List Device → Type 0
+abbrev pub AreInMemory : List Device → Type 0
 AreInMemory ds = Every (λ d. IsInMemory d.medium) ds
 
 joined : (a b c d : List EntryData) → a ≡ c → b ≡ d → a ++ b ≡ c ++ d
@@ -167,7 +167,7 @@ one_end at (d ∷ ds) es fs ends lasts m h k =
       h.5 ∙ ap (λ (x : Device). x ∷ h.3) first.1 ∙ ap (λ (xs : List Device). k.2 ∷ xs) rest.1 ∙ sym k.5,
     )
 
-one_replay : (ds : List Device) (ls : List LineData) (es fs : List EntryData) (ends lasts : List Device) → AreInMemory ds → ReplaysEach Serves ds ls es ends → ReplaysEach Serves ds ls fs lasts → (es ≡ fs) × (ends ≡ lasts)
+pub one_replay : (ds : List Device) (ls : List LineData) (es fs : List EntryData) (ends lasts : List Device) → AreInMemory ds → ReplaysEach Serves ds ls es ends → ReplaysEach Serves ds ls fs lasts → (es ≡ fs) × (ends ≡ lasts)
 one_replay ds [] es fs ends lasts m h k = one_end 0 ds es fs ends lasts m h k
 one_replay ds (l ∷ ls) es fs ends lasts m h k =
     let d = k.2 in
