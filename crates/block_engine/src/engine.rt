@@ -15,13 +15,22 @@ use crate::unmap::unmap;
 use cdb_decode::{Op, decode};
 use handler_trait::{Handler, Medium, Request};
 use std::alloc::Global;
+use std::marker::Model;
 use tcmu_types::{Name, NoMemory, Reply};
 
-/// Serves the commands of the device of this name from a medium.
+/// Serves the commands of the device of this name from a medium. Contracts see both.
 #[derive(Debug, Drop)]
 pub struct Engine<M: Medium + Drop> {
     name: Name,
     medium: M,
+}
+
+impl<M: Medium + Drop> Model for Engine<M> {
+    ghost use Rattle.block_engine.specs.EngineData.{EngineData};
+
+    ghost Value = { EngineData M };
+
+    ghost view = { λ e. record { name = e.name; medium = e.medium } };
 }
 
 impl<M: Medium + Drop> Engine<M> {
@@ -42,6 +51,7 @@ impl<M: Medium + Drop> Engine<M> {
     }
 }
 
+/// Serves an operation that a command descriptor block asks for.
 #[tactic(auto, using(crate::proofs::Choosing::served_within))]
 fn serve<M: Medium>(
     alloc: Global,
