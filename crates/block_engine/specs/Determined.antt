@@ -26,6 +26,7 @@ SeesOp m in_len (op.Read lba count) = SeesRange m (512 * lba) (min (512 * count)
 SeesOp m in_len (op.CompareWrite lba count) = SeesRange m (512 * lba) (512 * count)
 SeesOp m in_len _ = Unit {0}
 
+-- what a request reads or compares is not lost
 abbrev pub Sees : MediumState → Asked → Type 0
 Sees m r = MatchResult (decoded r.cdb) (SeesOp m r.in_len) (λ _. Unit {0})
 

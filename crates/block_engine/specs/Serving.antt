@@ -1,10 +1,13 @@
 -- What serving a part of a request gives.
-use Rattle.std.specs.Prelude.{◌≡◌, ℕ, ◌≤◌, true, length, Result, IfOk, OnErr}
+use Rattle.std.specs.Prelude.{◌≡◌, ℕ, ◌≤◌, true, length, Result, Ok, IfOk, OnErr}
 use Rattle.tcmu_types.specs.Data.{ReplyData}
 use Rattle.tcmu_types.specs.Numbered.{Rose}
 use Rattle.edge.specs.Outside.{CountsFailed}
 use Rattle.tcmu_model.specs.MediumState.{MediumState}
 use Rattle.tcmu_model.specs.Scsi.{Outcome, is_medium_error}
+use Rattle.tcmu_model.specs.declared.op.Op.{Op}
+use Rattle.tcmu_model.specs.declared.op.Op.TheVariants as op
+use Rattle.tcmu_model.specs.declared.op.CdbFault.{CdbFault}
 
 -- The reply and the medium after it are what the meaning allows, and the payload is no longer than may be answered. Sense data say that
 -- a call of the medium failed exactly where one more is counted. After want of memory nothing changed.
@@ -16,3 +19,8 @@ pub record Served {E : Type 0} (Meaning : Outcome) (in_len : ℕ) (old new : Med
   pub later : before ≤ after
   pub same : OnErr result (new ≡ old)
   pub counted : OnErr result (after ≡ before)
+
+-- where SYNCHRONIZE CACHE was asked for and is GOOD, this holds: what is below was asked for one more sync
+abbrev pub ReachesBelow : {E : Type 0} → Result Op CdbFault → Type 0 → Result ReplyData E → Type 0
+ReachesBelow (Ok (op.Sync lba count)) Synced result = IfOk result (λ r. r.status ≡ 0 → Synced)
+ReachesBelow _ Synced result = Unit {0}

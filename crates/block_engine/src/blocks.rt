@@ -7,14 +7,14 @@ ghost use Rattle.tcmu_model.specs.Scsi.{ReadsBytes, ServesRead, WritesBytes, Ser
 ghost use Rattle.block_engine.specs.Serving.{Served};
 
 use crate::checks::{range_fault, write_fault};
-use crate::replies::{after_call, good, refused};
-use crate::senses::{UNRECOVERED_READ_ERROR, WRITE_ERROR};
+use crate::replies::{after_call, after_write, done, refused};
+use crate::senses::UNRECOVERED_READ_ERROR;
 use edge::Failed;
 use handler_trait::Medium;
 use std::alloc::Global;
 use tcmu_types::{Bytes, NoMemory, Reply};
 
-/// So many bytes to be read into.
+/// So many zeros, to be read over.
 pub fn zeros(alloc: Global, n: usize) -> Result<Vec<u8>, NoMemory>
     ensures { IfOk result (λ v. v.items ≡ replicate n 0) }
 {
@@ -35,6 +35,7 @@ pub fn read_into<M: Medium>(medium: &mut M, at: u64, into: &mut Vec<u8>) -> Resu
     medium.read(at, into)
 }
 
+/// Reads so many bytes by one read, or makes no call where there is none to be answered.
 fn read_bytes<M: Medium>(
     alloc: Global,
     medium: &mut M,
@@ -47,7 +48,7 @@ fn read_bytes<M: Medium>(
     ensures { Served (ReadsBytes (M.state medium.old) at n) in_len (M.state medium.old) (M.state medium.new) (M.faults medium.old) (M.faults medium.new) result }
 {
     if n == 0 {
-        return Ok(good(Bytes::new(alloc)));
+        return Ok(done(alloc));
     }
     let mut bytes = zeros(alloc, n as usize)?;
     let outcome = read_into(medium, at, &mut bytes);
@@ -75,6 +76,7 @@ pub fn read<M: Medium>(
     }
 }
 
+/// Writes what was sent by one write, or makes no call where nothing was sent.
 fn write_bytes<M: Medium>(
     alloc: Global,
     medium: &mut M,
@@ -87,10 +89,10 @@ fn write_bytes<M: Medium>(
     ensures { Served (WritesBytes (M.state medium.old) at sent.now) 0 (M.state medium.old) (M.state medium.new) (M.faults medium.old) (M.faults medium.new) result }
 {
     if sent.len() == 0 {
-        return Ok(good(Bytes::new(alloc)));
+        return Ok(done(alloc));
     }
     let outcome = medium.write(at, sent);
-    Ok(after_call(alloc, outcome, Bytes::new(alloc), WRITE_ERROR))
+    Ok(after_write(alloc, outcome))
 }
 
 /// WRITE: what is sent has to be the bytes of so many blocks. A wrong length is refused first, then a protected medium, then a range
@@ -117,15 +119,17 @@ pub fn sync<M: Medium>(
     lba: u64,
     count: u32,
 ) -> Result<Reply, NoMemory>
-    ensures { Served (ServesSync (M.state medium.old) lba count) 0 (M.state medium.old) (M.state medium.new) (M.faults medium.old) (M.faults medium.new) result }
+    ensures served { Served (ServesSync (M.state medium.old) lba count) 0 (M.state medium.old) (M.state medium.new) (M.faults medium.old) (M.faults medium.new) result }
+    ensures synced { IfOk result (λ reply. reply.status ≡ 0 → M.synced medium.old medium.new) }
 {
     if let Some(sense) = range_fault(medium.blocks(), lba, count) {
         return Ok(refused(alloc, sense));
     }
     let outcome = medium.sync();
-    Ok(after_call(alloc, outcome, Bytes::new(alloc), WRITE_ERROR))
+    Ok(after_write(alloc, outcome))
 }
 
+/// The one block that was sent.
 fn block_of(sent: &[u8]) -> [u8; 512]
     requires { length sent.now ≡ 512 }
     ensures { result ≡ sent.now }
@@ -135,6 +139,7 @@ fn block_of(sent: &[u8]) -> [u8; 512]
     block
 }
 
+/// Fills so many blocks with the one that was sent, by one fill.
 fn fill_blocks<M: Medium>(
     alloc: Global,
     medium: &mut M,
@@ -150,7 +155,7 @@ fn fill_blocks<M: Medium>(
 {
     let block = block_of(sent);
     let outcome = medium.fill(at, &block, u64::from(count));
-    Ok(after_call(alloc, outcome, Bytes::new(alloc), WRITE_ERROR))
+    Ok(after_write(alloc, outcome))
 }
 
 /// WRITE SAME: one block is sent, and one fill writes it to each block of the range. It is refused as WRITE is.

@@ -2,7 +2,7 @@
 ghost use Rattle.std.specs.Prelude.{◌≡◌, ◌≢◌, ◌+◌, ◌^◌, ◌≤◌, nat_lt, length, None, IfSome};
 ghost use Rattle.tcmu_model.specs.Scsi.{first_failed, range_checks, write_checks};
 
-use crate::senses::{ADDRESS_OUT_OF_RANGE, INVALID_FIELD_IN_CDB, WRITE_PROTECTED};
+use crate::senses::{INVALID_FIELD_IN_CDB, LOGICAL_BLOCK_ADDRESS_OUT_OF_RANGE, WRITE_PROTECTED};
 use handler_trait::Medium;
 use tcmu_types::Sense;
 
@@ -20,7 +20,7 @@ pub fn range_fault(blocks: u64, lba: u64, count: u32) -> Option<Sense>
     ensures inside { result ≡ None → lba + count ≤ blocks }
 {
     if is_outside(blocks, lba, count) {
-        return Some(ADDRESS_OUT_OF_RANGE);
+        return Some(LOGICAL_BLOCK_ADDRESS_OUT_OF_RANGE);
     }
     None
 }

@@ -7,13 +7,13 @@ ghost use Rattle.block_engine.specs.Serving.{Served};
 
 use crate::blocks::{read_into, zeros};
 use crate::checks::write_fault;
-use crate::replies::{after_call, good, refused};
-use crate::senses::{MISCOMPARE, UNRECOVERED_READ_ERROR, WRITE_ERROR};
+use crate::replies::{after_write, done, refused};
+use crate::senses::{MISCOMPARE_DURING_VERIFY_OPERATION, UNRECOVERED_READ_ERROR};
 use handler_trait::Medium;
 use std::alloc::Global;
-use tcmu_types::{Bytes, NoMemory, Reply};
+use tcmu_types::{NoMemory, Reply};
 
-// Writes what was sent behind the first n bytes, where these are what was read.
+/// Writes what was sent behind the first `n` bytes, where these are what was read.
 fn write_second<M: Medium>(
     alloc: Global,
     medium: &mut M,
@@ -35,12 +35,13 @@ fn write_second<M: Medium>(
 {
     let n = n as usize;
     if read != &sent[..n] {
-        return refused(alloc, MISCOMPARE);
+        return refused(alloc, MISCOMPARE_DURING_VERIFY_OPERATION);
     }
     let outcome = medium.write(at, &sent[n..]);
-    after_call(alloc, outcome, Bytes::new(alloc), WRITE_ERROR)
+    after_write(alloc, outcome)
 }
 
+/// Reads `n` bytes by one read, and writes the second half of what was sent where they are its first half.
 fn compare_bytes<M: Medium>(
     alloc: Global,
     medium: &mut M,
@@ -62,6 +63,7 @@ fn compare_bytes<M: Medium>(
     }
 }
 
+/// Compares so many blocks; for none, GOOD without a call.
 fn compare_blocks<M: Medium>(
     alloc: Global,
     medium: &mut M,
@@ -75,7 +77,7 @@ fn compare_blocks<M: Medium>(
     ensures { Served (ComparesBlocks (M.state medium.old) at count sent.now) 0 (M.state medium.old) (M.state medium.new) (M.faults medium.old) (M.faults medium.new) result }
 {
     if count == 0 {
-        return Ok(good(Bytes::new(alloc)));
+        return Ok(done(alloc));
     }
     compare_bytes(alloc, medium, at, 512 * u64::from(count), sent)
 }

@@ -1,10 +1,10 @@
 //! The engine: one handler for every medium.
-ghost use Rattle.std.specs.Prelude.{◌≡◌, ◌≤◌, true, length, IfOk, OnErr};
+ghost use Rattle.std.specs.Prelude.{◌≡◌, ◌≤◌, true, length, Ok, IfOk, OnErr};
 ghost use Rattle.tcmu_types.specs.Numbered.{Rose};
 ghost use Rattle.edge.specs.Outside.{CountsFailed};
-ghost use Rattle.tcmu_model.specs.Decoding.{IsDecoded};
+ghost use Rattle.tcmu_model.specs.Decoding.{IsDecoded, decoded};
 ghost use Rattle.tcmu_model.specs.Scsi.{Serves, ServesOp, is_medium_error};
-ghost use Rattle.block_engine.specs.Serving.{Served};
+ghost use Rattle.block_engine.specs.Serving.{Served, ReachesBelow};
 
 use crate::blocks::{read, sync, write, write_same};
 use crate::compare::compare_write;
@@ -15,13 +15,22 @@ use crate::unmap::unmap;
 use cdb_decode::{Op, decode};
 use handler_trait::{Handler, Medium, Request};
 use std::alloc::Global;
+use std::marker::Model;
 use tcmu_types::{Name, NoMemory, Reply};
 
-/// Serves the commands of the device of this name from a medium.
+/// Serves the commands of the device of this name from a medium. Contracts see both.
 #[derive(Debug, Drop)]
 pub struct Engine<M: Medium + Drop> {
     name: Name,
     medium: M,
+}
+
+impl<M: Medium + Drop> Model for Engine<M> {
+    ghost use Rattle.block_engine.specs.EngineData.{EngineData};
+
+    ghost Value = { EngineData M };
+
+    ghost view = { λ e. record { name = e.name; medium = e.medium } };
 }
 
 impl<M: Medium + Drop> Engine<M> {
@@ -42,6 +51,7 @@ impl<M: Medium + Drop> Engine<M> {
     }
 }
 
+/// Serves an operation that a command descriptor block asks for.
 #[tactic(auto, using(crate::proofs::Choosing::served_within))]
 fn serve<M: Medium>(
     alloc: Global,
@@ -52,7 +62,8 @@ fn serve<M: Medium>(
     in_len: u32,
 ) -> Result<Reply, NoMemory>
     requires { IsDecoded op }
-    ensures { Served (ServesOp name.now (M.state medium.old) sent.now in_len op) in_len (M.state medium.old) (M.state medium.new) (M.faults medium.old) (M.faults medium.new) result }
+    ensures served { Served (ServesOp name.now (M.state medium.old) sent.now in_len op) in_len (M.state medium.old) (M.state medium.new) (M.faults medium.old) (M.faults medium.new) result }
+    ensures synced { ReachesBelow (Ok op) (M.synced medium.old medium.new) result }
 {
     match op {
         Op::Read { lba, count } => read(alloc, medium, lba, count, in_len),
@@ -84,6 +95,8 @@ impl<M: Medium + Drop> Handler for Engine<M> {
         // Sense data say that a call of the medium failed exactly where the medium counts one more.
         ensures caused { IfOk result (λ reply. is_medium_error reply.sense ≡ true → Rose (M.faults self.old.medium) (M.faults self.new.medium)) }
         ensures exact { IfOk result (λ reply. CountsFailed (M.faults self.old.medium) (is_medium_error reply.sense) (M.faults self.new.medium)) }
+        // A SYNCHRONIZE CACHE that is GOOD asked what is below the medium for a sync.
+        ensures synced { ReachesBelow (decoded request.now.cdb) (M.synced self.old.medium self.new.medium) result }
     {
         match decode(&request.cdb) {
             Ok(op) => serve(

@@ -1,7 +1,8 @@
 //! The replies that an engine gives: GOOD with a payload, and CHECK CONDITION with sense data.
-ghost use Rattle.std.specs.Prelude.{◌≡◌, is_err, if◌then◌else◌, IfOk, take};
-ghost use Rattle.tcmu_model.specs.Scsi.{good, refused, cut};
+ghost use Rattle.std.specs.Prelude.{◌≡◌, is_err, if◌then◌else◌, IfOk, take, []};
+ghost use Rattle.tcmu_model.specs.Scsi.{good, refused, cut, write_error};
 
+use crate::senses::WRITE_ERROR;
 use edge::Failed;
 use std::alloc::Global;
 use tcmu_types::{Bytes, NoMemory, Reply, ScsiStatus, Sense};
@@ -15,6 +16,13 @@ pub fn good(payload: Bytes) -> Reply
         sense: None,
         payload,
     }
+}
+
+/// GOOD without bytes.
+pub fn done(alloc: Global) -> Reply
+    ensures { result ≡ good [] }
+{
+    good(Bytes::new(alloc))
 }
 
 /// CHECK CONDITION with these sense data, and no bytes.
@@ -36,6 +44,13 @@ pub fn after_call(alloc: Global, outcome: Result<(), Failed>, payload: Bytes, se
         Ok(()) => good(payload),
         Err(Failed) => refused(alloc, sense),
     }
+}
+
+/// The reply after a write, a fill or a sync of the medium: GOOD without bytes, or refused with a write error where the call failed.
+pub fn after_write(alloc: Global, outcome: Result<(), Failed>) -> Reply
+    ensures { result ≡ (if is_err outcome then refused write_error else good []) }
+{
+    after_call(alloc, outcome, Bytes::new(alloc), WRITE_ERROR)
 }
 
 /// A good reply of these bytes, cut to an allocation length and then to the length that may be answered.

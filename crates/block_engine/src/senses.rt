@@ -34,14 +34,14 @@ pub const PARAMETER_LIST_LENGTH_ERROR: Sense = Sense {
 };
 
 /// ILLEGAL REQUEST, INVALID COMMAND OPERATION CODE.
-pub const INVALID_OPERATION_CODE: Sense = Sense {
+pub const INVALID_COMMAND_OPERATION_CODE: Sense = Sense {
     key: 0x5,
     asc: 0x20,
     ascq: 0,
 };
 
 /// ILLEGAL REQUEST, LOGICAL BLOCK ADDRESS OUT OF RANGE.
-pub const ADDRESS_OUT_OF_RANGE: Sense = Sense {
+pub const LOGICAL_BLOCK_ADDRESS_OUT_OF_RANGE: Sense = Sense {
     key: 0x5,
     asc: 0x21,
     ascq: 0,
@@ -55,7 +55,7 @@ pub const INVALID_FIELD_IN_CDB: Sense = Sense {
 };
 
 /// ILLEGAL REQUEST, INVALID FIELD IN PARAMETER LIST.
-pub const INVALID_FIELD_IN_LIST: Sense = Sense {
+pub const INVALID_FIELD_IN_PARAMETER_LIST: Sense = Sense {
     key: 0x5,
     asc: 0x26,
     ascq: 0,
@@ -69,7 +69,7 @@ pub const WRITE_PROTECTED: Sense = Sense {
 };
 
 /// MISCOMPARE, MISCOMPARE DURING VERIFY OPERATION.
-pub const MISCOMPARE: Sense = Sense {
+pub const MISCOMPARE_DURING_VERIFY_OPERATION: Sense = Sense {
     key: 0xe,
     asc: 0x1d,
     ascq: 0,
@@ -81,7 +81,7 @@ pub fn fault_sense(fault: CdbFault) -> Sense
     ensures key { result.key ≢ 3 }
 {
     match fault {
-        CdbFault::Opcode(_) => INVALID_OPERATION_CODE,
+        CdbFault::Opcode(_) => INVALID_COMMAND_OPERATION_CODE,
         CdbFault::Field(_) => INVALID_FIELD_IN_CDB,
     }
 }

@@ -4,14 +4,15 @@ ghost use Rattle.tcmu_model.specs.Decoding.{IsDecoded, is_vpd_page};
 ghost use Rattle.tcmu_model.specs.Pages.{inquiry_data};
 ghost use Rattle.tcmu_model.specs.Scsi.{good, cut, shown};
 
-use crate::replies::{cut, front, good};
+use crate::replies::{cut, done, front};
 use crate::senses::NO_SENSE;
 use cdb_decode::Op;
 use handler_trait::Medium;
 use inquiry_pages::{capacity10, capacity16, mode_sense, report_luns, standard_inquiry, vpd_page};
 use std::alloc::Global;
-use tcmu_types::{Bytes, Name, NoMemory, Reply, sense_bytes};
+use tcmu_types::{Name, NoMemory, Reply, sense_bytes};
 
+/// INQUIRY: the standard data, or a page of vital product data, cut to what may be answered.
 fn inquiry(
     alloc: Global,
     name: &Name,
@@ -55,6 +56,6 @@ pub fn show<M: Medium>(
             let data = report_luns(alloc, select)?;
             cut(alloc, data.as_slice(), limit, in_len)
         }
-        _ => Ok(good(Bytes::new(alloc))),
+        _ => Ok(done(alloc)),
     }
 }

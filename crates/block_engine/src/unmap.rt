@@ -7,31 +7,32 @@ ghost use Rattle.tcmu_model.specs.Scsi.{extents_from, extents_of, Unmaps, Unmaps
 ghost use Rattle.block_engine.specs.Serving.{Served};
 
 use crate::checks::is_outside;
-use crate::replies::{after_call, good, refused};
+use crate::replies::{after_write, done, refused};
 use crate::senses::{
-    ADDRESS_OUT_OF_RANGE, INVALID_FIELD_IN_CDB, INVALID_FIELD_IN_LIST, PARAMETER_LIST_LENGTH_ERROR,
-    WRITE_ERROR, WRITE_PROTECTED,
+    INVALID_FIELD_IN_CDB, INVALID_FIELD_IN_PARAMETER_LIST, LOGICAL_BLOCK_ADDRESS_OUT_OF_RANGE,
+    PARAMETER_LIST_LENGTH_ERROR, WRITE_PROTECTED,
 };
 use cdb_decode::{be_u16_at, be_u32_at, be_u64_at};
 use edge::Failed;
 use handler_trait::Medium;
 use std::alloc::Global;
-use tcmu_model::Extent;
-use tcmu_types::{Bytes, NoMemory, Reply, Sense};
+use tcmu_model::{Extent, MAXIMUM_UNMAP_DESCRIPTOR_COUNT, MAXIMUM_UNMAP_LBA_COUNT};
+use tcmu_types::{NoMemory, Reply, Sense};
 
-/// The bytes before the first block descriptor, and those of each.
-const HEADER: usize = 8;
+/// The bytes of a parameter list before its first block descriptor (SBC-3, UNMAP).
+const HEADER_BYTES: usize = 8;
 
-const DESCRIPTOR: usize = 16;
+/// The bytes of a block descriptor.
+const DESCRIPTOR_BYTES: usize = 16;
 
-// The first n descriptors from a place on.
+/// The first `n` block descriptors of a parameter list.
 fn extents(alloc: Global, sent: &[u8], n: usize) -> Result<Vec<Extent>, NoMemory>
     requires { 8 + 16 * n ≤ length sent.now }
     ensures { IfOk result (λ list. list.items ≡ extents_from 8 n sent.now) }
 {
     let mut list = Vec::with_capacity(alloc, n)?;
     for k in 0..n {
-        let at = HEADER + DESCRIPTOR * k;
+        let at = HEADER_BYTES + DESCRIPTOR_BYTES * k;
         list.push(Extent {
             lba: be_u64_at(sent, at),
             count: be_u32_at(sent, at + 8),
@@ -40,7 +41,7 @@ fn extents(alloc: Global, sent: &[u8], n: usize) -> Result<Vec<Extent>, NoMemory
     Ok(list)
 }
 
-// How many blocks these have together.
+/// How many blocks these have together.
 fn total(extents: &[Extent]) -> u64
     requires { length extents.now ≤ 256 }
     ensures { result ≡ sum_by (λ e. e.count) extents.now }
@@ -52,6 +53,7 @@ fn total(extents: &[Extent]) -> u64
     blocks
 }
 
+/// Whether one of these does not lie in so many blocks.
 fn has_outside(blocks: u64, extents: &[Extent]) -> bool
     ensures { result ≡ list_any (is_beyond blocks) extents.now }
 {
@@ -60,7 +62,7 @@ fn has_outside(blocks: u64, extents: &[Extent]) -> bool
         .any(|extent| is_outside(blocks, extent.lba, extent.count))
 }
 
-// Whether the lengths in the header are not those of what follows them.
+/// Whether the lengths in the header are not those of what follows them.
 fn has_bad_lengths(sent: &[u8]) -> bool
     requires { 8 ≤ length sent.now }
     ensures { result ≡ has_bad_lengths sent.now }
@@ -69,7 +71,7 @@ fn has_bad_lengths(sent: &[u8]) -> bool
         || usize::from(be_u16_at(sent, 2)) != sent.len() - 8
 }
 
-// One fill with zeros, where the range has blocks.
+/// One fill with zeros, where the range has blocks.
 fn unmap_one<M: Medium>(medium: &mut M, extent: Extent) -> Result<(), Failed>
     requires { extent.lba + extent.count ≤ (M.state medium.old).blocks }
     ensures value { UnmapsOne extent (M.state medium.old) (is_err result) (M.state medium.new) }
@@ -85,7 +87,7 @@ fn unmap_one<M: Medium>(medium: &mut M, extent: Extent) -> Result<(), Failed>
     medium.fill(512 * extent.lba, &[0; 512], u64::from(extent.count))
 }
 
-// One after the other, up to the first that fails.
+/// Fills the ranges with zeros one after the other, up to the first that fails.
 fn unmap_all<M: Medium>(medium: &mut M, extents: &[Extent]) -> Result<(), Failed>
     requires { list_any (is_beyond (M.state medium.old).blocks) extents.now ≡ false }
     ensures value { Unmaps extents.now (M.state medium.old) (is_err result) (M.state medium.new) }
@@ -98,7 +100,7 @@ fn unmap_all<M: Medium>(medium: &mut M, extents: &[Extent]) -> Result<(), Failed
     Ok(())
 }
 
-// Why a parameter list with these descriptors is refused.
+/// Why a parameter list with these descriptors is refused.
 fn list_fault<M: Medium>(medium: &M, sent: &[u8], extents: &[Extent]) -> Option<Sense>
     requires header { 8 ≤ length sent.now }
     requires listed { extents.now ≡ extents_of sent.now }
@@ -106,30 +108,34 @@ fn list_fault<M: Medium>(medium: &M, sent: &[u8], extents: &[Extent]) -> Option<
     ensures key { IfSome result (λ s. s.key ≢ 3) }
     ensures inside { result ≡ None → list_any (is_beyond (M.state medium.now).blocks) extents.now ≡ false }
 {
-    if has_bad_lengths(sent) || extents.len() > 256 || total(extents) > 32_768 {
-        return Some(INVALID_FIELD_IN_LIST);
+    if has_bad_lengths(sent)
+        || extents.len() > MAXIMUM_UNMAP_DESCRIPTOR_COUNT as usize
+        || total(extents) > u64::from(MAXIMUM_UNMAP_LBA_COUNT)
+    {
+        return Some(INVALID_FIELD_IN_PARAMETER_LIST);
     }
     if medium.protected() {
         return Some(WRITE_PROTECTED);
     }
     if has_outside(medium.blocks(), extents) {
-        return Some(ADDRESS_OUT_OF_RANGE);
+        return Some(LOGICAL_BLOCK_ADDRESS_OUT_OF_RANGE);
     }
     None
 }
 
+/// UNMAP with a parameter list: its lengths, its limits and its ranges are checked before the first is filled with zeros.
 fn unmap_list<M: Medium>(alloc: Global, medium: &mut M, sent: &[u8]) -> Result<Reply, NoMemory>
     ensures { Served (UnmapsList (M.state medium.old) sent.now) 0 (M.state medium.old) (M.state medium.new) (M.faults medium.old) (M.faults medium.new) result }
 {
-    if sent.len() < HEADER {
+    if sent.len() < HEADER_BYTES {
         return Ok(refused(alloc, PARAMETER_LIST_LENGTH_ERROR));
     }
-    let extents = extents(alloc, sent, (sent.len() - HEADER) / DESCRIPTOR)?;
+    let extents = extents(alloc, sent, (sent.len() - HEADER_BYTES) / DESCRIPTOR_BYTES)?;
     match list_fault(medium, sent, &extents) {
         Some(sense) => Ok(refused(alloc, sense)),
         None => {
             let outcome = unmap_all(medium, &extents);
-            Ok(after_call(alloc, outcome, Bytes::new(alloc), WRITE_ERROR))
+            Ok(after_write(alloc, outcome))
         }
     }
 }
@@ -148,7 +154,7 @@ pub fn unmap<M: Medium>(
         return Ok(refused(alloc, INVALID_FIELD_IN_CDB));
     }
     if length == 0 {
-        return Ok(good(Bytes::new(alloc)));
+        return Ok(done(alloc));
     }
     unmap_list(alloc, medium, sent)
 }

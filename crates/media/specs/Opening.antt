@@ -20,6 +20,7 @@ pub record OpensFile (name : List ℕ) (c : ConfigData) (old new : Option FilesS
   pub medium : m ≡ opened_medium (store.size / 512) c.protected c.fails (file_below store.bytes store.calls)
   pub fetched : Opened name store old new
 
+-- as it opens by what bears it: memory, or a file
 abbrev pub OpensKind : MediumData → ConfigData → Option FilesState → Option FilesState → MediumState → Type 0
 OpensKind (InMemory blocks) = OpensMemory blocks
 OpensKind (InFile name) = OpensFile name
@@ -39,11 +40,12 @@ abbrev pub RefusesFetch : MakeFault → List ℕ → Option FilesState → Optio
 RefusesFetch Open name old new faults later = LacksFile name old new faults later
 RefusesFetch NoMemory name old new faults later = new ≡ old
 
+-- why none was made, by what bears it: memory, or a file
 abbrev pub RefusesKind : MediumData → MakeFault → Option FilesState → Option FilesState → ℕ → ℕ → Type 0
 RefusesKind (InMemory blocks) Open old new faults later = ⊥
 RefusesKind (InMemory blocks) NoMemory old new faults later = new ≡ old
 RefusesKind (InFile name) e old new faults later = RefusesFetch e name old new faults later
 
--- why no medium was made for a config: its file lacks, or memory was wanting
+-- why no medium was made for a config: its file could not be fetched, or memory was wanting
 abbrev pub Refuses : MakeFault → ConfigData → Option FilesState → Option FilesState → ℕ → ℕ → Type 0
 Refuses e c = RefusesKind c.kind e

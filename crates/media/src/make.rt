@@ -22,6 +22,7 @@ pub enum MakeFault {
     /// The config's file could not be fetched.
     #[error("the file of a medium could not be opened")]
     Open,
+    /// There was no memory for the medium, for its list of calls that fail, or for the fetch.
     #[error("no memory")]
     NoMemory,
 }
@@ -34,6 +35,7 @@ impl From<NoMemory> for MakeFault {
     }
 }
 
+/// Fetches the file of this name, which is out from then on.
 fn fetch_file<F: Files>(alloc: Global, name: &[u8], files: &mut F) -> Result<F::File, MakeFault>
     ensures fetched { IfOk result (λ s. Opened name.now (F.File.state s) (F.state files.old) (F.state files.new)) }
     ensures refused { IfErr result (λ e. RefusesFetch e name.now (F.state files.old) (F.state files.new) (F.faults files.old) (F.faults files.new)) }
@@ -48,7 +50,8 @@ fn fetch_file<F: Files>(alloc: Global, name: &[u8], files: &mut F) -> Result<F::
     }
 }
 
-/// Makes the medium that a config names, which fetches its file and makes no fetch for memory. A file that is fetched is out.
+/// The medium that a config names: its file is fetched, and is out from then on; a medium in memory makes no fetch. The list of
+/// calls that fail is copied first, so that want of memory there leaves the files as they were.
 pub fn make_medium<F: Files>(
     alloc: Global,
     config: &Config,

@@ -12,7 +12,9 @@ use medium_file::FileMedium;
 /// A medium in memory or over a file, each with a protected bit and a list of calls that fail.
 #[derive(Drop)]
 pub enum Media<S: Store + Drop> {
+    /// In memory.
     Memory(Configured<MemMedium>),
+    /// Over the store of a file.
     File(Configured<FileMedium<S>>),
 }
 

@@ -45,10 +45,11 @@ impl MemMedium {
         })
     }
 
-    /// Gives the memory back. What is read of a medium here shows what bears it.
+    /// Gives the memory back.
     pub(crate) fn discard(self)
         ensures { self.below.layer ≡ memory }
     {
+        // Its fields are named, so that its view shows that it lies in memory.
         let MemMedium {
             bytes: _,
             blocks: _,
@@ -57,7 +58,7 @@ impl MemMedium {
     }
 }
 
-// The same of a vector.
+/// Overwrites the bytes of a vector from `at` on with a piece.
 fn overwrite_in(bytes: &mut Vec<u8>, at: usize, piece: &[u8])
     requires { at + length piece.now ≤ length bytes.old.items }
     ensures value { bytes.new.items ≡ overwritten at piece.now bytes.old.items }

@@ -6,6 +6,7 @@ use Rattle.tcmu_model.specs.Medium.{blanked, repeated}
 use Rattle.edge.specs.Stores.{StoreState, Puts, Spoils}
 use Rattle.medium_file.specs.declared.file.Lost.{Lost}
 
+-- the range that is lost
 abbrev pub lost_span : Lost → Span
 lost_span l = record { start = l.start; end = l.end }
 
@@ -17,6 +18,11 @@ below_file s lost = record { bytes = option_map (blanked lost) s.bytes; lost = l
 abbrev pub file_state : ℕ → StoreState → Span → ℕ → MediumState
 file_state blocks s lost calls =
     record { blocks = blocks; protected = false; own = record { fails = Some []; calls = calls }; below = below_file s lost }
+
+-- what contracts see of a medium over a store: what it shows, and the store
+pub record FileData (S : Type 0) : Type 0 where
+  pub medium : MediumState
+  pub store : S
 
 -- the blocks are those of the store, and what is lost lies in it
 pub record IsFile (blocks : ℕ) (s : StoreState) (lost : Span) : Type 0 where

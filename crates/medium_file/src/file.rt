@@ -2,14 +2,16 @@
 ghost use Rattle.std.specs.Prelude.{◌≡◌, ◌+◌, ◌*◌, ◌/◌, ◌%◌, ◌^◌, ◌<◌, ◌≤◌, length, is_err, OnOk, OnErr};
 ghost use Rattle.std.specs.Option.{option_map};
 ghost use Rattle.tcmu_types.specs.Numbered.{HasCause, next_call};
+ghost use Rattle.tcmu_model.specs.MediumState.{file};
 ghost use Rattle.tcmu_model.specs.Medium.{Reads, Writes, Fills, repeated, narrowed, widened, span_of, empty_span, blanked};
 ghost use Rattle.edge.specs.Outside.{CountsFailed};
 ghost use Rattle.edge.specs.Stores.{Shows, Puts, Spoils};
-ghost use Rattle.medium_file.specs.FileState.{file_state, lost_span, IsFile, PutsInPart};
+ghost use Rattle.medium_file.specs.FileState.{file_state, lost_span, PutsInPart};
 
 use crate::filling::fill_store;
 use edge::{Failed, Store};
 use handler_trait::Medium;
+use std::marker::Model;
 
 /// The places from `start` up to `end`, in bytes.
 #[derive(Clone, Copy, Debug)]
@@ -49,13 +51,23 @@ fn widened(lost: Lost, at: u64, n: u64) -> Lost
 }
 
 /// A medium over a store. A read, a write and a sync make one call of it, a fill one for each block, up to the first that fails.
+/// Contracts see what it shows as a medium, and its store.
 #[derive(Drop)]
 pub struct FileMedium<S: Store + Drop> {
     store: S,
     blocks: u64,
     lost: Lost,
     calls: u64,
-    ghost file: { IsFile blocks (S.state store) (lost_span lost) },
+}
+
+impl<S: Store + Drop> Model for FileMedium<S> {
+    ghost use Rattle.medium_file.specs.FileState.{FileData, file_state, lost_span, IsFile};
+
+    ghost Value = { FileData S };
+
+    ghost view = { λ f. record { medium = file_state f.blocks (S.state f.store) (lost_span f.lost) f.calls; store = f.store } };
+
+    ghost invariant = { λ f. IsFile f.blocks (S.state f.store) (lost_span f.lost) };
 }
 
 impl<S: Store + Drop> FileMedium<S> {
@@ -64,7 +76,7 @@ impl<S: Store + Drop> FileMedium<S> {
         requires whole { (S.state store).size % 512 ≡ 0 }
         requires some { 512 ≤ (S.state store).size }
         requires most { (S.state store).size ≤ 2 ^ 44 }
-        ensures state { file_state result.blocks (S.state result.store) (lost_span result.lost) result.calls ≡ file_state ((S.state store).size / 512) (S.state store) empty_span 0 }
+        ensures medium { result.medium ≡ file_state ((S.state store).size / 512) (S.state store) empty_span 0 }
         ensures store { result.store ≡ store }
     {
         let blocks = store.length() / 512;
@@ -79,8 +91,10 @@ impl<S: Store + Drop> FileMedium<S> {
     /// The store, as the calls left it. Where it tells its bytes, they are those of the medium's state outside of the lost range.
     pub fn into_store(self) -> S
         ensures store { result ≡ self.store }
-        ensures bytes { (file_state self.blocks (S.state self.store) (lost_span self.lost) self.calls).below.bytes ≡ option_map (blanked (lost_span self.lost)) (S.state result).bytes }
-        ensures calls { (file_state self.blocks (S.state self.store) (lost_span self.lost) self.calls).below.store ≡ (S.state result).calls }
+        ensures layer { self.medium.below.layer ≡ file }
+        ensures size { (S.state result).size ≡ 512 * self.medium.blocks }
+        ensures bytes { self.medium.below.bytes ≡ option_map (blanked self.medium.below.lost) (S.state result).bytes }
+        ensures calls { self.medium.below.store ≡ (S.state result).calls }
     {
         let FileMedium {
             store,
@@ -93,7 +107,7 @@ impl<S: Store + Drop> FileMedium<S> {
 }
 
 impl<S: Store + Drop> Medium for FileMedium<S> {
-    ghost state = { λ f. file_state f.blocks (S.state f.store) (lost_span f.lost) f.calls };
+    ghost state = { λ f. f.medium };
 
     ghost faults = { λ f. S.faults f.store };
 
@@ -104,14 +118,16 @@ impl<S: Store + Drop> Medium for FileMedium<S> {
     }
 
     fn protected(&self) -> bool {
+        // What is read of it shows that no medium over a store is protected.
+        let _calls = self.calls;
         false
     }
 
     fn read(&mut self, at: u64, into: &mut [u8]) -> Result<(), Failed>
-        requires { at + length into.old ≤ 512 * self.old.blocks }
-        ensures reads { Reads at into.new (file_state self.old.blocks (S.state self.old.store) (lost_span self.old.lost) self.old.calls) (is_err result)
-            (file_state self.new.blocks (S.state self.new.store) (lost_span self.new.lost) self.new.calls) }
-        ensures blocks { self.new.blocks ≡ self.old.blocks }
+        requires { at + length into.old ≤ 512 * self.old.medium.blocks }
+        ensures reads { Reads at into.new self.old.medium (is_err result) self.new.medium }
+        ensures blocks { self.new.medium.blocks ≡ self.old.medium.blocks }
+        ensures protected { self.new.medium.protected ≡ self.old.medium.protected }
         ensures cause { HasCause (S.faults self.old.store) (S.faults self.new.store) result }
         ensures count { CountsFailed (S.faults self.old.store) (is_err result) (S.faults self.new.store) }
         // What the store tells, in the lost range too, and no byte changes.
@@ -123,13 +139,13 @@ impl<S: Store + Drop> Medium for FileMedium<S> {
     }
 
     fn write(&mut self, at: u64, bytes: &[u8]) -> Result<(), Failed>
-        requires inside { at + length bytes.now ≤ 512 * self.old.blocks }
+        requires inside { at + length bytes.now ≤ 512 * self.old.medium.blocks }
         requires start { at % 512 ≡ 0 }
         requires some { 0 < length bytes.now }
         requires whole { length bytes.now % 512 ≡ 0 }
-        ensures writes { Writes at bytes.now (file_state self.old.blocks (S.state self.old.store) (lost_span self.old.lost) self.old.calls) (is_err result)
-            (file_state self.new.blocks (S.state self.new.store) (lost_span self.new.lost) self.new.calls) }
-        ensures blocks { self.new.blocks ≡ self.old.blocks }
+        ensures writes { Writes at bytes.now self.old.medium (is_err result) self.new.medium }
+        ensures blocks { self.new.medium.blocks ≡ self.old.medium.blocks }
+        ensures protected { self.new.medium.protected ≡ self.old.medium.protected }
         ensures cause { HasCause (S.faults self.old.store) (S.faults self.new.store) result }
         ensures count { CountsFailed (S.faults self.old.store) (is_err result) (S.faults self.new.store) }
         // Of the store's own bytes, in the lost range too, only those of this range change.
@@ -151,12 +167,12 @@ impl<S: Store + Drop> Medium for FileMedium<S> {
     }
 
     fn fill(&mut self, at: u64, block: &[u8; 512], count: u64) -> Result<(), Failed>
-        requires inside { at + 512 * count ≤ 512 * self.old.blocks }
+        requires inside { at + 512 * count ≤ 512 * self.old.medium.blocks }
         requires start { at % 512 ≡ 0 }
         requires some { 0 < count }
-        ensures fills { Fills at block.now count (file_state self.old.blocks (S.state self.old.store) (lost_span self.old.lost) self.old.calls) (is_err result)
-            (file_state self.new.blocks (S.state self.new.store) (lost_span self.new.lost) self.new.calls) }
-        ensures blocks { self.new.blocks ≡ self.old.blocks }
+        ensures fills { Fills at block.now count self.old.medium (is_err result) self.new.medium }
+        ensures blocks { self.new.medium.blocks ≡ self.old.medium.blocks }
+        ensures protected { self.new.medium.protected ≡ self.old.medium.protected }
         ensures cause { HasCause (S.faults self.old.store) (S.faults self.new.store) result }
         ensures count { CountsFailed (S.faults self.old.store) (is_err result) (S.faults self.new.store) }
         ensures put { OnOk result (Puts at (repeated count block.now) (S.state self.old.store).bytes (S.state self.new.store).bytes) }

@@ -12,4 +12,4 @@ pub returns-in_ok-fetch_file-in-File-clause-opened :
     goal.returns-in_ok-fetch_file-in-File-clause-opened
 returns-in_ok-fetch_file-in-File-clause-opened g c =
     opens_file c.args.config.now c.as_slice-in-File.result.now (g.F.File.Store.state c.in_ok-fetch_file-in-File.field-0) c.config.inside.protected c.in_ok-fails.fails.items _ _ _ _
-    (search rules) (search rules) (search rules) c.new-file.ensures.state c.new-in-File.ensures.state c.in_ok-fetch_file-in-File.ensures.fetched
+    (search rules) (search rules) (search rules) c.new-file.ensures.medium c.new-in-File.ensures.state c.in_ok-fetch_file-in-File.ensures.fetched
