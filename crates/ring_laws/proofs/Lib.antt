@@ -86,6 +86,7 @@ pub mod AnyAreas
 pub mod PassedEntries
 pub mod AnyAttached
 pub mod AnyNext
+pub mod AnyFaults
 pub mod AnyAnswers
 pub mod AnyLogs
 pub mod AnyRing

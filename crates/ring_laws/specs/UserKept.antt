@@ -23,6 +23,16 @@ pub record UserSound (u : UserState) : Type 0 where
 abbrev pub HasRing : RegionState → UserState → Type 0
 HasRing r u = length r.front ≡ data_start u.ring
 
+-- ==== a fault
+
+-- a fault of the mailbox or of an entry
+abbrev pub IsFault : NextAnswer → Type 0
+IsFault (Job job) = ⊥
+IsFault (Note type_ ids) = ⊥
+IsFault Nothing = ⊥
+IsFault (BadMailbox fault) = Unit {0}
+IsFault (BadEntry at fault) = Unit {0}
+
 -- ==== what changes of a region
 
 -- a byte gets its lowest bit, which it lacked: it is byte 7 of an entry whose operation code is none of the three

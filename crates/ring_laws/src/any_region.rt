@@ -1,11 +1,15 @@
 //! What the user side keeps, and what it changes of the region, over any bytes that the target left there.
-ghost use Rattle.std.specs.Prelude.{◌≡◌, Ok};
-ghost use Rattle.tcmu_model.specs.UserNext.{nexted};
-ghost use Rattle.tcmu_model.specs.Regions.{RegionState};
+ghost use Rattle.std.specs.Prelude.{◌≡◌, ◌*◌, ℕ, length, Err, Ok};
+ghost use Rattle.tcmu_model.specs.declared.entry.EntryFault.{EntryFault};
+ghost use Rattle.tcmu_model.specs.declared.mailbox.Mailbox.{Mailbox};
+ghost use Rattle.tcmu_model.specs.declared.mailbox.MailboxFault.{MailboxFault};
+ghost use Rattle.tcmu_model.specs.EntryReading.{entry_read};
+ghost use Rattle.tcmu_model.specs.UserNext.{BadEntry, BadMailbox, nexted};
+ghost use Rattle.tcmu_model.specs.Regions.{RegionState, size_of};
 ghost use Rattle.tcmu_model.specs.Sides.{Parked, UserState};
-ghost use Rattle.tcmu_model.specs.UserSteps.{region_published, region_reattached, user_abandoned, user_attached, user_published, user_responded};
+ghost use Rattle.tcmu_model.specs.UserSteps.{region_published, region_reattached, user_abandoned, user_attached, user_mailbox, user_published, user_responded};
 ghost use Rattle.ring_laws.specs.CalledOn.{SameSizes};
-ghost use Rattle.ring_laws.specs.UserKept.{HasRing, OnlyAnswers, OnlySetsBits, OnlyTail, UserSound, blocks_behind};
+ghost use Rattle.ring_laws.specs.UserKept.{HasRing, IsFault, OnlyAnswers, OnlySetsBits, OnlyTail, UserSound, blocks_behind};
 
 /// A user side that is attached, over any bytes, is sound, and the region has the ring size that it read.
 pub fn attach_law()
@@ -15,13 +19,19 @@ pub fn attach_law()
 
 /// A next keeps the user side sound, on a region of any bytes that has its ring's size, and leaves the sizes of all parts of the region.
 /// Before the data area it changes nothing but the lowest bit of byte 7 of entries whose operation code is none of the three; of the blocks
-/// just those of a job's iovecs are lent.
+/// just those of a job's iovecs are lent. A fault is that of the mailbox, or of the entry at the place that is told, and leaves the user
+/// side as it was, so the next one passes the same entries again.
 pub fn next_law()
     ensures sound { (r : RegionState) (u : UserState) → UserSound u → HasRing r u → UserSound (nexted r u).user }
     ensures ring { (r : RegionState) (u : UserState) → UserSound u → HasRing r u → HasRing (nexted r u).region (nexted r u).user }
     ensures sizes { (r : RegionState) (u : UserState) → UserSound u → HasRing r u → SameSizes r (nexted r u).region }
     ensures bits { (r : RegionState) (u : UserState) → UserSound u → HasRing r u → OnlySetsBits r.front (nexted r u).region.front }
     ensures blocks { (r : RegionState) (u : UserState) → UserSound u → HasRing r u → (nexted r u).region.blocks ≡ blocks_behind r (nexted r u).answer }
+    ensures faults { (r : RegionState) (u : UserState) → IsFault (nexted r u).answer → (nexted r u).user ≡ u }
+    ensures mailbox { (r : RegionState) (u : UserState) (fault : MailboxFault) → user_mailbox r ≡ Err fault →
+        nexted r u ≡ record { answer = BadMailbox fault; region = r; user = u } }
+    ensures entry { (r : RegionState) (u : UserState) (m : Mailbox) (at : ℕ) (fault : EntryFault) → user_mailbox r ≡ Ok m → (nexted r u).answer ≡ BadEntry at fault →
+        entry_read (nexted r u).region.front (size_of r * length r.blocks) m at ≡ Err fault }
 {}
 
 /// So does a respond. Before the data area it changes nothing but the id and bytes 7 to 111 of entries at offsets that were kept.
