@@ -91,4 +91,18 @@ stops r t id none h =
 
 pub reset_empties : (r : RegionState) (t : TargetState) (level : ℕ) → Emptied (target_cleaned r t) level (target_reset r t level)
 unfolding target_reset
-reset_empties r t level = record { rows = refl; delayed = refl; items = refl; broken = refl; accepted = refl; log = refl }
+reset_empties r t level =
+    record {
+      rows = refl;
+      delayed = refl;
+      items = refl;
+      cleaned = refl;
+      laid = refl;
+      cleared = refl;
+      broken = refl;
+      settings = refl;
+      now = refl;
+      blocked = refl;
+      accepted = refl;
+      log = refl;
+    }

@@ -156,14 +156,20 @@ pub record StopsAt (id : ℕ) (t : TargetState) : Type 0 where
   pub kept : t.broken ≡ Some id
   pub none : first_of (has_id id) t.rows ≡ None
 
--- a target with nothing in it, which has logged what was left behind a clean
-pub record Emptied (cleaned : TargetState) (level : ℕ) (t : TargetState) : Type 0 where
+-- a target with nothing in it and no place left, which has logged what was left behind a clean; the moment and the bit stay
+pub record Emptied (before : TargetState) (level : ℕ) (t : TargetState) : Type 0 where
   pub rows : t.rows ≡ []
   pub delayed : t.delayed ≡ []
   pub items : t.items ≡ []
+  pub cleaned : t.cleaned ≡ 0
+  pub laid : t.laid ≡ 0
+  pub cleared : t.cleared ≡ 0
   pub broken : t.broken ≡ None
-  pub accepted : t.accepted ≡ cleaned.accepted
-  pub log : t.log ≡ cleaned.log ++ reset_logs cleaned level
+  pub settings : t.settings ≡ before.settings
+  pub now : t.now ≡ before.now
+  pub blocked : t.blocked ≡ before.blocked
+  pub accepted : t.accepted ≡ before.accepted
+  pub log : t.log ≡ before.log ++ reset_logs before level
 
 -- ==== the commands of a list of calls
 

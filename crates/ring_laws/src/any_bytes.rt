@@ -89,7 +89,8 @@ pub fn any_clean_law()
     ensures stops { (r : RegionState) (t : TargetState) (id : ℕ) → t.broken ≡ None → target_clean_answer r t ≡ Broken id → StopsAt id (target_cleaned r t) }
 {}
 
-/// A reset empties the target, whatever the region holds: after what a clean would log, all that is left is logged.
+/// A reset empties the target, whatever the region holds: after what a clean would log, all that is left is logged. Its record of the ring
+/// begins at place 0 again, and the moment stays.
 pub fn any_reset_law()
     ensures empties { (r : RegionState) (t : TargetState) (level : ℕ) → Emptied (target_cleaned r t) level (target_reset r t level) }
 {}
