@@ -23,6 +23,10 @@ pub record UserSound (u : UserState) : Type 0 where
 abbrev pub HasRing : RegionState → UserState → Type 0
 HasRing r u = length r.front ≡ data_start u.ring
 
+-- a region whose blocks have as many pages as the user side read when it was attached
+abbrev pub HasPages : RegionState → UserState → Type 0
+HasPages r u = r.pages ≡ u.pages
+
 -- ==== a fault
 
 -- a fault of the mailbox or of an entry

@@ -9,12 +9,14 @@ ghost use Rattle.tcmu_model.specs.Regions.{RegionState, size_of};
 ghost use Rattle.tcmu_model.specs.Sides.{Parked, UserState};
 ghost use Rattle.tcmu_model.specs.UserSteps.{region_published, region_reattached, user_abandoned, user_attached, user_mailbox, user_published, user_responded};
 ghost use Rattle.ring_laws.specs.CalledOn.{SameSizes};
-ghost use Rattle.ring_laws.specs.UserKept.{HasRing, IsFault, OnlyAnswers, OnlySetsBits, OnlyTail, UserSound, blocks_behind};
+ghost use Rattle.ring_laws.specs.UserKept.{HasPages, HasRing, IsFault, OnlyAnswers, OnlySetsBits, OnlyTail, UserSound, blocks_behind};
 
-/// A user side that is attached, over any bytes, is sound, and the region has the ring size that it read.
+/// A user side that is attached, over any bytes, is sound, and the region has the ring size that it read, and blocks of the pages that it
+/// keeps.
 pub fn attach_law()
     ensures sound { (r : RegionState) (u : UserState) → user_attached r ≡ Ok u → UserSound u }
     ensures ring { (r : RegionState) (u : UserState) → user_attached r ≡ Ok u → HasRing r u }
+    ensures pages { (r : RegionState) (u : UserState) → user_attached r ≡ Ok u → HasPages r u }
 {}
 
 /// A next keeps the user side sound, on a region of any bytes that has its ring's size, and leaves the sizes of all parts of the region.
