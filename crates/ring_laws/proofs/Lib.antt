@@ -78,6 +78,7 @@ pub mod PendingRows
 pub mod CountedSerials
 pub mod AnyCalls
 pub mod AnyCleans
+pub mod AnyCleared
 pub mod AnyStops
 pub mod AnySerials
 pub mod AnySettings
