@@ -17,19 +17,19 @@ use Rattle.ring_laws.specs.Calls.{ClearsFirst, StopsAt}
 -- ==== one item
 
 -- an item is passed
-record Passed (t k : TargetState) (len : ℕ) (xs : List Recorded) : Type 0 where
-  items : k.items ≡ xs
-  cleaned : k.cleaned ≡ (t.cleaned + len) % t.settings.ring
-  settings : k.settings ≡ t.settings
-  broken : k.broken ≡ t.broken
+pub record Passed (t k : TargetState) (len : ℕ) (xs : List Recorded) : Type 0 where
+  pub items : k.items ≡ xs
+  pub cleaned : k.cleaned ≡ (t.cleaned + len) % t.settings.ring
+  pub settings : k.settings ≡ t.settings
+  pub broken : k.broken ≡ t.broken
 
 -- or it is a command's, whose entry has an id that none has
-record Stopped (r : RegionState) (t k : TargetState) (c : ItemKind) : Type 0 where
-  same : k ≡ record t { broken = Some (response_in r t).id }
-  cmd : c ≡ kind.Cmd
-  none : first_of (has_id (response_in r t).id) t.rows ≡ None
+pub record Stopped (r : RegionState) (t k : TargetState) (c : ItemKind) : Type 0 where
+  pub same : k ≡ record t { broken = Some (response_in r t).id }
+  pub cmd : c ≡ kind.Cmd
+  pub none : first_of (has_id (response_in r t).id) t.rows ≡ None
 
-one_case : (r : RegionState) (t : TargetState) (x : Recorded) (xs : List Recorded) (c : ItemKind) → Passed t (one_cleaned r t x xs c) x.len xs ⊎ Stopped r t (one_cleaned r t x xs c) c
+pub one_case : (r : RegionState) (t : TargetState) (x : Recorded) (xs : List Recorded) (c : ItemKind) → Passed t (one_cleaned r t x xs c) x.len xs ⊎ Stopped r t (one_cleaned r t x xs c) c
 one_case r t x xs kind.Pad = inl (record { items = refl; cleaned = refl; settings = refl; broken = refl })
 one_case r t x xs kind.Tmr = inl (record { items = refl; cleaned = refl; settings = refl; broken = refl })
 one_case r t x xs kind.Cmd = by_row (first_of (has_id (response_in r t).id) t.rows) refl
@@ -44,7 +44,7 @@ one_case r t x xs kind.Cmd = by_row (first_of (has_id (response_in r t).id) t.ro
 -- ==== all items
 
 -- a clean ends at an item, or goes on behind it
-by_item : (P : TargetState → Type 0) (r : RegionState) (tail : ℕ) (t : TargetState) (x : Recorded) (xs : List Recorded) → ((t.cleaned == tail) ≡ true → P t) → ((id : ℕ) → t.broken ≡ Some id → P t) →
+pub by_item : (P : TargetState → Type 0) (r : RegionState) (tail : ℕ) (t : TargetState) (x : Recorded) (xs : List Recorded) → ((t.cleaned == tail) ≡ true → P t) → ((id : ℕ) → t.broken ≡ Some id → P t) →
     (t.broken ≡ None → (t.cleaned == tail) ≡ false → P (all_cleaned r tail (one_cleaned r t x xs x.kind) xs)) → P (all_cleaned r tail t (x ∷ xs))
 by_item P r tail t x xs here kept more = by_tail (t.cleaned == tail) refl
   where
@@ -67,7 +67,7 @@ stays_broken : (r : RegionState) (tail : ℕ) (t : TargetState) (xs : List Recor
 stays_broken r tail t [] id h = refl
 stays_broken r tail t (x ∷ xs) id h = by_item (λ k. k ≡ t) r tail t x xs (λ e. refl) (λ i e. refl) (λ e b. absurd (neither t.broken id e h))
 
-stopped_all : (r : RegionState) (tail : ℕ) (t k : TargetState) (c : ItemKind) (xs : List Recorded) → Stopped r t k c → all_cleaned r tail k xs ≡ record t { broken = Some (response_in r t).id }
+pub stopped_all : (r : RegionState) (tail : ℕ) (t k : TargetState) (c : ItemKind) (xs : List Recorded) → Stopped r t k c → all_cleaned r tail k xs ≡ record t { broken = Some (response_in r t).id }
 stopped_all r tail t k c xs s = stays_broken r tail k xs (response_in r t).id (ap (λ (z : TargetState). z.broken) s.same) ∙ s.same
 
 -- ==== the first items

@@ -91,4 +91,5 @@ pub mod AnyFaults
 pub mod AnyAnswers
 pub mod AnyLogs
 pub mod AnyRing
+pub mod AnyRows
 pub mod AnyKeptId

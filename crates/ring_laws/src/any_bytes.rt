@@ -10,7 +10,7 @@ ghost use Rattle.tcmu_model.specs.Represents.{IsId};
 ghost use Rattle.tcmu_model.specs.TargetSteps.{blocks_held, fits_in, head_in, opening_target, pad_in, place_in};
 ghost use Rattle.tcmu_model.specs.TargetCleans.{BadTail, Broken, Logged, tail_read, target_clean_answer, target_cleaned, target_reset};
 ghost use Rattle.ring_laws.specs.CalledOn.{CalledOn, region_called};
-ghost use Rattle.ring_laws.specs.RingKept.{RingKept};
+ghost use Rattle.ring_laws.specs.RingKept.{RingKept, RowsKept};
 ghost use Rattle.ring_laws.specs.Calls.{CallLogs, CallMade, Called, CanCall, CleanLogs, ClearsFirst, Emptied, HasSerial, IsDoneOf, IsRowOf, StopsAt, TargetCall, TargetSound, Unchanged, accepted_along, is_given, is_reset, target_called, times_delayed, times_pending};
 
 /// The target is sound as it opens, and each of its calls keeps it so, on a region of any bytes and any area; so it is after any list of
@@ -76,6 +76,13 @@ pub fn any_ring_law()
     ensures whole { (t : TargetState) (n : ℕ) → IsSettings t.settings → RingKept t → fits_in t n ≡ true → place_in t n + n ≤ t.settings.ring }
     ensures front { (r : RegionState) (t : TargetState) (call : TargetCall) → IsSettings t.settings → TargetSound t → RingKept t → length r.front ≡ data_start t.settings.ring →
         length (region_called r t call).front ≡ length r.front }
+{}
+
+/// The target's items and its rows are of the same commands, over any list of calls, so there are fewer of them than ids.
+pub fn any_rows_law()
+    ensures all { (s : SettingsData) (calls : List CallMade) (t : TargetState) → Called (opening_target s) calls t → RowsKept t }
+    ensures each { (r : RegionState) (t : TargetState) (call : TargetCall) → RowsKept t → RowsKept (target_called r t call) }
+    ensures few { (s : SettingsData) (calls : List CallMade) (t : TargetState) → IsSettings s → Called (opening_target s) calls t → length t.rows < 65535 }
 {}
 
 /// Whatever the region holds, a clean logs completions of commands that it takes out, each with the first bytes along its own blocks, and
