@@ -1,6 +1,7 @@
 -- The target over any bytes: its calls in any order, each on a region whose bytes may have become anything since the one before.
-use Rattle.std.specs.Prelude.{◌≡◌, ◌⊎◌, ℕ, ◌+◌, ◌-◌, ◌%◌, ◌<◌, ◌≤◌, ◌==◌, ◌&&◌, not, nat_lt, nat_le, Bool, true, false, List, [], ◌∷◌, ◌++◌, length, take, drop, map, slice_get, Some, None, if◌then◌else◌}
+use Rattle.std.specs.Prelude.{◌≡◌, ◌≢◌, ◌⊎◌, ℕ, ◌+◌, ◌-◌, ◌%◌, ◌<◌, ◌≤◌, ◌==◌, ◌&&◌, not, nat_lt, nat_le, Bool, true, false, List, [], ◌∷◌, ◌++◌, length, take, drop, map, slice_get, Some, None, if◌then◌else◌}
 use Rattle.std.specs.List.{count_by, sum_by}
+use Rattle.std.specs.Option.{is_some}
 use Rattle.tcmu_types.specs.Data.{CommandData, DoneData}
 use Rattle.tcmu_types.specs.declared.answer.Submit.{Submit}
 use Rattle.tcmu_types.specs.declared.answer.Submit.TheVariants as submit
@@ -221,13 +222,16 @@ pub record IsRowOf (cs : List CommandData) (pages : ℕ) (p : PendingData) : Typ
   pub in_len : p.in_len ≡ command.in_len
   pub count : length p.blocks ≡ blocks_of pages command
 
--- a completion is for its command's initiator and tag, with no more bytes than were asked for
+-- a completion is for its command's initiator and tag, with no more bytes than were asked for; it has sense data exactly with CHECK
+-- CONDITION, and bytes only with GOOD
 pub record IsDoneOf (cs : List CommandData) (e : DoneData) : Type 0 where
   pub command : CommandData
   pub serial : HasSerial cs e.serial command
   pub init : e.init ≡ command.init
   pub tag : e.tag ≡ command.tag
   pub short : length e.payload ≤ command.in_len
+  pub sense : is_some e.sense ≡ (e.status == 2)
+  pub bytes : e.status ≢ 0 → e.payload ≡ []
 
 -- all that a target has is of the commands that it accepted
 pub record IsOfCommands (cs : List CommandData) (t : TargetState) : Type 0 where

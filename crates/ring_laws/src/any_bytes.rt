@@ -44,7 +44,7 @@ pub fn held_law()
 
 /// Over the same, the serial of the k-th command that was accepted is k. Each pending command has its command's initiator, tag and data-in
 /// length, and as many blocks as its command needs; each that waits is as it was accepted; and each completion is for its command's
-/// initiator and tag, with no more bytes than its command asked for.
+/// initiator and tag, with no more bytes than its command asked for, sense data exactly with CHECK CONDITION, and bytes only with GOOD.
 pub fn commands_law()
     ensures count { (s : SettingsData) (calls : List CallMade) (t : TargetState) → Called (opening_target s) calls t → length (accepted_along (opening_target s) calls) ≡ t.accepted }
     ensures rows { (s : SettingsData) (calls : List CallMade) (t : TargetState) → Called (opening_target s) calls t →
