@@ -165,7 +165,8 @@ all-old size area area' lists lists' hs acc (u ∷ us) l same into k e = (
   all-old size area area' lists lists' hs acc us l same (λ b h. into b (among-append (list_of lists u.serial) (held_by lists us) b ∙ or_right (is_among (list_of lists u.serial) b) (is_among (held_by lists us) b) h)) k.1 e.1,
 )
 
-enough : (p size : ℕ) → 0 < size → p ≤ size * ((p + (size - 1)) / size)
+-- bytes lie in the blocks that they need
+pub enough : (p size : ℕ) → 0 < size → p ≤ size * ((p + (size - 1)) / size)
 enough p size z = omega arith
 
 -- the data of a new command
