@@ -89,7 +89,7 @@ pub next_mailbox : (r : RegionState) (u : UserState) (fault : MailboxFault) → 
 unfolding nexted
 next_mailbox r u fault h = ap (next_of r u) h
 
-by_mailbox : (r : RegionState) (u : UserState) (m : Mailbox) → user_mailbox r ≡ Ok m → nexted r u ≡ next_within (most_entries u.ring) m u r u
+pub by_mailbox : (r : RegionState) (u : UserState) (m : Mailbox) → user_mailbox r ≡ Ok m → nexted r u ≡ next_within (most_entries u.ring) m u r u
 unfolding nexted
 by_mailbox r u m h = ap (next_of r u) h
 

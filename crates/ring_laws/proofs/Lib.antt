@@ -88,6 +88,7 @@ pub mod PassedEntries
 pub mod AnyAttached
 pub mod AnyNext
 pub mod AnyFaults
+pub mod AnyJobs
 pub mod AnyAnswers
 pub mod AnyLogs
 pub mod AnyRing
