@@ -89,6 +89,7 @@ pub mod AnyAttached
 pub mod AnyNext
 pub mod AnyFaults
 pub mod AnyJobs
+pub mod AnyHeads
 pub mod AnyAnswers
 pub mod AnyLogs
 pub mod AnyRing

@@ -4,7 +4,7 @@ ghost use Rattle.tcmu_model.specs.declared.entry.EntryFault.{EntryFault};
 ghost use Rattle.tcmu_model.specs.declared.mailbox.Mailbox.{Mailbox};
 ghost use Rattle.tcmu_model.specs.declared.mailbox.MailboxFault.{MailboxFault};
 ghost use Rattle.tcmu_model.specs.EntryReading.{entry_read};
-ghost use Rattle.tcmu_model.specs.UserNext.{BadEntry, BadMailbox, Job, nexted};
+ghost use Rattle.tcmu_model.specs.UserNext.{BadEntry, BadMailbox, Job, Nothing, nexted};
 ghost use Rattle.tcmu_model.specs.Regions.{RegionState, size_of};
 ghost use Rattle.tcmu_model.specs.Sides.{JobState, Parked, UserState};
 ghost use Rattle.tcmu_model.specs.UserSteps.{lie_in_area, region_published, region_reattached, user_abandoned, user_attached, user_mailbox, user_published, user_responded};
@@ -22,7 +22,7 @@ pub fn attach_law()
 
 /// A next keeps the user side sound, on a region of any bytes that has its ring's size, and leaves the sizes of all parts of the region.
 /// Before the data area it changes nothing but the lowest bit of byte 7 of entries whose operation code is none of the three; of the blocks
-/// just those of a job's iovecs are lent. All iovecs of a job lie in the data area. A fault is that of the mailbox, or of the entry at the place that is told, and leaves the user
+/// just those of a job's iovecs are lent. It finds nothing only at the head. All iovecs of a job lie in the data area. A fault is that of the mailbox, or of the entry at the place that is told, and leaves the user
 /// side as it was, so the next one passes the same entries again.
 pub fn next_law()
     ensures sound { (r : RegionState) (u : UserState) → UserSound u → HasRing r u → UserSound (nexted r u).user }
@@ -30,6 +30,7 @@ pub fn next_law()
     ensures sizes { (r : RegionState) (u : UserState) → UserSound u → HasRing r u → SameSizes r (nexted r u).region }
     ensures bits { (r : RegionState) (u : UserState) → UserSound u → HasRing r u → OnlySetsBits r.front (nexted r u).region.front }
     ensures blocks { (r : RegionState) (u : UserState) → UserSound u → HasRing r u → (nexted r u).region.blocks ≡ blocks_behind r (nexted r u).answer }
+    ensures nothing { (r : RegionState) (u : UserState) (m : Mailbox) → UserSound u → HasRing r u → user_mailbox r ≡ Ok m → (nexted r u).answer ≡ Nothing → (nexted r u).user.place ≡ m.head }
     ensures inside { (r : RegionState) (u : UserState) (job : JobState) → IsSized r → (nexted r u).answer ≡ Job job → lie_in_area r job.iovs ≡ true }
     ensures faults { (r : RegionState) (u : UserState) → IsFault (nexted r u).answer → (nexted r u).user ≡ u }
     ensures mailbox { (r : RegionState) (u : UserState) (fault : MailboxFault) → user_mailbox r ≡ Err fault →
