@@ -1,8 +1,8 @@
 -- Which items a clean clears over any bytes: the first ones, up to the tail or to the entry of an id that no command has.
-use Rattle.std.proofs.Common.{◌≡◌, ◌⊎◌, inl, inr, ℕ, ◌+◌, ◌-◌, ◌%◌, ◌<◌, Bool, true, false, cond, ◌||◌, eqb, ◌==◌, List, [], ◌∷◌, length, take, drop, suc, zero, Option, Some, None, refl, sym, ap, ◌∙◌, arith, subst, ⊎_elim}
+use Rattle.std.proofs.Common.{◌≡◌, ◌⊎◌, inl, inr, ℕ, ◌+◌, ◌%◌, ◌<◌, Bool, true, false, cond, ◌||◌, ◌==◌, List, [], ◌∷◌, take, drop, suc, Option, Some, None, refl, sym, ap, ◌∙◌, arith, subst, ⊎_elim}
 use Rattle.std.specs.List.{sum_by}
 use Rattle.std.proofs.Math.Nat.{mod-add-mod, mod-eq_of_lt, mod-lt}
-use Rattle.std.proofs.lemmas.Bool.{cases_Bool, eqb-true, false≢true}
+use Rattle.std.proofs.lemmas.Bool.{eqb-true, false≢true}
 use Rattle.std.proofs.lemmas.List.Sums.{sum_by-cons}
 use Rattle.tcmu_types.specs.Data.{SettingsData}
 use Rattle.tcmu_types.specs.declared.dump.ItemKind.{ItemKind}

@@ -1,5 +1,5 @@
 -- A next that ends with a fault: the user side is as it was, and the place that is told has this fault.
-use Rattle.std.proofs.Common.{◌≡◌, ℕ, ◌+◌, ◌*◌, Bool, true, false, ◌==◌, List, length, suc, zero, Option, Some, None, Result, Ok, Err, refl, sym, ap, ◌∙◌, subst}
+use Rattle.std.proofs.Common.{◌≡◌, ℕ, ◌+◌, ◌*◌, Bool, true, false, ◌==◌, List, length, suc, zero, Result, Ok, Err, refl, sym, ap, ◌∙◌, subst}
 use Rattle.tcmu_types.specs.declared.dump.ItemKind.TheVariants as kind
 use Rattle.tcmu_types.specs.declared.iovec.Iov.{Iov}
 use Rattle.tcmu_model.specs.declared.mailbox.Mailbox.{Mailbox}

@@ -1,5 +1,5 @@
 -- A next that finds no entry over any bytes: its place is the head.
-use Rattle.std.proofs.Common.{◌≡◌, ◌≢◌, ◌⊎◌, inl, inr, ℕ, ◌+◌, ◌-◌, ◌*◌, ◌/◌, ◌%◌, ◌<◌, ◌≤◌, ◌==◌, Bool, true, false, eqb, ltb, List, length, suc, zero, Result, Ok, Err, refl, sym, ap, ◌∙◌, arith, subst, ⊎_elim}
+use Rattle.std.proofs.Common.{◌≡◌, ◌≢◌, ◌⊎◌, inl, inr, ℕ, ◌+◌, ◌-◌, ◌*◌, ◌%◌, ◌<◌, ◌≤◌, ◌==◌, Bool, true, false, ltb, length, suc, zero, Result, Ok, Err, refl, sym, ap, ◌∙◌, arith, subst, ⊎_elim}
 use Rattle.std.proofs.Math.Nat.{mod-eq_of_lt, mod-lt, mod_self}
 use Rattle.std.proofs.lemmas.Bool.{cases_lt, eqb-true, eqb-false, lt-ltb, le-ltb}
 use Rattle.tcmu_types.specs.declared.dump.ItemKind.TheVariants as kind
@@ -14,7 +14,7 @@ use Rattle.tcmu_model.specs.Sides.{UserState}
 use Rattle.tcmu_model.specs.UserSteps.{user_mailbox}
 use Rattle.tcmu_model.specs.UserNext.{Nothing, BadEntry, Nexted, iovs_in, tmr_ids_in, with_passed, with_unknown, command_next, note_next, next_within, most_entries, nexted}
 use Rattle.ring_laws.specs.UserKept.{UserSound, HasRing}
-use Rattle.ring_laws.proofs.PassedEntries.{Bounded, ReadFrom, read_from, Within, within_read}
+use Rattle.ring_laws.proofs.PassedEntries.{ReadFrom, read_from, Within, within_read}
 use Rattle.ring_laws.proofs.AnyFaults.{by_mailbox}
 
 -- ==== the bytes up to the head

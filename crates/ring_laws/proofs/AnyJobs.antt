@@ -2,7 +2,6 @@
 use Rattle.std.proofs.Common.{◌≡◌, ℕ, ◌+◌, ◌*◌, ◌==◌, Bool, true, false, List, [], ◌∷◌, length, suc, zero, Option, Some, None, Result, Ok, Err, refl, sym, ap, ◌∙◌, arith, subst, length-append}
 use Rattle.std.specs.List.{list_all}
 use Rattle.tcmu_types.specs.declared.dump.ItemKind.TheVariants as kind
-use Rattle.tcmu_types.specs.declared.iovec.Iov.{Iov}
 use Rattle.tcmu_model.specs.declared.mailbox.Mailbox.{Mailbox}
 use Rattle.tcmu_model.specs.declared.mailbox.MailboxFault.{MailboxFault}
 use Rattle.tcmu_model.specs.declared.entry.EntryRef.{EntryRef}

@@ -17,7 +17,7 @@ use Rattle.tcmu_types.specs.declared.dump.ItemKind.{ItemKind}
 use Rattle.tcmu_types.specs.declared.dump.ItemKind.TheVariants as kind
 use Rattle.tcmu_model.specs.declared.entry.Response.{Response}
 use Rattle.tcmu_model.specs.Lists.{first_of, without_first}
-use Rattle.tcmu_model.specs.Lengths.{blocks_of, entry_length, round_up, tmr_length}
+use Rattle.tcmu_model.specs.Lengths.{blocks_of, tmr_length}
 use Rattle.tcmu_model.specs.Device.{Delayed}
 use Rattle.tcmu_model.specs.Events.{later}
 use Rattle.tcmu_model.specs.Regions.{RegionState}

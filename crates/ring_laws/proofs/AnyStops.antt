@@ -1,5 +1,5 @@
 -- Where a clean stops over any bytes: at a kept id, at a tail that is no item's end, and at an id that no command has.
-use Rattle.std.proofs.Common.{◌≡◌, ℕ, Bool, true, false, cond, ◌||◌, List, ◌-◌, length, Option, Some, None, refl, sym, ap, ◌∙◌, eqb, ◌==◌, subst, ⊎_elim}
+use Rattle.std.proofs.Common.{◌≡◌, ℕ, Bool, true, false, cond, ◌||◌, ◌-◌, length, Option, Some, None, refl, sym, ap, ◌∙◌, eqb, ◌==◌, subst, ⊎_elim}
 use Rattle.std.proofs.lemmas.Bool.{cases_Bool, eq-eqb, eqb-true, or_left, or_right}
 use Rattle.tcmu_model.specs.Regions.{RegionState}
 use Rattle.tcmu_model.specs.Sides.{TargetState}
