@@ -40,16 +40,16 @@ rows_opened s = record { commands = refl; counted = refl; long = tt }
 
 -- ==== an item more
 
-abbrev commands : List Recorded → ℕ
+abbrev pub commands : List Recorded → ℕ
 commands xs = count_by is_cmd xs
 
 abbrev IsLong : Recorded → Type 0
 IsLong x = is_cmd x ≡ true → 112 ≤ x.len
 
-commands-cons : (x : Recorded) (xs : List Recorded) → commands (x ∷ xs) ≡ cond (is_cmd x) 1 0 + commands xs
+pub commands-cons : (x : Recorded) (xs : List Recorded) → commands (x ∷ xs) ≡ cond (is_cmd x) 1 0 + commands xs
 commands-cons x xs = sum_by-cons (λ (y : Recorded). cond {A = ℕ} (is_cmd y) 1 0) x xs
 
-commands-append : (xs ys : List Recorded) → commands (xs ++ ys) ≡ commands xs + commands ys
+pub commands-append : (xs ys : List Recorded) → commands (xs ++ ys) ≡ commands xs + commands ys
 commands-append xs ys = sum_by-append (λ (y : Recorded). cond {A = ℕ} (is_cmd y) 1 0) xs ys
 
 no_pads : (n : ℕ) → commands (pads_of n) ≡ 0
@@ -142,7 +142,7 @@ rows_block t b h = record { commands = h.commands; counted = h.counted; long = h
 
 -- ==== a clean
 
-one_less : {X : Type 0} (p : X → Bool) (xs : List X) (x : X) → first_of p xs ≡ Some x → length (without_first p xs) + 1 ≡ length xs
+pub one_less : {X : Type 0} (p : X → Bool) (xs : List X) (x : X) → first_of p xs ≡ Some x → length (without_first p xs) + 1 ≡ length xs
 one_less p [] x h = absurd (cc)
 one_less p (y ∷ xs) x h =
     ⊎_elim

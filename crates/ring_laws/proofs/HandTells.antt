@@ -152,7 +152,7 @@ first_tells st rows lists t f s (y ∷ hs) (u ∷ us) x e h g =
 
 -- ==== the law
 
-some_first : {X : Type 0} (p : X → Bool) (xs : List X) → list_any p xs ≡ is_some (first_of p xs)
+pub some_first : {X : Type 0} (p : X → Bool) (xs : List X) → list_any p xs ≡ is_some (first_of p xs)
 some_first p [] = refl
 some_first p (x ∷ xs) =
     ⊎_elim

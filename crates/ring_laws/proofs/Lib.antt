@@ -91,6 +91,7 @@ pub mod AnyFaults
 pub mod AnyJobs
 pub mod AnyHeads
 pub mod AnyAnswers
+pub mod AnyCounts
 pub mod AnyLogs
 pub mod AnyRing
 pub mod AnyRows

@@ -1,5 +1,6 @@
 -- What the user side keeps over any bytes that the target left, and which bytes of the region it changes.
-use Rattle.std.specs.Prelude.{◌≡◌, ◌≢◌, ◌⊎◌, ℕ, ◌+◌, ◌-◌, ◌%◌, ◌≤◌, ◌<◌, List, length, slice_get, Option, Some}
+use Rattle.std.specs.Prelude.{◌≡◌, ◌≢◌, ◌⊎◌, ℕ, ◌+◌, ◌-◌, ◌%◌, ◌≤◌, ◌<◌, List, drop, length, slice_get, Option, Some}
+use Rattle.std.specs.List.{count_by, sum_by}
 use Rattle.tcmu_model.specs.Layout.{ring_start, data_start, tail_place}
 use Rattle.tcmu_model.specs.MailboxReading.{IsRingSize}
 use Rattle.tcmu_model.specs.EntryReading.{op_at}
@@ -7,6 +8,7 @@ use Rattle.tcmu_model.specs.Regions.{RegionState}
 use Rattle.tcmu_model.specs.Sound.{Every}
 use Rattle.tcmu_model.specs.Sides.{UserState}
 use Rattle.ring_laws.specs.RingKept.{IsPlace}
+use Rattle.tcmu_model.specs.UserSteps.{is_cmd}
 use Rattle.tcmu_model.specs.UserNext.{NextAnswer, Job, Note, Nothing, BadMailbox, BadEntry, region_lent}
 
 -- ==== the user side's own records
@@ -18,6 +20,24 @@ pub record UserSound (u : UserState) : Type 0 where
   pub items : Every (λ x. x.len % 8 ≡ 0) u.items
   -- a response fits at each kept offset
   pub offsets : Every (λ at. at + 112 ≤ u.ring) u.offsets
+
+-- the user side's counts and its records are of the same entries
+pub record UserCounts (u : UserState) : Type 0 where
+  -- the next entry begins where the items that were passed end
+  pub reach : u.place ≡ (u.tail + sum_by (λ x. x.len) u.items) % u.ring
+  -- each command that was passed has its entry, used for an answer or kept
+  pub entries : u.placed + length u.offsets ≡ u.dispatched
+  -- each job has an entry that is kept
+  pub owed : length u.jobs ≤ length u.offsets
+  pub commands : u.published + count_by is_cmd u.items ≡ u.dispatched
+  -- no command's entry is published that has no answer
+  pub behind : u.published ≤ u.placed
+
+-- as many entries, the first that were kept, are used as jobs have their answers in them
+pub record UsesEntries (u after : UserState) (k : ℕ) : Type 0 where
+  pub offsets : after.offsets ≡ drop k u.offsets
+  pub placed : after.placed ≡ u.placed + k
+  pub jobs : length after.jobs + k ≡ length u.jobs
 
 -- a region of the ring size that the user side read when it was attached
 abbrev pub HasRing : RegionState → UserState → Type 0

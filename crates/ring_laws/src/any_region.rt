@@ -1,5 +1,6 @@
 //! What the user side keeps, and what it changes of the region, over any bytes that the target left there.
-ghost use Rattle.std.specs.Prelude.{◌≡◌, ◌*◌, ℕ, length, true, Err, Ok};
+ghost use Rattle.std.specs.Prelude.{◌≡◌, ◌*◌, ◌+◌, ℕ, length, true, Err, Ok};
+ghost use Rattle.std.specs.List.{count_by, list_any};
 ghost use Rattle.tcmu_model.specs.declared.entry.EntryFault.{EntryFault};
 ghost use Rattle.tcmu_model.specs.declared.mailbox.Mailbox.{Mailbox};
 ghost use Rattle.tcmu_model.specs.declared.mailbox.MailboxFault.{MailboxFault};
@@ -7,10 +8,10 @@ ghost use Rattle.tcmu_model.specs.EntryReading.{entry_read};
 ghost use Rattle.tcmu_model.specs.UserNext.{BadEntry, BadMailbox, Job, Nothing, nexted};
 ghost use Rattle.tcmu_model.specs.Regions.{RegionState, size_of};
 ghost use Rattle.tcmu_model.specs.Sides.{JobState, Parked, UserState};
-ghost use Rattle.tcmu_model.specs.UserSteps.{lie_in_area, region_published, region_reattached, user_abandoned, user_attached, user_mailbox, user_published, user_responded};
+ghost use Rattle.tcmu_model.specs.UserSteps.{is_open_job, is_unanswered, lie_in_area, region_published, region_reattached, user_abandoned, user_attached, user_mailbox, user_published, user_responded};
 ghost use Rattle.ring_laws.specs.CalledOn.{SameSizes};
 ghost use Rattle.ring_laws.specs.Sizes.{IsSized};
-ghost use Rattle.ring_laws.specs.UserKept.{HasPages, HasRing, IsFault, OnlyAnswers, OnlySetsBits, OnlyTail, UserSound, blocks_behind};
+ghost use Rattle.ring_laws.specs.UserKept.{HasPages, HasRing, IsFault, OnlyAnswers, OnlySetsBits, OnlyTail, UserCounts, UserSound, UsesEntries, blocks_behind};
 
 /// A user side that is attached, over any bytes, is sound, and the region has the ring size that it read, and blocks of the pages that it
 /// keeps.
@@ -18,6 +19,7 @@ pub fn attach_law()
     ensures sound { (r : RegionState) (u : UserState) → user_attached r ≡ Ok u → UserSound u }
     ensures ring { (r : RegionState) (u : UserState) → user_attached r ≡ Ok u → HasRing r u }
     ensures pages { (r : RegionState) (u : UserState) → user_attached r ≡ Ok u → HasPages r u }
+    ensures counts { (r : RegionState) (u : UserState) → user_attached r ≡ Ok u → UserCounts u }
 {}
 
 /// A next keeps the user side sound, on a region of any bytes that has its ring's size, and leaves the sizes of all parts of the region.
@@ -30,6 +32,7 @@ pub fn next_law()
     ensures sizes { (r : RegionState) (u : UserState) → UserSound u → HasRing r u → SameSizes r (nexted r u).region }
     ensures bits { (r : RegionState) (u : UserState) → UserSound u → HasRing r u → OnlySetsBits r.front (nexted r u).region.front }
     ensures blocks { (r : RegionState) (u : UserState) → UserSound u → HasRing r u → (nexted r u).region.blocks ≡ blocks_behind r (nexted r u).answer }
+    ensures counts { (r : RegionState) (u : UserState) → UserCounts u → UserCounts (nexted r u).user }
     ensures nothing { (r : RegionState) (u : UserState) (m : Mailbox) → UserSound u → HasRing r u → user_mailbox r ≡ Ok m → (nexted r u).answer ≡ Nothing → (nexted r u).user.place ≡ m.head }
     ensures inside { (r : RegionState) (u : UserState) (job : JobState) → IsSized r → (nexted r u).answer ≡ Job job → lie_in_area r job.iovs ≡ true }
     ensures faults { (r : RegionState) (u : UserState) → IsFault (nexted r u).answer → (nexted r u).user ≡ u }
@@ -39,17 +42,24 @@ pub fn next_law()
         entry_read (nexted r u).region.front (size_of r * length r.blocks) m at ≡ Err fault }
 {}
 
-/// So does a respond. Before the data area it changes nothing but the id and bytes 7 to 111 of entries at offsets that were kept.
+/// So does a respond. Before the data area it changes nothing but the id and bytes 7 to 111 of entries at offsets that were kept. Where a
+/// job of that id was given and has no reply, one such job less is without it, and as many entries are used, from the first that was kept
+/// on, as jobs leave the user side.
 pub fn any_respond_law()
     ensures sound { (r : RegionState) (u : UserState) (p : Parked) → UserSound u → HasRing r u → UserSound (user_responded r u p).user }
     ensures ring { (r : RegionState) (u : UserState) (p : Parked) → UserSound u → HasRing r u → HasRing (user_responded r u p).region (user_responded r u p).user }
     ensures sizes { (r : RegionState) (u : UserState) (p : Parked) → UserSound u → HasRing r u → SameSizes r (user_responded r u p).region }
     ensures only { (r : RegionState) (u : UserState) (p : Parked) → UserSound u → HasRing r u → OnlyAnswers u.offsets r.front (user_responded r u p).region.front }
+    ensures counts { (r : RegionState) (u : UserState) (p : Parked) → UserCounts u → list_any (is_open_job p.job.id) u.jobs ≡ true → UserCounts (user_responded r u p).user }
+    ensures once { (r : RegionState) (u : UserState) (p : Parked) → UserCounts u → list_any (is_open_job p.job.id) u.jobs ≡ true →
+        count_by is_unanswered (user_responded r u p).user.jobs + 1 ≡ count_by is_unanswered u.jobs }
+    ensures uses { (r : RegionState) (u : UserState) (p : Parked) → UserCounts u → list_any (is_open_job p.job.id) u.jobs ≡ true → (k : ℕ) × UsesEntries u (user_responded r u p).user k }
 {}
 
 /// So does a publish, which changes just the mailbox's tail.
 pub fn any_publish_law()
     ensures sound { (u : UserState) → UserSound u → UserSound (user_published u) }
+    ensures counts { (u : UserState) → UserCounts u → UserCounts (user_published u) }
     ensures sizes { (r : RegionState) (u : UserState) → HasRing r u → SameSizes r (region_published r u) }
     ensures only { (r : RegionState) (u : UserState) → HasRing r u → OnlyTail r.front (region_published r u).front }
     ensures blocks { (r : RegionState) (u : UserState) → (region_published r u).blocks ≡ r.blocks }
@@ -58,6 +68,7 @@ pub fn any_publish_law()
 /// And so do the giving up of jobs and a new attach, which change nothing before the data area.
 pub fn reattach_law()
     ensures sound { (u : UserState) → UserSound u → UserSound (user_abandoned u) }
+    ensures counts { (u : UserState) → UserCounts u → UserCounts (user_abandoned u) }
     ensures sizes { (r : RegionState) (u : UserState) → SameSizes r (region_reattached r u) }
     ensures front { (r : RegionState) (u : UserState) → (region_reattached r u).front ≡ r.front }
 {}

@@ -1,5 +1,6 @@
 use Rattle.ring_laws.proofs.AnyAnswers.{publish_sound, publish_sizes, publish_only, publish_blocks}
+use Rattle.ring_laws.proofs.AnyCounts.{publish_counts}
 use Rattle.ring_laws.proofs.any_region.any_publish_law.Goals as goal
 
 pub returns : goal.returns
-returns c = record { sound = publish_sound; sizes = publish_sizes; only = publish_only; blocks = publish_blocks }
+returns c = record { sound = publish_sound; counts = publish_counts; sizes = publish_sizes; only = publish_only; blocks = publish_blocks }
