@@ -92,6 +92,7 @@ pub mod AnyJobs
 pub mod AnyHeads
 pub mod AnyAnswers
 pub mod AnyCounts
+pub mod AnyWhole
 pub mod AnyLogs
 pub mod AnyRing
 pub mod AnyRows

@@ -4,9 +4,10 @@ use Rattle.std.specs.List.{count_by, sum_by}
 use Rattle.tcmu_model.specs.Layout.{ring_start, data_start, tail_place}
 use Rattle.tcmu_model.specs.MailboxReading.{IsRingSize}
 use Rattle.tcmu_model.specs.EntryReading.{op_at}
-use Rattle.tcmu_model.specs.Regions.{RegionState}
+use Rattle.tcmu_model.specs.Lengths.{block_size}
+use Rattle.tcmu_model.specs.Regions.{HaveSize, RegionState, numbers_of}
 use Rattle.tcmu_model.specs.Sound.{Every}
-use Rattle.tcmu_model.specs.Sides.{UserState}
+use Rattle.tcmu_model.specs.Sides.{JobState, Moved, Parked, UserState}
 use Rattle.ring_laws.specs.RingKept.{IsPlace}
 use Rattle.tcmu_model.specs.UserSteps.{is_cmd}
 use Rattle.tcmu_model.specs.UserNext.{NextAnswer, Job, Note, Nothing, BadMailbox, BadEntry, region_lent}
@@ -46,6 +47,18 @@ HasRing r u = length r.front ≡ data_start u.ring
 -- a region whose blocks have as many pages as the user side read when it was attached
 abbrev pub HasPages : RegionState → UserState → Type 0
 HasPages r u = r.pages ≡ u.pages
+
+-- ==== jobs
+
+-- the blocks that a job has are as many as its iovecs name, each of a block's size
+abbrev pub IsWholeJob : UserState → JobState → Type 0
+IsWholeJob u job =
+    (parts : List (List ℕ)) → job.carried ≡ Moved parts →
+    HaveSize (block_size u.pages) parts × (length parts ≡ length (numbers_of (data_start u.ring) (block_size u.pages) job.iovs))
+
+-- so are those of each job that has its reply
+abbrev pub AreWholeJobs : UserState → Type 0
+AreWholeJobs u = Every (λ g. (p : Parked) → g.parked ≡ Some p → IsWholeJob u p.job) u.jobs
 
 -- ==== a fault
 

@@ -11,7 +11,7 @@ ghost use Rattle.tcmu_model.specs.Sides.{JobState, Parked, UserState};
 ghost use Rattle.tcmu_model.specs.UserSteps.{is_open_job, is_unanswered, lie_in_area, region_published, region_reattached, user_abandoned, user_attached, user_mailbox, user_published, user_responded};
 ghost use Rattle.ring_laws.specs.CalledOn.{SameSizes};
 ghost use Rattle.ring_laws.specs.Sizes.{IsSized};
-ghost use Rattle.ring_laws.specs.UserKept.{HasPages, HasRing, IsFault, OnlyAnswers, OnlySetsBits, OnlyTail, UserCounts, UserSound, UsesEntries, blocks_behind};
+ghost use Rattle.ring_laws.specs.UserKept.{AreWholeJobs, HasPages, HasRing, IsFault, IsWholeJob, OnlyAnswers, OnlySetsBits, OnlyTail, UserCounts, UserSound, UsesEntries, blocks_behind};
 
 /// A user side that is attached, over any bytes, is sound, and the region has the ring size that it read, and blocks of the pages that it
 /// keeps.
@@ -33,6 +33,9 @@ pub fn next_law()
     ensures bits { (r : RegionState) (u : UserState) → UserSound u → HasRing r u → OnlySetsBits r.front (nexted r u).region.front }
     ensures blocks { (r : RegionState) (u : UserState) → UserSound u → HasRing r u → (nexted r u).region.blocks ≡ blocks_behind r (nexted r u).answer }
     ensures counts { (r : RegionState) (u : UserState) → UserCounts u → UserCounts (nexted r u).user }
+    ensures whole { (r : RegionState) (u : UserState) (job : JobState) → UserSound u → HasRing r u → HasPages r u → IsSized r → AreWholeJobs u →
+        (nexted r u).answer ≡ Job job → IsWholeJob (nexted r u).user job }
+    ensures jobs { (r : RegionState) (u : UserState) → UserSound u → HasRing r u → HasPages r u → IsSized r → AreWholeJobs u → AreWholeJobs (nexted r u).user }
     ensures nothing { (r : RegionState) (u : UserState) (m : Mailbox) → UserSound u → HasRing r u → user_mailbox r ≡ Ok m → (nexted r u).answer ≡ Nothing → (nexted r u).user.place ≡ m.head }
     ensures inside { (r : RegionState) (u : UserState) (job : JobState) → IsSized r → (nexted r u).answer ≡ Job job → lie_in_area r job.iovs ≡ true }
     ensures faults { (r : RegionState) (u : UserState) → IsFault (nexted r u).answer → (nexted r u).user ≡ u }

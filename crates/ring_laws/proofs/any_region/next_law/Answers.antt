@@ -3,6 +3,7 @@ use Rattle.ring_laws.proofs.AnyFaults.{next_faults, next_mailbox, next_entry}
 use Rattle.ring_laws.proofs.AnyJobs.{next_inside}
 use Rattle.ring_laws.proofs.AnyHeads.{next_nothing}
 use Rattle.ring_laws.proofs.AnyCounts.{next_counts}
+use Rattle.ring_laws.proofs.AnyWhole.{next_job, next_jobs}
 use Rattle.ring_laws.proofs.any_region.next_law.Goals as goal
 
 pub returns : goal.returns
@@ -14,6 +15,8 @@ returns c =
       bits = λ r u h e. (next_keeps r u h e).bits;
       blocks = λ r u h e. (next_keeps r u h e).blocks;
       counts = next_counts;
+      whole = next_job;
+      jobs = next_jobs;
       nothing = next_nothing;
       inside = next_inside;
       faults = next_faults;
