@@ -1,31 +1,26 @@
 -- The user side's counts over any bytes: they and its records are of the same entries.
-use Rattle.std.proofs.Common.{◌≡◌, ◌≢◌, ℕ, ◌+◌, ◌-◌, ◌*◌, ◌%◌, ◌<◌, ◌≤◌, ◌==◌, ◌&&◌, not, Bool, true, false, cond, eqb, List, [], ◌∷◌, ◌++◌, length, take, drop, suc, zero, Option, Some, None, Result, Ok, Err, refl, sym, ap, ◌∙◌, arith, subst, ⊎_elim, length-append, length-drop}
+use Rattle.std.proofs.Common.{◌≡◌, ◌≢◌, ℕ, ◌+◌, ◌-◌, ◌%◌, ◌<◌, ◌≤◌, ◌==◌, not, Bool, true, false, cond, List, [], ◌∷◌, ◌++◌, length, take, drop, suc, Option, Some, None, Result, Ok, Err, refl, sym, ap, ◌∙◌, arith, subst, ⊎_elim, length-append, length-drop}
 use Rattle.std.specs.List.{count_by, sum_by, list_any}
 use Rattle.std.specs.Option.{is_some}
 use Rattle.std.proofs.Math.Nat.{mod-add-mod, mod-eq_of_lt}
-use Rattle.std.proofs.lemmas.Bool.{cases_Bool, and_parts, eqb-true, eqb-false, false≢true}
+use Rattle.std.proofs.lemmas.Bool.{cases_Bool, and_parts, eqb-false, false≢true}
 use Rattle.std.proofs.lemmas.List.Sums.{sum_by-cons, sum_by-append, sum_by-take-drop}
 use Rattle.tcmu_types.specs.declared.dump.ItemKind.{ItemKind}
 use Rattle.tcmu_types.specs.declared.dump.ItemKind.TheVariants as kind
 use Rattle.tcmu_model.specs.declared.mailbox.Mailbox.{Mailbox}
 use Rattle.tcmu_model.specs.declared.mailbox.MailboxFault.{MailboxFault}
-use Rattle.tcmu_model.specs.declared.entry.EntryRef.{EntryRef}
-use Rattle.tcmu_model.specs.declared.entry.EntryRef.TheVariants as entry
-use Rattle.tcmu_model.specs.declared.entry.EntryFault.{EntryFault}
-use Rattle.tcmu_model.specs.Layout.{ring_start}
 use Rattle.tcmu_model.specs.Lists.{first_of, without_first, with_first}
-use Rattle.tcmu_model.specs.EntryReading.{entry_read}
-use Rattle.tcmu_model.specs.Regions.{RegionState, size_of}
+use Rattle.tcmu_model.specs.Regions.{RegionState}
 use Rattle.tcmu_model.specs.Sides.{GivenJob, Parked, Recorded, UserState}
 use Rattle.tcmu_model.specs.UserSteps.{Placing, is_cmd, is_open_job, is_unanswered, movable, moving, moving_items, placed_at, placed_front, placed_one, placing_by, user_abandoned, user_attached, user_mailbox, user_of, user_published, user_responded, attached_to, with_jobs, with_parked}
-use Rattle.tcmu_model.specs.UserNext.{BadEntry, BadMailbox, Nexted, Nothing, iovs_in, tmr_ids_in, with_passed, with_unknown, with_job, command_next, note_next, next_within, most_entries, nexted}
+use Rattle.tcmu_model.specs.UserNext.{with_passed, with_job, nexted}
 use Rattle.tcmu_model.proofs.Counts.{sum-with_first_less, sum-without_first}
 use Rattle.tcmu_model.proofs.Firsts.{length-with_first}
-use Rattle.ring_laws.specs.UserKept.{UserSound, UserCounts, UsesEntries}
+use Rattle.ring_laws.specs.UserKept.{UserCounts, UsesEntries}
 use Rattle.ring_laws.proofs.Found.{first-passes}
 use Rattle.ring_laws.proofs.HandTells.{some_first}
 use Rattle.ring_laws.proofs.AnyAttached.{attached_sound}
-use Rattle.ring_laws.proofs.AnyFaults.{by_mailbox, next_mailbox}
+use Rattle.ring_laws.proofs.AnyUsers.{next_user}
 use Rattle.ring_laws.proofs.AnyRows.{commands, commands-append, commands-cons, one_less}
 
 -- ==== entries that are passed
@@ -61,45 +56,10 @@ job_counts u len id h =
       behind = h.behind;
     }
 
-within_counts : (n : ℕ) (m : Mailbox) (before : UserState) (r : RegionState) (u : UserState) → UserCounts before → UserCounts u → UserCounts (next_within n m before r u).user
-within_counts zero m before r u old h = h
-within_counts (suc n) m before r u old h = by_head (u.place == m.head) refl (λ k v. within_counts n m before k v old)
-  where
-    Counted : Nexted → Type 0
-    Counted k = UserCounts k.user
-
-    GoesOn : Type 0
-    GoesOn = (k : RegionState) (v : UserState) → UserCounts v → UserCounts (next_within n m before k v).user
-
-    by_entry : (o : Result EntryRef EntryFault) → entry_read r.front (size_of r * length r.blocks) m u.place ≡ o → (u.place == m.head) ≡ false → GoesOn → Counted (next_within (suc n) m before r u)
-    by_entry (Err fault) e b rest =
-        let q : next_within (suc n) m before r u ≡ record { answer = BadEntry u.place fault; region = r; user = before } = rw (b, e) refl in
-        subst Counted (sym q) old
-    by_entry (Ok (entry.Pad len)) e b rest =
-        let q : next_within (suc n) m before r u ≡ next_within n m before r (with_passed u kind.Pad len) = rw (b, e) refl in
-        subst Counted (sym q) (rest r (with_passed u kind.Pad len) (passed_counts u kind.Pad len refl h))
-    by_entry (Ok (entry.Unknown op len)) e b rest =
-        let q : next_within (suc n) m before r u ≡ next_within n m before (with_unknown r u.place) (with_passed u kind.Pad len) = rw (b, e) refl in
-        subst Counted (sym q) (rest (with_unknown r u.place) (with_passed u kind.Pad len) (passed_counts u kind.Pad len refl h))
-    by_entry (Ok (entry.Cmd len id count cdb)) e b rest =
-        let q : next_within (suc n) m before r u ≡ command_next r u len id (iovs_in r.front (ring_start + u.place) 0 count) cdb = rw (b, e) refl in
-        subst Counted (sym q) (job_counts u len id h)
-    by_entry (Ok (entry.Tmr len type_ count)) e b rest =
-        let q : next_within (suc n) m before r u ≡ note_next r u len type_ (tmr_ids_in r.front (ring_start + u.place) 0 count) = rw (b, e) refl in
-        subst Counted (sym q) (passed_counts u kind.Tmr len refl h)
-
-    by_head : (b : Bool) → (u.place == m.head) ≡ b → GoesOn → Counted (next_within (suc n) m before r u)
-    by_head true b rest =
-        let q : next_within (suc n) m before r u ≡ record { answer = Nothing; region = r; user = u } = rw b refl in
-        subst Counted (sym q) h
-    by_head false b rest = by_entry (entry_read r.front (size_of r * length r.blocks) m u.place) refl b rest
-
 pub next_counts : (r : RegionState) (u : UserState) → UserCounts u → UserCounts (nexted r u).user
-next_counts r u h = go (user_mailbox r) refl
-  where
-    go : (o : Result Mailbox MailboxFault) → user_mailbox r ≡ o → UserCounts (nexted r u).user
-    go (Err fault) e = subst (λ (k : Nexted). UserCounts k.user) (sym (next_mailbox r u fault e)) h
-    go (Ok m) e = subst (λ (k : Nexted). UserCounts k.user) (sym (by_mailbox r u m e)) (within_counts (most_entries u.ring) m u r u h h)
+next_counts r u =
+    next_user UserCounts r u
+    (record { pad = λ v len. passed_counts v kind.Pad len refl; note = λ v len. passed_counts v kind.Tmr len refl; job = λ v len id. job_counts v len id })
 
 -- ==== an attach, and jobs that are given up
 

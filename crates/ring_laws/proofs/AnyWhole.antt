@@ -1,8 +1,8 @@
 -- Jobs over any bytes: their blocks are as many as their iovecs name and of a block's size, so all blocks keep their size.
-use Rattle.std.proofs.Common.{◌≡◌, ◌⊎◌, ℕ, ◌+◌, ◌*◌, ◌%◌, ◌<◌, ◌==◌, ◌&&◌, Bool, true, false, cond, eqb, List, [], ◌∷◌, ◌++◌, length, set, slice_get, slice_index, suc, zero, Option, Some, None, Result, Ok, Err, refl, sym, ap, ◌∙◌, arith, subst, ⊎_elim}
+use Rattle.std.proofs.Common.{◌≡◌, ℕ, ◌+◌, ◌*◌, ◌%◌, ◌<◌, ◌==◌, Bool, true, false, cond, eqb, List, [], ◌∷◌, length, set, slice_get, slice_index, suc, zero, Option, Some, None, Result, Ok, Err, refl, sym, ap, ◌∙◌, arith, subst}
 use Rattle.std.specs.Prelude.{unwrap_or}
 use Rattle.std.proofs.Math.Nat.{mod-lt}
-use Rattle.std.proofs.lemmas.Bool.{cases_Bool, and_parts, false≢true}
+use Rattle.std.proofs.lemmas.Bool.{and_parts, false≢true}
 use Rattle.tcmu_types.specs.declared.dump.ItemKind.TheVariants as kind
 use Rattle.tcmu_types.specs.declared.iovec.Iov.{Iov}
 use Rattle.tcmu_model.specs.declared.mailbox.Mailbox.{Mailbox}
@@ -10,22 +10,24 @@ use Rattle.tcmu_model.specs.declared.mailbox.MailboxFault.{MailboxFault}
 use Rattle.tcmu_model.specs.declared.entry.EntryRef.{EntryRef}
 use Rattle.tcmu_model.specs.declared.entry.EntryRef.TheVariants as entry
 use Rattle.tcmu_model.specs.declared.entry.EntryFault.{EntryFault}
-use Rattle.tcmu_model.specs.Layout.{data_start, ring_start}
+use Rattle.tcmu_model.specs.Layout.{data_start, le, put, ring_start, tail_place}
 use Rattle.tcmu_model.specs.Lengths.{block_size}
 use Rattle.tcmu_model.specs.Lists.{with_first, without_first}
 use Rattle.tcmu_model.specs.EntryReading.{entry_read}
 use Rattle.tcmu_model.specs.Regions.{AreSized, HaveSize, RegionState, are_whole, can_lend, can_take, home, is_home, named_by, numbers_of, parts_of, size_of, taken}
-use Rattle.tcmu_model.specs.Sides.{Carried, Copied, GivenJob, JobState, Moved, Parked, UserState}
+use Rattle.tcmu_model.specs.Sides.{Copied, GivenJob, JobState, Moved, Parked, UserState}
 use Rattle.tcmu_model.specs.Sound.{Every}
-use Rattle.tcmu_model.specs.UserSteps.{user_mailbox}
-use Rattle.tcmu_model.specs.UserNext.{NextAnswer, Job, Note, Nothing, BadMailbox, BadEntry, Nexted, carried_by, copied_data, iovs_in, job_read, tmr_ids_in, with_passed, with_unknown, with_job, command_next, note_next, next_within, most_entries, nexted}
-use Rattle.tcmu_model.proofs.Everies.{every-append}
+use Rattle.tcmu_model.specs.UserSteps.{Placing, attached_to, is_open_job, moving, or_refused, placed_at, placed_front, placed_one, placing_by, region_abandoned, region_published, region_reattached, user_attached, user_mailbox, user_of, user_published, user_responded, with_jobs, with_parked}
+use Rattle.tcmu_model.specs.UserNext.{NextAnswer, Job, Note, Nothing, BadMailbox, BadEntry, Nexted, carried_by, copied_data, iovs_in, tmr_ids_in, with_passed, with_unknown, with_job, command_next, note_next, next_within, most_entries, nexted}
+use Rattle.tcmu_model.proofs.Everies.{every-append, every-weaker, every-with_first, every-without_first}
 use Rattle.tcmu_model.proofs.Written.{length-put}
 use Rattle.ring_laws.specs.Sizes.{IsSized}
 use Rattle.ring_laws.specs.UserKept.{AreWholeJobs, HasPages, HasRing, IsWholeJob, UserSound}
 use Rattle.ring_laws.proofs.AnyFaults.{by_mailbox, next_mailbox}
-use Rattle.ring_laws.proofs.PassedEntries.{ReadFrom, read_from}
-use Rattle.ring_laws.proofs.Sized.{sized_set}
+use Rattle.ring_laws.proofs.Sized.{AllMove, HasBlocks, MovesBlocks, all_back, own_size, placed_sized, sized_set}
+use Rattle.ring_laws.proofs.AnyAnswers.{respond_keeps}
+use Rattle.ring_laws.proofs.AnyNext.{next_keeps}
+use Rattle.ring_laws.proofs.AnyUsers.{next_user}
 
 -- ==== the blocks that are lent
 
@@ -173,3 +175,100 @@ pub next_jobs : (r : RegionState) (u : UserState) → UserSound u → HasRing r 
 next_jobs r u hu front size sized jobs =
     let k : Wholes u.ring u.pages (nexted r u) = next_whole r u hu front size sized jobs in
     subst (λ z. AreWhole z (nexted r u).user.pages (nexted r u).user.jobs) (sym k.user.ring_same) (subst (λ z. AreWhole u.ring z (nexted r u).user.jobs) (sym k.user.pages_same) k.user.jobs)
+
+pub next_pages : (r : RegionState) (u : UserState) → UserSound u → HasRing r u → HasPages r u → HasPages (nexted r u).region (nexted r u).user
+next_pages r u hu front size =
+    let same : (nexted r u).user.pages ≡ u.pages = next_user (λ v. v.pages ≡ u.pages) r u (record { pad = λ v len e. e; note = λ v len e. e; job = λ v len id e. e }) refl in
+    (next_keeps r u hu front).pages ∙ size ∙ sym same
+
+-- ==== an attach
+
+pub attach_jobs : (r : RegionState) (u : UserState) → user_attached r ≡ Ok u → AreWholeJobs u
+unfolding user_attached
+attach_jobs r u h = go (user_mailbox r) h
+  where
+    same : (x y : UserState) → ◌≡◌ {A = Result UserState MailboxFault} (Ok x) (Ok y) → x ≡ y
+    same x y q = cc
+
+    go : (o : Result Mailbox MailboxFault) → attached_to r.pages o ≡ Ok u → AreWholeJobs u
+    go (Err fault) q = absurd (cc)
+    go (Ok m) q = subst AreWholeJobs (same (user_of r.pages m) u q) tt
+
+-- ==== a respond
+
+placed_jobs : (P : List GivenJob → Type 0) (k : Placing) (p : Parked) (rest : List GivenJob) (ats : List ℕ) → P k.user.jobs → P rest → P (placed_at k p rest ats).user.jobs
+placed_jobs P k p rest [] h m = h
+placed_jobs P k p rest (at ∷ ats) h m = m
+
+front_jobs : (ring pages : ℕ) (k : Placing) (gs : List GivenJob) → AreWhole ring pages k.user.jobs → AreWhole ring pages gs → AreWhole ring pages (placed_front k gs).user.jobs
+front_jobs ring pages k [] h m = h
+front_jobs ring pages k (g ∷ gs) h m =
+    by_reply g.parked (λ p. front_jobs ring pages (placed_one k p gs) gs (placed_jobs (λ xs. AreWhole ring pages xs) k p gs k.user.offsets h m.1) m.1)
+  where
+    by_reply : (o : Option Parked) → ((p : Parked) → AreWhole ring pages (placed_front (placed_one k p gs) gs).user.jobs) →
+        AreWhole ring pages (elim o as (λ x. Placing) [ None ↦ k | Some p ↦ placed_front (placed_one k p gs) gs ]).user.jobs
+    by_reply None again = h
+    by_reply (Some p) again = again p
+
+respond_whole : (r : RegionState) (u : UserState) (p : Parked) (ring pages : ℕ) → AreWhole ring pages u.jobs → IsWhole ring pages p.job → AreWhole ring pages (user_responded r u p).user.jobs
+unfolding user_responded
+respond_whole r u p ring pages all mine = by_order u.flags.ooo
+  where
+    parked : List GivenJob
+    parked = with_first (is_open_job p.job.id) (with_parked p) u.jobs
+
+    whole : AreWhole ring pages (with_first (is_open_job p.job.id) (with_parked p) u.jobs)
+    whole = every-with_first (is_open_job p.job.id) (with_parked p) (λ g. (q : Parked) → g.parked ≡ Some q → IsWhole ring pages q.job) u.jobs
+        (λ g e k q z. let same : p ≡ q = cc in subst (λ (y : Parked). IsWhole ring pages y.job) same mine) all
+
+    by_order : (b : Bool) → AreWhole ring pages (placing_by b r u p).user.jobs
+    by_order true =
+        placed_jobs (λ xs. AreWhole ring pages xs) (record { region = r; user = u }) p (without_first (is_open_job p.job.id) u.jobs) u.offsets all
+        (every-without_first (is_open_job p.job.id) (λ g. (q : Parked) → g.parked ≡ Some q → IsWhole ring pages q.job) u.jobs all)
+    by_order false = front_jobs ring pages (record { region = r; user = with_jobs u parked }) parked whole whole
+
+pub respond_jobs : (r : RegionState) (u : UserState) (p : Parked) → UserSound u → HasRing r u → AreWholeJobs u → IsWholeJob u p.job → AreWholeJobs (user_responded r u p).user
+respond_jobs r u p hu front all mine =
+    let k = respond_keeps r u p hu front in
+    subst (λ z. AreWhole z (user_responded r u p).user.pages (user_responded r u p).user.jobs) (sym k.ring_same)
+    (subst (λ z. AreWhole u.ring z (user_responded r u p).user.jobs) (sym k.pages_same) (respond_whole r u p u.ring u.pages all mine))
+
+pub respond_pages : (r : RegionState) (u : UserState) (p : Parked) → UserSound u → HasRing r u → HasPages r u → HasPages (user_responded r u p).region (user_responded r u p).user
+respond_pages r u p hu front size = let k = respond_keeps r u p hu front in k.pages ∙ size ∙ sym k.pages_same
+
+-- ==== the size of blocks
+
+blocks_here : (r : RegionState) (u : UserState) → HasPages r u → IsSized r → HasBlocks (block_size u.pages) r
+blocks_here r u size sized = (ap block_size size, subst (λ n. AreSized (block_size n) r.blocks) size sized)
+
+all_move : (u : UserState) → AreWholeJobs u → AllMove (block_size u.pages) u.jobs
+all_move u =
+    every-weaker (λ g. (p : Parked) → g.parked ≡ Some p → IsWholeJob u p.job) (λ g. (p : Parked) → g.parked ≡ Some p → MovesBlocks (block_size u.pages) p.job) u.jobs
+    (λ g f p e parts c. (f p e parts c).0)
+
+pub respond_sized : (r : RegionState) (u : UserState) (p : Parked) → HasPages r u → AreWholeJobs u → IsWholeJob u p.job → IsSized r → IsSized (user_responded r u p).region
+respond_sized r u p size all mine sized =
+    own_size (block_size u.pages) (user_responded r u p).region
+    (placed_sized (block_size u.pages) r u p (blocks_here r u size sized) (all_move u all) (λ parts c. (mine parts c).0))
+
+pub reattach_sized : (r : RegionState) (u : UserState) → HasPages r u → AreWholeJobs u → IsSized r → IsSized (region_reattached r u)
+unfolding region_reattached
+reattach_sized r u size all sized = go (user_attached r)
+  where
+    go : (o : Result UserState MailboxFault) → IsSized (or_refused r u.jobs o)
+    go (Err fault) = sized
+    go (Ok v) = own_size (block_size u.pages) (region_abandoned r u.jobs) (all_back (block_size u.pages) r u.jobs (blocks_here r u size sized) (all_move u all))
+
+-- ==== a publish
+
+pub publish_jobs : (u : UserState) → AreWholeJobs u → AreWholeJobs (user_published u)
+unfolding user_published
+publish_jobs u h = h
+
+pub publish_pages : (r : RegionState) (u : UserState) → HasPages r u → HasPages (region_published r u) (user_published u)
+unfolding region_published user_published
+publish_pages r u h = go (eqb (moving u) 0)
+  where
+    go : (b : Bool) → (cond b r (record r { front = put r.front tail_place (le 4 (user_published u).tail) })).pages ≡ u.pages
+    go true = h
+    go false = h

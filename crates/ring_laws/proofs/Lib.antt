@@ -91,6 +91,7 @@ pub mod AnyFaults
 pub mod AnyJobs
 pub mod AnyHeads
 pub mod AnyAnswers
+pub mod AnyUsers
 pub mod AnyCounts
 pub mod AnyWhole
 pub mod AnyLogs
