@@ -133,6 +133,7 @@ only_response front at id reply told fits =
 pub record Answers (r : RegionState) (u : UserState) (k : Placing) : Type 0 where
   pub user : UserSound k.user
   pub ring_same : k.user.ring ≡ u.ring
+  pub pages_same : k.user.pages ≡ u.pages
   pub front : length k.region.front ≡ length r.front
   pub pages : k.region.pages ≡ r.pages
   pub count : length k.region.blocks ≡ length r.blocks
@@ -152,6 +153,7 @@ answer_at r u k p rest (at ∷ ats) er h e =
     record {
       user = record { ring = h.user.ring; place = h.user.place; tail = h.user.tail; items = h.user.items; offsets = fit.1 };
       ring_same = h.ring_same;
+      pages_same = h.pages_same;
       front = w.long ∙ ap length o.front ∙ h.front;
       pages = o.pages ∙ h.pages;
       count = o.count ∙ h.count;
@@ -174,6 +176,7 @@ answers_none r u jobs h =
     record {
       user = record { ring = h.ring; place = h.place; tail = h.tail; items = h.items; offsets = h.offsets };
       ring_same = refl;
+      pages_same = refl;
       front = refl;
       pages = refl;
       count = refl;

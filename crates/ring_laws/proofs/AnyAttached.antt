@@ -1,11 +1,11 @@
 -- The user side as it is attached, over any bytes.
-use Rattle.std.proofs.Common.{◌≡◌, Result, Ok, Err, refl, subst}
+use Rattle.std.proofs.Common.{◌≡◌, Result, Ok, Err, refl, ap, subst}
 use Rattle.tcmu_model.specs.declared.mailbox.Mailbox.{Mailbox}
 use Rattle.tcmu_model.specs.declared.mailbox.MailboxFault.{MailboxFault}
 use Rattle.tcmu_model.specs.Regions.{RegionState}
 use Rattle.tcmu_model.specs.Sides.{UserState}
 use Rattle.tcmu_model.specs.UserSteps.{user_mailbox, user_of, attached_to, user_attached}
-use Rattle.ring_laws.specs.UserKept.{UserSound, HasRing}
+use Rattle.ring_laws.specs.UserKept.{UserSound, HasRing, HasPages}
 use Rattle.ring_laws.proofs.PassedEntries.{ReadFrom, read_from}
 
 pub attached_sound : (r : RegionState) (u : UserState) → user_attached r ≡ Ok u → UserSound u × HasRing r u
@@ -30,3 +30,14 @@ attached_sound r u h = go (user_mailbox r) refl h
           },
           f.front,
         )
+
+pub attached_pages : (r : RegionState) (u : UserState) → user_attached r ≡ Ok u → HasPages r u
+unfolding user_attached
+attached_pages r u h = go (user_mailbox r) h
+  where
+    same : (x y : UserState) → ◌≡◌ {A = Result UserState MailboxFault} (Ok x) (Ok y) → x ≡ y
+    same x y q = cc
+
+    go : (o : Result Mailbox MailboxFault) → attached_to r.pages o ≡ Ok u → HasPages r u
+    go (Err fault) q = absurd (cc)
+    go (Ok m) q = ap (λ (v : UserState). v.pages) (same (user_of r.pages m) u q)

@@ -82,7 +82,7 @@ taken_gone p low (x ∷ rows) ds high e h f =
     rw (k, z) (taken_gone p x.pending.serial rows ds high e h.1 g))
     (cases_Bool (p x))
 
-pub none_without : {X : Type 0} (p q : X → Bool) (xs : List X) → first_of q xs ≡ None → first_of q (without_first p xs) ≡ None
+none_without : {X : Type 0} (p q : X → Bool) (xs : List X) → first_of q xs ≡ None → first_of q (without_first p xs) ≡ None
 none_without p q [] h = refl
 none_without p q (x ∷ xs) h =
     ⊎_elim

@@ -1,8 +1,11 @@
 -- All that a target has over any bytes is of the commands that it accepted: its rows, those that wait, and its log.
-use Rattle.std.proofs.Common.{◌≡◌, ℕ, ◌+◌, ◌-◌, ◌<◌, ◌≤◌, Bool, true, false, not, cond, eqb, List, [], ◌∷◌, ◌++◌, length, map, slice_get, Option, Some, None, refl, sym, ap, ◌∙◌, arith, subst, append_assoc, append-nil, length-append, length-take}
+use Rattle.std.proofs.Common.{◌≡◌, ◌≢◌, ℕ, ◌+◌, ◌-◌, ◌%◌, ◌<◌, ◌≤◌, Bool, true, false, not, cond, eqb, ◌==◌, List, [], ◌∷◌, ◌++◌, length, map, slice_get, Option, Some, None, refl, sym, ap, ◌∙◌, arith, subst, append_assoc, append-nil, length-append, length-take}
 use Rattle.std.specs.List.{filter}
+use Rattle.std.specs.Option.{is_some}
+use Rattle.std.proofs.lemmas.Bool.{ne_eqb}
 use Rattle.std.proofs.lemmas.Option.{slice_get_within}
 use Rattle.tcmu_types.specs.Data.{CommandData, DoneData, SenseData, SettingsData}
+use Rattle.tcmu_types.specs.SenseBytes.{sense_in}
 use Rattle.tcmu_types.specs.declared.answer.Submit.{Submit}
 use Rattle.tcmu_types.specs.declared.answer.Submit.TheVariants as submit
 use Rattle.tcmu_types.specs.declared.answer.Enter.{Enter}
@@ -22,7 +25,7 @@ use Rattle.tcmu_model.specs.Pending.{PendingData}
 use Rattle.tcmu_model.specs.Sides.{PendingRow, Recorded, TargetState}
 use Rattle.tcmu_model.specs.Represents.{has_id}
 use Rattle.tcmu_model.specs.TargetSteps.{opening_target, blocks_held, blocks_free, blocks_wanted, row_of, closed, checked, is_due_at, expired_at, target_laid, target_submit_answer, target_submitted, enter_or_full, target_enter_answer, first_entered, target_entered, target_tmr_answer, target_noted, target_ticked, target_blocked}
-use Rattle.tcmu_model.specs.TargetCleans.{completion_read, completions_read, answered_by, response_in, one_cleaned, target_cleaned, reset_log, emptied_of, target_reset}
+use Rattle.tcmu_model.specs.TargetCleans.{payload_read, sense_read, completion_read, completions_read, answered_by, response_in, one_cleaned, target_cleaned, reset_log, emptied_of, target_reset}
 use Rattle.tcmu_model.proofs.Everies.{every-weaker, every-map, every-append, every-filter, every-first, every-without_first}
 use Rattle.ring_laws.specs.Calls.{TargetCall, Submits, Enters, Notes, Ticks, Blocks, Cleans, Resets, CallMade, Called, TargetSound, target_called, CompletesOwn, HasSerial, IsRowOf, IsDoneOf, IsOfCommands, accepted_by, accepted_at, accepted_along}
 use Rattle.tcmu_types.proofs.Places.{get_append_left}
@@ -63,7 +66,7 @@ more_delayed cs c ws h = every-weaker (λ (w : Delayed). HasSerial cs w.serial w
 more_log : (cs : List CommandData) (c : CommandData) (log : List DoneData) → Every (IsDoneOf cs) log → Every (IsDoneOf (cs ++ c ∷ [])) log
 more_log cs c log h =
     every-weaker (IsDoneOf cs) (IsDoneOf (cs ++ c ∷ [])) log
-    (λ e k. record { command = k.command; serial = more_serial cs c e.serial k.command k.serial; init = k.init; tag = k.tag; short = k.short }) h
+    (λ e k. record { command = k.command; serial = more_serial cs c e.serial k.command k.serial; init = k.init; tag = k.tag; short = k.short; sense = k.sense; bytes = k.bytes }) h
 
 -- a row that is laid is its command's
 laid_row : (cs : List CommandData) (t : TargetState) (s : ℕ) (c : CommandData) (id : ℕ) → TargetSound t → HasSerial cs s c → blocks_wanted t c ≤ blocks_free t → IsRowOf cs t.settings.pages (row_of t s c id).pending
@@ -136,14 +139,35 @@ of_blocked cs t b h = record { count = h.count; rows = h.rows; delayed = h.delay
 -- ==== completions of a command
 
 -- one without bytes, of a row
-closed_row : (cs : List CommandData) (pages status : ℕ) (sense : Option SenseData) (p : PendingData) → IsRowOf cs pages p → IsDoneOf cs (closed status sense p)
-closed_row cs pages status sense p h = record { command = h.command; serial = h.serial; init = h.init; tag = h.tag; short = omega arith }
+closed_row : (cs : List CommandData) (pages status : ℕ) (sense : Option SenseData) (p : PendingData) → is_some sense ≡ (status == 2) → IsRowOf cs pages p → IsDoneOf cs (closed status sense p)
+closed_row cs pages status sense p e h = record { command = h.command; serial = h.serial; init = h.init; tag = h.tag; short = omega arith; sense = e; bytes = λ n. refl }
 
-closed_waiting : (cs : List CommandData) (status : ℕ) (sense : Option SenseData) (s : ℕ) (c : CommandData) → HasSerial cs s c → IsDoneOf cs (closing status sense s c)
-closed_waiting cs status sense s c h = record { command = c; serial = h; init = refl; tag = refl; short = omega arith }
+closed_waiting : (cs : List CommandData) (status : ℕ) (sense : Option SenseData) (s : ℕ) (c : CommandData) → is_some sense ≡ (status == 2) → HasSerial cs s c → IsDoneOf cs (closing status sense s c)
+closed_waiting cs status sense s c e h = record { command = c; serial = h; init = refl; tag = refl; short = omega arith; sense = e; bytes = λ n. refl }
 
-own_row : (cs : List CommandData) (pages : ℕ) (r : RegionState) (p : PendingData) (e : DoneData) → IsRowOf cs pages p → CompletesOwn r p e → IsDoneOf cs e
-own_row cs pages r p e h o =
+-- what a response is read as has sense data and bytes by its status alone
+read_sense : (size : ℕ) (area : List (Option (List ℕ))) (p : PendingData) (a : Response) → is_some (completion_read size area p a).sense ≡ ((completion_read size area p a).status == 2)
+read_sense size area p a = by_unknown (eqb (a.uflags % 2) 1)
+  where
+    known : (b : Bool) → is_some (cond b (Some (sense_in a.sense)) None) ≡ b
+    known true = refl
+    known false = refl
+
+    by_unknown : (b : Bool) → let e : DoneData = cond b (checked 0x04 0x44 0x00 p) (record (closed a.status (sense_read a) p) { payload = payload_read size area p a }) in is_some e.sense ≡ (e.status == 2)
+    by_unknown true = refl
+    by_unknown false = known (a.status == 2)
+
+read_bytes : (size : ℕ) (area : List (Option (List ℕ))) (p : PendingData) (a : Response) → (completion_read size area p a).status ≢ 0 → (completion_read size area p a).payload ≡ []
+read_bytes size area p a = by_unknown (eqb (a.uflags % 2) 1)
+  where
+    by_unknown : (b : Bool) → let e : DoneData = cond b (checked 0x04 0x44 0x00 p) (record (closed a.status (sense_read a) p) { payload = payload_read size area p a }) in e.status ≢ 0 → e.payload ≡ []
+    by_unknown true n = refl
+    by_unknown false n = let z : eqb a.status 0 ≡ false = ne_eqb a.status 0 n in rw z refl
+
+read_row : (cs : List CommandData) (pages : ℕ) (r : RegionState) (p : PendingData) (a : Response) → IsRowOf cs pages p → IsDoneOf cs (completion_read (size_of r) r.blocks p a)
+read_row cs pages r p a h =
+    let e : DoneData = completion_read (size_of r) r.blocks p a in
+    let o : CompletesOwn r p e = own_read r p a in
     let xs : List ℕ = bytes_along (size_of r) r.blocks p.blocks in
     let n : ℕ = o.payload.0 in
     let few : n ≤ p.in_len = o.payload.1 in
@@ -153,6 +177,8 @@ own_row cs pages r p e h o =
       init = o.init ∙ h.init;
       tag = o.tag ∙ h.tag;
       short = omega (arith, ap length o.payload.2, length-take n xs, few, h.in_len);
+      sense = read_sense (size_of r) r.blocks p a;
+      bytes = read_bytes (size_of r) r.blocks p a;
     }
 
 of_ticked : (cs : List CommandData) (t : TargetState) (n : ℕ) → IsOfCommands cs t → IsOfCommands cs (target_ticked t n)
@@ -178,9 +204,9 @@ of_ticked cs t n h =
       delayed = every-filter (λ (w : Delayed). not (has_left now w)) (λ (w : Delayed). HasSerial cs w.serial w.command) t.delayed h.delayed;
       log = every-append (IsDoneOf cs) t.log (map due (filter (is_due_at now) t.rows) ++ map departure (filter (has_left now) t.delayed)) h.log
           (every-append (IsDoneOf cs) (map due (filter (is_due_at now) t.rows)) (map departure (filter (has_left now) t.delayed))
-          (every-map due P (IsDoneOf cs) (filter (is_due_at now) t.rows) (λ e k. closed_row cs pages 0x02 (Some (record { key = 0x0b; asc = 0x08; ascq = 0x01 })) e.pending k)
+          (every-map due P (IsDoneOf cs) (filter (is_due_at now) t.rows) (λ e k. closed_row cs pages 0x02 (Some (record { key = 0x0b; asc = 0x08; ascq = 0x01 })) e.pending refl k)
           (every-filter (is_due_at now) P t.rows h.rows))
-          (every-map departure (λ (w : Delayed). HasSerial cs w.serial w.command) (IsDoneOf cs) (filter (has_left now) t.delayed) (λ w k. closed_waiting cs 0x28 None w.serial w.command k)
+          (every-map departure (λ (w : Delayed). HasSerial cs w.serial w.command) (IsDoneOf cs) (filter (has_left now) t.delayed) (λ w k. closed_waiting cs 0x28 None w.serial w.command refl k)
           (every-filter (has_left now) (λ (w : Delayed). HasSerial cs w.serial w.command) t.delayed h.delayed)));
     }
 
@@ -198,7 +224,7 @@ of_by cs r a t x xs (Some e) h f =
       count = h.count;
       rows = every-without_first (has_id a.id) P t.rows h.rows;
       delayed = h.delayed;
-      log = every-append (IsDoneOf cs) t.log (completions_read (size_of r) r.blocks e.pending a) h.log (one e.pending.expired d (own_row cs pages r e.pending d row (own_read r e.pending a)));
+      log = every-append (IsDoneOf cs) t.log (completions_read (size_of r) r.blocks e.pending a) h.log (one e.pending.expired d (read_row cs pages r e.pending a row));
     }
   where
     one : (b : Bool) (d : DoneData) → IsDoneOf cs d → Every (IsDoneOf cs) (cond b [] (d ∷ []))
@@ -233,12 +259,12 @@ of_emptied cs t level h =
     }
   where
     reset_row : (b : Bool) (pages : ℕ) (p : PendingData) → IsRowOf cs pages p → IsDoneOf cs (cond b (closed 0x08 None p) (checked 0x04 0x44 0x00 p))
-    reset_row true pages p k = closed_row cs pages 0x08 None p k
-    reset_row false pages p k = closed_row cs pages 0x02 (Some (record { key = 0x04; asc = 0x44; ascq = 0x00 })) p k
+    reset_row true pages p k = closed_row cs pages 0x08 None p refl k
+    reset_row false pages p k = closed_row cs pages 0x02 (Some (record { key = 0x04; asc = 0x44; ascq = 0x00 })) p refl k
 
     reset_waiting : (b : Bool) (s : ℕ) (c : CommandData) → HasSerial cs s c → IsDoneOf cs (cond b (closing 0x08 None s c) (check_condition 0x04 0x44 0x00 s c))
-    reset_waiting true s c k = closed_waiting cs 0x08 None s c k
-    reset_waiting false s c k = closed_waiting cs 0x02 (Some (record { key = 0x04; asc = 0x44; ascq = 0x00 })) s c k
+    reset_waiting true s c k = closed_waiting cs 0x08 None s c refl k
+    reset_waiting false s c k = closed_waiting cs 0x02 (Some (record { key = 0x04; asc = 0x44; ascq = 0x00 })) s c refl k
 
 of_reset : (cs : List CommandData) (r : RegionState) (t : TargetState) (level : ℕ) → IsOfCommands cs t → IsOfCommands cs (target_reset r t level)
 unfolding target_reset

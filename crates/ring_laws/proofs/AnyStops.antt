@@ -1,17 +1,11 @@
 -- Where a clean stops over any bytes: at a kept id, at a tail that is no item's end, and at an id that no command has.
-use Rattle.std.proofs.Common.{◌≡◌, ℕ, Bool, true, false, cond, List, ◌-◌, length, Option, Some, None, refl, sym, ap, ◌∙◌, eqb}
-use Rattle.std.proofs.lemmas.Bool.{eq-eqb}
-use Rattle.tcmu_types.specs.declared.dump.ItemKind.{ItemKind}
-use Rattle.tcmu_types.specs.declared.dump.ItemKind.TheVariants as kind
-use Rattle.tcmu_model.specs.declared.entry.Response.{Response}
-use Rattle.tcmu_model.specs.Lists.{first_of}
+use Rattle.std.proofs.Common.{◌≡◌, ℕ, Bool, true, false, cond, ◌||◌, ◌-◌, length, Option, Some, None, refl, sym, ap, ◌∙◌, eqb, ◌==◌, subst, ⊎_elim}
+use Rattle.std.proofs.lemmas.Bool.{cases_Bool, eq-eqb, eqb-true, or_left, or_right}
 use Rattle.tcmu_model.specs.Regions.{RegionState}
-use Rattle.tcmu_model.specs.Sides.{PendingRow, Recorded, TargetState}
-use Rattle.tcmu_model.specs.Represents.{has_id}
-use Rattle.tcmu_model.specs.TargetCleans.{CleanAnswer, Logged, BadTail, Broken, tail_read, tail_fits, answered_by, response_in, one_cleaned, all_cleaned, logged_or_broken, target_cleaned, target_clean_answer, region_cleaned, target_reset}
+use Rattle.tcmu_model.specs.Sides.{TargetState}
+use Rattle.tcmu_model.specs.TargetCleans.{CleanAnswer, Logged, BadTail, Broken, tail_read, ends_at, tail_fits, all_cleaned, logged_or_broken, target_cleaned, target_clean_answer, region_cleaned, target_reset}
 use Rattle.ring_laws.specs.Calls.{Unchanged, StopsAt, Emptied}
-use Rattle.ring_laws.proofs.AnyCalls.{clean_keeps}
-use Rattle.ring_laws.proofs.AnyCleans.{none_without}
+use Rattle.ring_laws.proofs.AnyCleared.{Fits, all_reach, all_stop}
 
 unchanged : (r : RegionState) (t : TargetState) → target_cleaned r t ≡ t → Unchanged r t
 unfolding region_cleaned
@@ -55,40 +49,64 @@ bad_tail r t n h = go t.broken (tail_fits r t) (by_cleaned r t) (sym (by_answer 
     go None false c a = unchanged r t c
     go None true c a = absurd (never (target_cleaned r t).broken (length (target_cleaned r t).log - length t.log) a)
 
--- ==== an id that no command has
+-- ==== up to the tail, or to an id that no command has
 
-abbrev NoneHas : TargetState → Type 0
-NoneHas k = (id : ℕ) → k.broken ≡ Some id → first_of (has_id id) k.rows ≡ None
-
-none_by : (r : RegionState) (a : Response) (k : TargetState) (x : Recorded) (xs : List Recorded) (o : Option PendingRow) → NoneHas k → first_of (has_id a.id) k.rows ≡ o → NoneHas (answered_by r a k x xs o)
-none_by r a k x xs None h f id e = let q : a.id ≡ id = cc in ap (λ n. first_of (has_id n) k.rows) (sym q) ∙ f
-none_by r a k x xs (Some row) h f id e = none_without (has_id a.id) (has_id id) k.rows (h id e)
-
-none_one : (r : RegionState) (k : TargetState) (x : Recorded) (xs : List Recorded) (c : ItemKind) → NoneHas k → NoneHas (one_cleaned r k x xs c)
-none_one r k x xs kind.Pad h = h
-none_one r k x xs kind.Tmr h = h
-none_one r k x xs kind.Cmd h = let a : Response = response_in r k in none_by r a k x xs (first_of (has_id a.id) k.rows) h refl
-
-pub stops : (r : RegionState) (t : TargetState) (id : ℕ) → t.broken ≡ None → target_clean_answer r t ≡ Broken id → StopsAt id (target_cleaned r t)
-unfolding answer_from
-stops r t id none h =
-    let kept : (target_cleaned r t).broken ≡ Some id = go (tail_fits r t) (sym (by_answer r t ∙ ap (λ o. answer_from r t o (tail_fits r t)) none) ∙ h) in
-    let start : NoneHas t = λ i e. absurd (neither i t.broken none e) in
-    record { kept = kept; none = clean_keeps NoneHas r t (λ k x ys c. none_one r k x ys x.kind c) start id kept }
+fits_read : (r : RegionState) (t : TargetState) → tail_fits r t ≡ true → Fits (tail_read r) t t.items
+fits_read r t h = flip (tail_read r) t.cleaned (ends_at t.settings.ring t.cleaned t.items (tail_read r)) h
   where
-    neither : (i : ℕ) (o : Option ℕ) → o ≡ None → o ≡ Some i → ⊥
-    neither i o n e = cc
+    flip : (a b : ℕ) (c : Bool) → ((a == b) || c) ≡ true → ((b == a) || c) ≡ true
+    flip a b c k =
+        ⊎_elim
+        (λ (e : (a == b) ≡ true). or_left (b == a) c (eq-eqb b a (sym (eqb-true a b e))))
+        (λ (e : (a == b) ≡ false). let m : c ≡ true = rw e at k in or_right (b == a) c m)
+        (cases_Bool (a == b))
 
+pub to_tail : (r : RegionState) (t : TargetState) (n : ℕ) → target_clean_answer r t ≡ Logged n → (target_cleaned r t).cleaned ≡ tail_read r
+unfolding cleaned_from answer_from
+to_tail r t n h = go t.broken (tail_fits r t) refl (by_cleaned r t) (sym (by_answer r t) ∙ h)
+  where
+    logged : (o : Option ℕ) (m : ℕ) → elim o as (λ x. CleanAnswer) [ Some id ↦ Broken id | None ↦ Logged m ] ≡ Logged n → o ≡ None
+    logged None m k = refl
+    logged (Some id) m k = absurd (cc)
+
+    go : (o : Option ℕ) (b : Bool) → tail_fits r t ≡ b → target_cleaned r t ≡ cleaned_from r t o b → answer_from r t o b ≡ Logged n → (target_cleaned r t).cleaned ≡ tail_read r
+    go (Some id) b f c a = absurd (cc)
+    go None false f c a = absurd (cc)
+    go None true f c a =
+        let none : (target_cleaned r t).broken ≡ None = logged (target_cleaned r t).broken (length (target_cleaned r t).log - length t.log) a in
+        ap (λ (k : TargetState). k.cleaned) c ∙ all_reach r (tail_read r) t t.items (fits_read r t f) (sym (ap (λ (k : TargetState). k.broken) c) ∙ none)
+
+pub stops : (r : RegionState) (t : TargetState) (id : ℕ) → t.broken ≡ None → target_clean_answer r t ≡ Broken id → StopsAt r id (target_cleaned r t)
+unfolding cleaned_from answer_from
+stops r t id none h =
+    go (tail_fits r t) (by_cleaned r t ∙ ap (λ o. cleaned_from r t o (tail_fits r t)) none) (sym (by_answer r t ∙ ap (λ o. answer_from r t o (tail_fits r t)) none) ∙ h)
+  where
     told : (o : Option ℕ) (m : ℕ) → elim o as (λ x. CleanAnswer) [ Some i ↦ Broken i | None ↦ Logged m ] ≡ Broken id → o ≡ Some id
     told None m k = absurd (cc)
     told (Some i) m k = cc
 
-    go : (b : Bool) → answer_from r t None b ≡ Broken id → (target_cleaned r t).broken ≡ Some id
-    go true a = told (target_cleaned r t).broken (length (target_cleaned r t).log - length t.log) a
-    go false a = absurd (cc)
+    go : (b : Bool) → target_cleaned r t ≡ cleaned_from r t None b → answer_from r t None b ≡ Broken id → StopsAt r id (target_cleaned r t)
+    go true c a =
+        let kept : (target_cleaned r t).broken ≡ Some id = told (target_cleaned r t).broken (length (target_cleaned r t).log - length t.log) a in
+        subst (StopsAt r id) (sym c) (all_stop r (tail_read r) t t.items id refl none (sym (ap (λ (k : TargetState). k.broken) c) ∙ kept))
+    go false c a = absurd (cc)
 
 -- ==== a reset
 
 pub reset_empties : (r : RegionState) (t : TargetState) (level : ℕ) → Emptied (target_cleaned r t) level (target_reset r t level)
 unfolding target_reset
-reset_empties r t level = record { rows = refl; delayed = refl; items = refl; broken = refl; accepted = refl; log = refl }
+reset_empties r t level =
+    record {
+      rows = refl;
+      delayed = refl;
+      items = refl;
+      cleaned = refl;
+      laid = refl;
+      cleared = refl;
+      broken = refl;
+      settings = refl;
+      now = refl;
+      blocked = refl;
+      accepted = refl;
+      log = refl;
+    }

@@ -1,9 +1,11 @@
 -- What the jobs in hand tell: which commands are out, and which are handled.
-use Rattle.std.proofs.Common.{◌≡◌, ℕ, ◌&&◌, ◌||◌, Bool, true, false, not, cond, List, [], ◌∷◌, filter, refl, sym, ap, ◌∙◌, Option, Some, subst, ⊎_elim, eqb}
+use Rattle.std.proofs.Common.{◌≡◌, ℕ, ◌*◌, ◌≤◌, ◌&&◌, ◌||◌, Bool, true, false, not, cond, List, [], ◌∷◌, length, take, filter, refl, sym, ap, ◌∙◌, arith, Option, Some, subst, ⊎_elim, eqb}
+use Rattle.std.proofs.Math.Nat.{min-eq_left}
 use Rattle.std.specs.List.{list_any}
 use Rattle.std.specs.Option.{is_some}
 use Rattle.std.proofs.lemmas.Bool.{cases_Bool, false≢true}
-use Rattle.tcmu_types.specs.Data.{ReplyData, SettingsData}
+use Rattle.tcmu_types.specs.Data.{CommandData, ReplyData, SettingsData}
+use Rattle.tcmu_types.specs.Rules.{IsCommand, payload_length, takes_payload}
 use Rattle.tcmu_types.specs.declared.answer.Respond.TheVariants as respond
 use Rattle.tcmu_model.specs.declared.state.CommandState.{CommandState}
 use Rattle.tcmu_model.specs.declared.state.CommandState.TheVariants.{Waiting, Out, Handled, Parked, Placed, Lost}
@@ -13,14 +15,22 @@ use Rattle.tcmu_model.specs.Device.{Unfinished, DeviceState, has_serial, has_sta
 use Rattle.tcmu_model.specs.Events.{after_respond, answered, command_out, is_among, is_handled, respond_answer}
 use Rattle.tcmu_model.specs.Events as events
 use Rattle.tcmu_model.specs.Sound.{IsSound, Every, dispatched_serials, is_right, state_fits}
-use Rattle.tcmu_model.specs.BlockLists.{Taken}
-use Rattle.tcmu_model.proofs.Everies.{every-weaker}
-use Rattle.tcmu_model.specs.Sides.{InHand, PendingRow, UserState}
+use Rattle.tcmu_model.specs.BlockLists.{Taken, list_of}
+use Rattle.tcmu_model.specs.Layout.{data_start}
+use Rattle.tcmu_model.specs.Lengths.{block_size, blocks_of}
+use Rattle.tcmu_model.specs.Iovecs.{gathered, total_of}
+use Rattle.tcmu_model.specs.Picture.{data_in, payload_of}
+use Rattle.tcmu_model.specs.UserNext.{data_length}
+use Rattle.tcmu_model.proofs.DrainEnds.{rows_commands}
+use Rattle.tcmu_model.proofs.Everies.{every-first, every-weaker}
+use Rattle.tcmu_model.specs.Sides.{InHand, JobState, PendingRow, UserState}
 use Rattle.tcmu_model.specs.Represents.{AreOut, IdsStand, IsJobOf, IsOut, JobsStand, UserKeeps, is_out}
 use Rattle.tcmu_model.specs.HandSteps.{hand_has}
 use Rattle.tcmu_model.specs.Owned.{ListsSound}
 use Rattle.ring_laws.specs.Handed.{is_asked, is_answered}
 use Rattle.ring_laws.specs.Responded.{CanRespond}
+use Rattle.ring_laws.proofs.JobRead.{total_along}
+use Rattle.ring_laws.proofs.LaidBlocks.{enough}
 
 -- ==== the state of a command that is out, by its reply
 
@@ -142,7 +152,7 @@ first_tells st rows lists t f s (y ∷ hs) (u ∷ us) x e h g =
 
 -- ==== the law
 
-some_first : {X : Type 0} (p : X → Bool) (xs : List X) → list_any p xs ≡ is_some (first_of p xs)
+pub some_first : {X : Type 0} (p : X → Bool) (xs : List X) → list_any p xs ≡ is_some (first_of p xs)
 some_first p [] = refl
 some_first p (x ∷ xs) =
     ⊎_elim
@@ -188,3 +198,24 @@ not_handled d s n = (
   ap (λ b. cond b (cond (list_any (is_at s Placed) (events.placing d s).unfinished) respond.Placed respond.Parked) (respond.NotHandled s)) n,
   ap (λ b. cond b (record d { unfinished = (events.placing d s).unfinished; placed = (events.placing d s).placed }) d) n,
 )
+
+-- ==== what a handler is asked
+
+pub asked_data : (rows : List PendingRow) (d : DeviceState) (lists : List Taken) (u : Unfinished) (job : JobState) (parts : List (List ℕ)) →
+    IsSound d → ListsSound d lists → first_of (has_serial u.serial) d.unfinished ≡ Some u → takes_payload u.command.cdb ≡ true → IsJobOf d.settings rows lists u job parts →
+    take (data_length job.iovs) (gathered parts) ≡ u.command.sent
+asked_data rows d lists u job parts sound owned f t j =
+    let c : CommandData = u.command in
+    let pages : ℕ = d.settings.pages in
+    let bs : List ℕ = list_of lists u.serial in
+    let n : ℕ = payload_length c in
+    let count : length bs ≡ blocks_of pages c = every-first (has_serial u.serial) (λ v. length (list_of lists v.serial) ≡ blocks_of pages v.command) d.unfinished u owned.sizes f in
+    let rule : IsCommand c = every-first (has_serial u.serial) (λ v. IsCommand v.command) d.unfinished u (rows_commands d sound) f in
+    let carries : n ≡ length c.sent = ap (λ b. cond b (length c.sent) c.in_len) t in
+    let few : n ≤ 1048576 = omega (arith, carries, rule.sent) in
+    let low : 1 ≤ pages = sound.settings.pages_low in
+    let room : n ≤ block_size pages * length bs = subst (λ k. n ≤ block_size pages * k) (sym count) (enough n (block_size pages) (omega (arith, low))) in
+    let total : total_of job.iovs ≡ n = ap total_of j.iovs ∙ total_along (data_start d.settings.ring) (block_size pages) bs n room in
+    let all : data_length job.iovs ≡ n = min-eq_left (omega (arith, total, few)) ∙ total in
+    let sent : payload_of u ≡ c.sent = ap (λ b. cond b c.sent (data_in c.in_len u.state u.reply)) t in
+    ap (λ k. take k (gathered parts)) all ∙ j.payload ∙ sent

@@ -119,6 +119,21 @@ new-here size area hs (b ∷ bs) bs0 low high w c f just =
     there None h = let fr = f.0 in absurd (false≢true (sym fr.free ∙ just b (grown-lent size area (above_all bs0) b h)))
     there (Some bytes) h = (bytes, h, grown-whole size area (above_all bs0) w b bytes h)
 
+-- the blocks that a command gets are at home, whichever are lent
+given-home : (area : List (Option (List ℕ))) (d : DeviceState) (lists : List Taken) (n : ℕ) → AreWhole (block_size d.settings.pages) area → BlocksStand area d lists →
+    Every (IsHome (block_size d.settings.pages) (grown (block_size d.settings.pages) area (above_all (least_free d.settings.blocks (held_by lists d.unfinished) n)))) (least_free d.settings.blocks (held_by lists d.unfinished) n)
+given-home area d lists n whole stand =
+    let hs : List ℕ = held_by lists d.unfinished in
+    let bs : List ℕ = least_free d.settings.blocks hs n in
+    new-here (block_size d.settings.pages) area hs bs bs 0 (0 + d.settings.blocks) whole (covered bs) (least-are d.settings.blocks hs n) (λ b h. lent-held b (stand.just b h))
+  where
+    lent-held : (b : ℕ) → is_among (held_by lists (filter is_in_hand d.unfinished)) b ≡ true → is_among (held_by lists d.unfinished) b ≡ true
+    lent-held b h =
+        ⊎_elim
+        (λ (e : is_among (held_by lists d.unfinished) b ≡ true). e)
+        (λ (e : is_among (held_by lists d.unfinished) b ≡ false). absurd (false≢true (sym (among-filter lists is_in_hand d.unfinished b e) ∙ h)))
+        (cases_Bool (is_among (held_by lists d.unfinished) b))
+
 -- the blocks of another command stay
 pub stand-other : (size : ℕ) (area area' : List (Option (List ℕ))) (lists lists' : List Taken) (u : Unfinished) → list_of lists' u.serial ≡ list_of lists u.serial →
     Every (λ b. (o : Option (List ℕ)) → slice_get area b ≡ Some o → slice_get area' b ≡ Some o) (list_of lists u.serial) → BlocksOf size area lists u → BlocksOf size area' lists' u
@@ -150,7 +165,8 @@ all-old size area area' lists lists' hs acc (u ∷ us) l same into k e = (
   all-old size area area' lists lists' hs acc us l same (λ b h. into b (among-append (list_of lists u.serial) (held_by lists us) b ∙ or_right (is_among (list_of lists u.serial) b) (is_among (held_by lists us) b) h)) k.1 e.1,
 )
 
-enough : (p size : ℕ) → 0 < size → p ≤ size * ((p + (size - 1)) / size)
+-- bytes lie in the blocks that they need
+pub enough : (p size : ℕ) → 0 < size → p ≤ size * ((p + (size - 1)) / size)
 enough p size z = omega arith
 
 -- the data of a new command
@@ -217,8 +233,7 @@ submit-blocks area d lists s c sound owned whole pages stand room above =
     let new : list_of lists' s ≡ bs = ap blocks_taken (first-here (λ (l : Taken). eqb l.serial s) lists (record { serial = s; blocks = bs }) (eq-eqb s s refl) (unlisted lists s (lists_below d lists s owned above))) in
     let area1 = grown size area (above_all bs) in
     let area' = filled d area c bs in
-    let lent : (b : ℕ) → IsLent area b → is_among hs b ≡ true = λ b h. lent-held b (stand.just b h) in
-    let here : Every (IsHome size area1) bs = new-here size area hs bs bs 0 (0 + d.settings.blocks) whole (covered bs) free lent in
+    let here : Every (IsHome size area1) bs = given-home area d lists n whole stand in
     let same : (b : ℕ) → is_among hs b ≡ true → (o : Option (List ℕ)) → slice_get area b ≡ Some o → slice_get area' b ≡ Some o =
     λ b h o g. scattered-other size area1 bs (cond (takes_payload c.cdb) c.sent (zeros (size * length bs))) b (none-among hs bs b 0 (0 + d.settings.blocks) free h) ∙ grown-old size area (above_all bs) b o g in
     let pay : payload_length c ≤ size * n = enough (payload_length c) size (omega arith) in
@@ -232,13 +247,6 @@ submit-blocks area d lists s c sound owned whole pages stand room above =
           ap (λ xs. is_among xs b) f ∙ stand.just b (was-lent b h dat.here);
     }
   where
-    lent-held : (b : ℕ) → is_among (held_by lists (filter is_in_hand d.unfinished)) b ≡ true → is_among (held_by lists d.unfinished) b ≡ true
-    lent-held b h =
-        ⊎_elim
-        (λ (e : is_among (held_by lists d.unfinished) b ≡ true). e)
-        (λ (e : is_among (held_by lists d.unfinished) b ≡ false). absurd (false≢true (sym (among-filter lists is_in_hand d.unfinished b e) ∙ h)))
-        (cases_Bool (is_among (held_by lists d.unfinished) b))
-
     was-lent : (b : ℕ) → IsLent (filled d area c (least_free d.settings.blocks (held_by lists d.unfinished) (blocks_of d.settings.pages c))) b →
         Every (IsHome (block_size d.settings.pages) (filled d area c (least_free d.settings.blocks (held_by lists d.unfinished) (blocks_of d.settings.pages c)))) (least_free d.settings.blocks (held_by lists d.unfinished) (blocks_of d.settings.pages c)) → IsLent area b
     was-lent b h here =
@@ -267,3 +275,14 @@ blocks_stand_laid r t d lists s c id sound owned sized pages stand keeps room ab
     let w : AreWhole (block_size d.settings.pages) r.blocks = subst (λ p. AreWhole (block_size p) r.blocks) pages (sized_whole (block_size r.pages) r.blocks sized) in
     subst (λ (area : List (Option (List ℕ))). BlocksStand area (laid_in d (cmd_item d s c) (with_waiting d s c)) (with_taken d lists s c)) (sym e)
     (submit-blocks r.blocks d lists s c sound owned w sound.settings.pages_low stand room above)
+
+pub laid_home : (r : RegionState) (t : TargetState) (d : DeviceState) (lists : List Taken) (c : CommandData) →
+    IsSound d → ListsSound d lists → AreSized (block_size r.pages) r.blocks → r.pages ≡ d.settings.pages → BlocksStand r.blocks d lists → TargetKeeps t d lists → HasRoom d c →
+    Every (IsHome (block_size r.pages) (grown (block_size r.pages) r.blocks (above_all (blocks_given t c)))) (blocks_given t c)
+laid_home r t d lists c sound owned sized pages stand keeps room =
+    let w : AreWhole (block_size d.settings.pages) r.blocks = subst (λ p. AreWhole (block_size p) r.blocks) pages (sized_whole (block_size r.pages) r.blocks sized) in
+    let h : AllHome d.settings.pages (least_free d.settings.blocks (held_by lists d.unfinished) (blocks_of d.settings.pages c)) = given-home r.blocks d lists (blocks_of d.settings.pages c) w stand in
+    subst (λ p. AllHome p (blocks_given t c)) (sym pages) (subst (λ bs. AllHome d.settings.pages bs) (sym (blocks-same t d lists c keeps)) h)
+  where
+    AllHome : ℕ → List ℕ → Type 0
+    AllHome p bs = Every (IsHome (block_size p) (grown (block_size p) r.blocks (above_all bs))) bs

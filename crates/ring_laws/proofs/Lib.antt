@@ -78,6 +78,7 @@ pub mod PendingRows
 pub mod CountedSerials
 pub mod AnyCalls
 pub mod AnyCleans
+pub mod AnyCleared
 pub mod AnyStops
 pub mod AnySerials
 pub mod AnySettings
@@ -86,7 +87,14 @@ pub mod AnyAreas
 pub mod PassedEntries
 pub mod AnyAttached
 pub mod AnyNext
+pub mod AnyFaults
+pub mod AnyJobs
+pub mod AnyHeads
 pub mod AnyAnswers
+pub mod AnyUsers
+pub mod AnyCounts
+pub mod AnyWhole
 pub mod AnyLogs
 pub mod AnyRing
+pub mod AnyRows
 pub mod AnyKeptId

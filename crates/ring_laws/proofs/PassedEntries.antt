@@ -1,6 +1,7 @@
 -- What entries and mailboxes that read without a fault keep, over any bytes.
-use Rattle.std.proofs.Common.{◌≡◌, ◌≢◌, ℕ, ◌+◌, ◌-◌, ◌*◌, ◌%◌, ◌<◌, ◌≤◌, Bool, true, false, not, cond, eqb, ltb, leb, ◌==◌, List, length, Option, Some, None, Result, Ok, Err, refl, ap, ◌∙◌, arith, subst}
-use Rattle.std.proofs.lemmas.Bool.{eqb-true, eqb-false}
+use Rattle.std.proofs.Common.{◌≡◌, ◌≢◌, ℕ, ◌+◌, ◌-◌, ◌*◌, ◌%◌, ◌<◌, ◌≤◌, Bool, true, false, not, cond, eqb, ltb, leb, ◌==◌, List, length, zero, suc, Option, Some, None, Result, Ok, Err, refl, ap, ◌∙◌, arith, subst, ⊎_elim}
+use Rattle.std.specs.List.{list_all}
+use Rattle.std.proofs.lemmas.Bool.{cases_Bool, eqb-true, eqb-false}
 use Rattle.tcmu_model.proofs.EntriesThere.{least_eight}
 use Rattle.tcmu_model.specs.declared.mailbox.Mailbox.{Mailbox}
 use Rattle.tcmu_model.specs.declared.mailbox.MailboxFault.{MailboxFault}
@@ -11,8 +12,9 @@ use Rattle.tcmu_model.specs.declared.entry.EntryFault.{EntryFault}
 use Rattle.tcmu_model.specs.declared.entry.EntryFault.TheVariants as fault
 use Rattle.tcmu_model.specs.Layout.{data_start, ring_start, field}
 use Rattle.tcmu_model.specs.MailboxReading.{mailbox_in, is_ring_size, judged, mailbox_read, IsRingSize}
-use Rattle.tcmu_model.specs.EntryReading.{op_at, len_at, id_at, iov_cnt_at, bidi_cnt_at, dif_cnt_at, cdb_off_at, kind_at, id_cnt_at, first_outside, cdb_at, where_outside, with_cdb, command_read, tmr_read, limit_of, least_of, kind_read, sized_read, entry_read}
+use Rattle.tcmu_model.specs.EntryReading.{op_at, len_at, id_at, iov_cnt_at, bidi_cnt_at, dif_cnt_at, cdb_off_at, kind_at, id_cnt_at, iov_at, lies_inside, first_outside, cdb_at, where_outside, with_cdb, command_read, tmr_read, limit_of, least_of, kind_read, sized_read, entry_read}
 use Rattle.tcmu_model.specs.Regions.{RegionState}
+use Rattle.tcmu_model.specs.UserNext.{iovs_in}
 use Rattle.tcmu_model.specs.UserSteps.{ring_size, of_size, user_mailbox}
 use Rattle.tcmu_model.proofs.Guards.{guard_ok, is_same, not_below, not_most, is_ring_sized}
 
@@ -100,17 +102,34 @@ pub record Within (front : List ℕ) (m : Mailbox) (at : ℕ) (e : EntryRef) : T
   pub even : told_len e % 8 ≡ 0
   pub unknown : IsUnknownAt front (ring_start + at) e
 
+-- a command's iovecs all lie in the data area, which has `area` bytes from byte `start` on
+abbrev pub IovsInside : List ℕ → ℕ → ℕ → ℕ → EntryRef → Type 0
+IovsInside front area start b (entry.Pad len) = Unit {0}
+IovsInside front area start b (entry.Cmd len id count cdb) = list_all (lies_inside start (start + area)) (iovs_in front b 0 count) ≡ true
+IovsInside front area start b (entry.Tmr len kind count) = Unit {0}
+IovsInside front area start b (entry.Unknown op len) = Unit {0}
+
+none_outside : (front : List ℕ) (b low high index n : ℕ) → first_outside front b low high index n ≡ None → list_all (lies_inside low high) (iovs_in front b index n) ≡ true
+unfolding first_outside
+none_outside front b low high index zero h = refl
+none_outside front b low high index (suc n) h =
+    ⊎_elim
+    (λ (e : lies_inside low high (iov_at front b index) ≡ true). let k : first_outside front b low high (index + 1) n ≡ None = rw e at h in rw e (none_outside front b low high (index + 1) n k))
+    (λ (e : lies_inside low high (iov_at front b index) ≡ false). let k : Some index ≡ None = rw e at h in absurd (cc))
+    (cases_Bool (lies_inside low high (iov_at front b index)))
+
 -- what the reading of its kind tells
-record OfKind (front : List ℕ) (b op len : ℕ) (e : EntryRef) : Type 0 where
+record OfKind (front : List ℕ) (area start b op len : ℕ) (e : EntryRef) : Type 0 where
   same : told_len e ≡ len
   least : least_told e ≤ least_of op
   unknown : op ≡ op_at front b → IsUnknownAt front b e
+  inside : IovsInside front area start b e
 
 command_least : (op : ℕ) → eqb op 1 ≡ true → least_of op ≡ 112
 unfolding least_of
 command_least op z = rw z refl
 
-of_command : (front : List ℕ) (area start b op len : ℕ) (e : EntryRef) → least_of op ≡ 112 → command_read front area start b len ≡ Ok e → OfKind front b op len e
+of_command : (front : List ℕ) (area start b op len : ℕ) (e : EntryRef) → least_of op ≡ 112 → command_read front area start b len ≡ Ok e → OfKind front area start b op len e
 unfolding command_read
 of_command front area start b op len e l h =
     let g0 = guard_ok (leb len (48 + 16 * iov_cnt_at front b)) (fault.BadCount (iov_cnt_at front b)) _ _ h in
@@ -118,55 +137,55 @@ of_command front area start b op len e l h =
     let g2 = guard_ok (not (dif_cnt_at front b == 0)) (fault.BadCount (dif_cnt_at front b)) _ _ g1.1 in
     by_cdb (cdb_at front (b + 48 + 16 * iov_cnt_at front b) (b + len) (cdb_off_at front b)) g2.1
   where
-    is_cmd : (x : EntryRef) (id count : ℕ) (cdb : List ℕ) → ◌≡◌ {A = Result EntryRef EntryFault} (Ok (entry.Cmd len id count cdb)) (Ok x) → OfKind front b op len x
-    is_cmd x id count cdb q =
+    is_cmd : (x : EntryRef) (id count : ℕ) (cdb : List ℕ) → list_all (lies_inside start (start + area)) (iovs_in front b 0 count) ≡ true → ◌≡◌ {A = Result EntryRef EntryFault} (Ok (entry.Cmd len id count cdb)) (Ok x) → OfKind front area start b op len x
+    is_cmd x id count cdb i q =
         let s : entry.Cmd len id count cdb ≡ x = cc in
-        let k : OfKind front b op len (entry.Cmd len id count cdb) = record { same = refl; least = omega (arith, l); unknown = λ z. tt } in
-        subst (λ (y : EntryRef). OfKind front b op len y) s k
+        let k : OfKind front area start b op len (entry.Cmd len id count cdb) = record { same = refl; least = omega (arith, l); unknown = λ z. tt; inside = i } in
+        subst (λ (y : EntryRef). OfKind front area start b op len y) s k
 
-    by_outside : (o : Option ℕ) (cdb : List ℕ) → where_outside (entry.Cmd len (id_at front b) (iov_cnt_at front b) cdb) o ≡ Ok e → OfKind front b op len e
-    by_outside None cdb q = is_cmd e (id_at front b) (iov_cnt_at front b) cdb q
-    by_outside (Some i) cdb q = absurd (cc)
+    by_outside : (o : Option ℕ) (cdb : List ℕ) → first_outside front b start (start + area) 0 (iov_cnt_at front b) ≡ o → where_outside (entry.Cmd len (id_at front b) (iov_cnt_at front b) cdb) o ≡ Ok e → OfKind front area start b op len e
+    by_outside None cdb f q = is_cmd e (id_at front b) (iov_cnt_at front b) cdb (none_outside front b start (start + area) 0 (iov_cnt_at front b) f) q
+    by_outside (Some i) cdb f q = absurd (cc)
 
-    by_cdb : (o : Option (List ℕ)) → with_cdb front area start b len o ≡ Ok e → OfKind front b op len e
+    by_cdb : (o : Option (List ℕ)) → with_cdb front area start b len o ≡ Ok e → OfKind front area start b op len e
     by_cdb None q = absurd (cc)
-    by_cdb (Some cdb) q = by_outside (first_outside front b start (start + area) 0 (iov_cnt_at front b)) cdb q
+    by_cdb (Some cdb) q = by_outside (first_outside front b start (start + area) 0 (iov_cnt_at front b)) cdb refl q
 
-of_tmr : (front : List ℕ) (b op len : ℕ) (e : EntryRef) → tmr_read front b len ≡ Ok e → OfKind front b op len e
+of_tmr : (front : List ℕ) (area start b op len : ℕ) (e : EntryRef) → tmr_read front b len ≡ Ok e → OfKind front area start b op len e
 unfolding tmr_read
-of_tmr front b op len e h =
+of_tmr front area start b op len e h =
     let g0 = guard_ok (ltb len (32 + 2 * id_cnt_at front b)) (fault.BadCount (id_cnt_at front b)) _ _ h in
     let s : entry.Tmr len (kind_at front b) (id_cnt_at front b) ≡ e = is_it (entry.Tmr len (kind_at front b) (id_cnt_at front b)) e g0.1 in
-    let k : OfKind front b op len (entry.Tmr len (kind_at front b) (id_cnt_at front b)) = record { same = refl; least = least_eight op; unknown = λ z. tt } in
-    subst (λ (y : EntryRef). OfKind front b op len y) s k
+    let k : OfKind front area start b op len (entry.Tmr len (kind_at front b) (id_cnt_at front b)) = record { same = refl; least = least_eight op; unknown = λ z. tt; inside = tt } in
+    subst (λ (y : EntryRef). OfKind front area start b op len y) s k
   where
     is_it : (x y : EntryRef) → ◌≡◌ {A = Result EntryRef EntryFault} (Ok x) (Ok y) → x ≡ y
     is_it x y q = cc
 
-of_kind : (front : List ℕ) (area start b op len : ℕ) (e : EntryRef) → kind_read front area start b op len ≡ Ok e → OfKind front b op len e
+of_kind : (front : List ℕ) (area start b op len : ℕ) (e : EntryRef) → kind_read front area start b op len ≡ Ok e → OfKind front area start b op len e
 unfolding kind_read
 of_kind front area start b op len e h = by_pad (op == 0) refl h
   where
     is_it : (x y : EntryRef) → ◌≡◌ {A = Result EntryRef EntryFault} (Ok x) (Ok y) → x ≡ y
     is_it x y q = cc
 
-    by_other : (t : Bool) → (op == 0) ≡ false → (op == 1) ≡ false → (op == 2) ≡ t → cond t (tmr_read front b len) (Ok (entry.Unknown op len)) ≡ Ok e → OfKind front b op len e
-    by_other true x y z q = of_tmr front b op len e q
+    by_other : (t : Bool) → (op == 0) ≡ false → (op == 1) ≡ false → (op == 2) ≡ t → cond t (tmr_read front b len) (Ok (entry.Unknown op len)) ≡ Ok e → OfKind front area start b op len e
+    by_other true x y z q = of_tmr front area start b op len e q
     by_other false x y z q =
         let a : op ≢ 0 = eqb-false op 0 x in
         let c : op ≢ 1 = eqb-false op 1 y in
         let d : op ≢ 2 = eqb-false op 2 z in
-        let k : OfKind front b op len (entry.Unknown op len) = record { same = refl; least = least_eight op; unknown = λ w. omega (arith, a, c, d, w) } in
-        subst (λ (v : EntryRef). OfKind front b op len v) (is_it (entry.Unknown op len) e q) k
+        let k : OfKind front area start b op len (entry.Unknown op len) = record { same = refl; least = least_eight op; unknown = λ w. omega (arith, a, c, d, w); inside = tt } in
+        subst (λ (v : EntryRef). OfKind front area start b op len v) (is_it (entry.Unknown op len) e q) k
 
-    by_command : (t : Bool) → (op == 0) ≡ false → (op == 1) ≡ t → cond t (command_read front area start b len) (cond (op == 2) (tmr_read front b len) (Ok (entry.Unknown op len))) ≡ Ok e → OfKind front b op len e
+    by_command : (t : Bool) → (op == 0) ≡ false → (op == 1) ≡ t → cond t (command_read front area start b len) (cond (op == 2) (tmr_read front b len) (Ok (entry.Unknown op len))) ≡ Ok e → OfKind front area start b op len e
     by_command true x y q = of_command front area start b op len e (command_least op y) q
     by_command false x y q = by_other (op == 2) x y refl q
 
-    by_pad : (t : Bool) → (op == 0) ≡ t → cond t (Ok (entry.Pad len)) (cond (op == 1) (command_read front area start b len) (cond (op == 2) (tmr_read front b len) (Ok (entry.Unknown op len)))) ≡ Ok e → OfKind front b op len e
+    by_pad : (t : Bool) → (op == 0) ≡ t → cond t (Ok (entry.Pad len)) (cond (op == 1) (command_read front area start b len) (cond (op == 2) (tmr_read front b len) (Ok (entry.Unknown op len)))) ≡ Ok e → OfKind front area start b op len e
     by_pad true x q =
-        let k : OfKind front b op len (entry.Pad len) = record { same = refl; least = least_eight op; unknown = λ w. tt } in
-        subst (λ (v : EntryRef). OfKind front b op len v) (is_it (entry.Pad len) e q) k
+        let k : OfKind front area start b op len (entry.Pad len) = record { same = refl; least = least_eight op; unknown = λ w. tt; inside = tt } in
+        subst (λ (v : EntryRef). OfKind front area start b op len v) (is_it (entry.Pad len) e q) k
     by_pad false x q = by_command (op == 1) x refl q
 
 pub within_read : (front : List ℕ) (area : ℕ) (m : Mailbox) (at : ℕ) (e : EntryRef) → entry_read front area m at ≡ Ok e → Within front m at e
@@ -179,10 +198,20 @@ within_read front area m at e h =
     let g1 = guard_ok (ltb (limit_of m at) len) (fault.PastEnd len (limit_of m at)) _ _ g0.1 in
     let least : least_of op ≤ len = not_below _ _ g0.0 in
     let whole : len ≤ limit_of m at = not_below _ _ g1.0 in
-    let k : OfKind front b op len e = of_kind front area (data_start m.cmdr_size) b op len e g1.1 in
+    let k : OfKind front area (data_start m.cmdr_size) b op len e = of_kind front area (data_start m.cmdr_size) b op len e g1.1 in
     let few : least_told e ≤ least_of op = k.least in
     let even : len % 8 ≡ 0 = eights (field 4 b front) in
     record { least = omega (arith, least, few, k.same); whole = omega (arith, whole, k.same); even = ap (λ n. n % 8) k.same ∙ even; unknown = k.unknown refl }
   where
     eights : (n : ℕ) → (n - n % 8) % 8 ≡ 0
     eights n = omega arith
+
+pub inside_read : (front : List ℕ) (area : ℕ) (m : Mailbox) (at : ℕ) (e : EntryRef) → entry_read front area m at ≡ Ok e → IovsInside front area (data_start m.cmdr_size) (ring_start + at) e
+unfolding entry_read sized_read
+inside_read front area m at e h =
+    let b : ℕ = ring_start + at in
+    let op : ℕ = op_at front b in
+    let len : ℕ = len_at front b in
+    let g0 = guard_ok (ltb len (least_of op)) (fault.BadLength len) _ _ h in
+    let g1 = guard_ok (ltb (limit_of m at) len) (fault.PastEnd len (limit_of m at)) _ _ g0.1 in
+    (of_kind front area (data_start m.cmdr_size) b op len e g1.1).inside

@@ -1,8 +1,8 @@
 -- Each block that is at home keeps its size.
-use Rattle.std.proofs.Common.{◌≡◌, ℕ, ◌+◌, ◌*◌, ◌≤◌, Bool, true, false, List, [], ◌∷◌, ◌++◌, length, take, drop, replicate, filter, set, refl, sym, ap, ◌∙◌, arith, suc, zero, Option, Some, None, slice_get, length-append, length-take, length-drop, subst, ⊎_elim, eqb}
+use Rattle.std.proofs.Common.{◌≡◌, ℕ, ◌+◌, ◌-◌, ◌*◌, ◌<◌, ◌≤◌, Bool, true, false, List, [], ◌∷◌, ◌++◌, length, take, drop, replicate, filter, set, refl, sym, ap, ◌∙◌, arith, suc, zero, Option, Some, None, slice_get, length-append, length-take, length-drop, subst, ⊎_elim, eqb}
 use Rattle.std.specs.Prelude.{Result, Ok, Err}
 use Rattle.std.specs.Bool.{MatchBool}
-use Rattle.std.proofs.lemmas.Bool.{cases_Bool}
+use Rattle.std.proofs.lemmas.Bool.{cases_Bool, cases_lt}
 use Rattle.tcmu_types.specs.Data.{SettingsData}
 use Rattle.tcmu_types.specs.declared.iovec.Iov.{Iov}
 use Rattle.tcmu_types.specs.declared.dump.ItemKind.TheVariants as kind
@@ -18,19 +18,19 @@ use Rattle.tcmu_model.specs.Device.{DeviceState, Unfinished, has_state}
 use Rattle.tcmu_model.specs.Events.{is_in_hand}
 use Rattle.tcmu_model.specs.Sound.{Every}
 use Rattle.tcmu_model.specs.BlockLists.{Taken}
-use Rattle.tcmu_model.specs.Layout.{ring_start, zeros}
+use Rattle.tcmu_model.specs.Layout.{put, ring_start, zeros}
 use Rattle.tcmu_model.specs.Iovecs.{scattered}
 use Rattle.tcmu_model.specs.EntryReading.{entry_read}
-use Rattle.tcmu_model.specs.Regions.{AreSized, HaveSize, RegionState, can_lend, home, named_by, opening_region, put_where, returned, size_of, without}
+use Rattle.tcmu_model.specs.Regions.{AreSized, HaveSize, RegionState, can_lend, home, named_by, opening_region, overlaid, blocks_over, wrote, copied_in, given_back, put_where, returned, size_of, without}
 use Rattle.tcmu_model.specs.Areas.{over, written_along}
 use Rattle.tcmu_model.specs.Sides.{Carried, Copied, GivenJob, InHand, JobState, Moved, Parked, PendingRow, TargetState, UserState}
 use Rattle.tcmu_model.specs.Represents.{AreGiven, AreOut, IsJobOf, JobsStand, is_out}
 use Rattle.tcmu_model.specs.TargetSteps.{blocks_held}
 use Rattle.tcmu_model.specs.TargetCleans.{region_cleaned, region_reset, target_cleaned}
-use Rattle.tcmu_model.specs.UserSteps.{Placing, is_open_job, moving, placed_at, placed_front, placed_one, placing_by, region_abandoned, region_published, user_mailbox, user_responded, with_job_back, with_jobs, with_parked, with_parked_back, with_payload}
+use Rattle.tcmu_model.specs.UserSteps.{Placing, is_open_job, lie_in_area, moving, placed_at, placed_front, placed_one, placing_by, region_abandoned, region_published, user_mailbox, user_responded, with_job_back, with_jobs, with_parked, with_parked_back, with_payload}
 use Rattle.tcmu_model.specs.UserNext.{Nexted, BadEntry, command_next, iovs_in, most_entries, next_of, next_within, nexted, note_next, region_lent, tmr_ids_in, with_passed, with_unknown}
 use Rattle.tcmu_model.proofs.Everies.{every-with_first}
-use Rattle.tcmu_model.proofs.Written.{length-zeros}
+use Rattle.tcmu_model.proofs.Written.{length-put, length-zeros, put-nothing}
 use Rattle.ring_laws.specs.Restarted.{region_restarted, region_with_hand}
 use Rattle.ring_laws.specs.Sizes.{IsSized}
 use Rattle.ring_laws.proofs.AnswerData.{sizes-scattered}
@@ -63,7 +63,7 @@ sized_grown size (Some block ∷ area) n h = (h.0, sized_grown size area n h.1)
 
 -- ==== an area that shrinks, blocks that are lent
 
-sized_set : (size : ℕ) (area : List (Option (List ℕ))) (n : ℕ) (o : Option (List ℕ)) → AreSized size (o ∷ []) → AreSized size area → AreSized size (set area n o)
+pub sized_set : (size : ℕ) (area : List (Option (List ℕ))) (n : ℕ) (o : Option (List ℕ)) → AreSized size (o ∷ []) → AreSized size area → AreSized size (set area n o)
 sized_set size [] n o k h = tt
 sized_set size (None ∷ area) zero None k h = h
 sized_set size (None ∷ area) zero (Some new) k h = (k.0, h)
@@ -89,21 +89,24 @@ sized_returned size area (n ∷ ns) [] k h = h
 sized_returned size area (n ∷ ns) (part ∷ parts) k h = sized_where size (slice_get (returned area ns parts) n) (returned area ns parts) n part k.0 (sized_returned size area ns parts k.1 h)
 
 -- a region whose blocks have this size
-abbrev HasBlocks : ℕ → RegionState → Type 0
+abbrev pub HasBlocks : ℕ → RegionState → Type 0
 HasBlocks size r = (block_size r.pages ≡ size) × AreSized size r.blocks
 
-own_size : (size : ℕ) (r : RegionState) → HasBlocks size r → IsSized r
+pub own_size : (size : ℕ) (r : RegionState) → HasBlocks size r → IsSized r
 own_size size r h = subst (λ n. AreSized n r.blocks) (sym h.0) h.1
 
--- a job has its blocks, of this size
-abbrev MovesBlocks : ℕ → JobState → Type 0
-MovesBlocks size job = (parts : List (List ℕ)) × (job.carried ≡ Moved parts) × HaveSize size parts
+-- the blocks that a job has are of this size
+abbrev pub MovesBlocks : ℕ → JobState → Type 0
+MovesBlocks size job = (parts : List (List ℕ)) → job.carried ≡ Moved parts → HaveSize size parts
 
 job_moves : (s : SettingsData) (rows : List PendingRow) (lists : List Taken) (u : Unfinished) (job : JobState) (parts : List (List ℕ)) → IsJobOf s rows lists u job parts → MovesBlocks (block_size s.pages) job
-job_moves s rows lists u job parts h = (parts, h.carried, h.size)
+job_moves s rows lists u job parts h others e = subst (HaveSize (block_size s.pages)) (same parts others (sym h.carried ∙ e)) h.size
+  where
+    same : (xs ys : List (List ℕ)) → Moved xs ≡ Moved ys → xs ≡ ys
+    same xs ys q = cc
 
 -- so has each job that is parked
-abbrev AllMove : ℕ → List GivenJob → Type 0
+abbrev pub AllMove : ℕ → List GivenJob → Type 0
 AllMove size gs = Every (λ g. (p : Parked) → g.parked ≡ Some p → MovesBlocks size p.job) gs
 
 given_move : (s : SettingsData) (rows : List PendingRow) (lists : List Taken) (gs : List GivenJob) (us : List Unfinished) → AreGiven s rows lists gs us → AllMove (block_size s.pages) gs
@@ -119,12 +122,42 @@ given_move s rows lists (g ∷ gs) (u ∷ us) h = (λ p e. parked (has_state sta
         subst (λ (y : Parked). MovesBlocks (block_size s.pages) y.job) q (job_moves s rows lists u k.0.job k.3 k.4)
     parked false p e k = let no : None ≡ Some p = sym k ∙ e in absurd (cc)
 
+-- ==== bytes that are written
+
+length-overlaid : (place at : ℕ) (bytes x : List ℕ) → length (overlaid place at bytes x) ≡ length x
+unfolding overlaid
+length-overlaid place at bytes x =
+    let i : ℕ = at - place in
+    let ys : List ℕ = take (length x - i) (drop (place - at) bytes) in
+    ⊎_elim
+    (λ (k : i < length x). length-put x i ys (omega (arith, length-take (length x - i) (drop (place - at) bytes), k)))
+    (λ (k : length x ≤ i).
+    let z : length x - i ≡ 0 = omega (arith, k) in
+    ap (λ n. length (put x i (take n (drop (place - at) bytes)))) z ∙ ap length (put-nothing x i))
+    (cases_lt i (length x))
+
+sized_over_all : (size place wide at : ℕ) (bytes : List ℕ) (area : List (Option (List ℕ))) → AreSized size area → AreSized size (blocks_over place wide at bytes area)
+sized_over_all size place wide at bytes [] h = tt
+sized_over_all size place wide at bytes (None ∷ area) h = sized_over_all size (place + wide) wide at bytes area h
+sized_over_all size place wide at bytes (Some block ∷ area) h = (length-overlaid place at bytes block ∙ h.0, sized_over_all size (place + wide) wide at bytes area h.1)
+
+sized_copied : (size : ℕ) (r : RegionState) (iovs : List Iov) (bytes : List ℕ) → HasBlocks size r → HasBlocks size (copied_in r iovs bytes)
+sized_copied size r [] bytes h = h
+sized_copied size r (iov ∷ iovs) bytes h =
+    sized_copied size (wrote r iov.base (take iov.len bytes)) iovs (drop iov.len bytes) (h.0, sized_over_all size (length r.front) (size_of r) iov.base (take iov.len bytes) r.blocks h.1)
+
 -- ==== respond
 
 with_answer : (size : ℕ) (r : RegionState) (job : JobState) (payload : List ℕ) → HasBlocks size r → MovesBlocks size job → HasBlocks size (with_payload r job.iovs job.carried payload)
-with_answer size r job payload h m =
-    subst (λ (c : Carried). HasBlocks size (with_payload r job.iovs c payload)) (sym m.1)
-    (h.0, sized_returned size r.blocks (named_by r job.iovs) (scattered m.0 payload) (sizes-scattered size m.0 payload m.2) h.1)
+with_answer size r job payload h m = by_carried job.carried refl
+  where
+    by_carried : (c : Carried) → job.carried ≡ c → HasBlocks size (with_payload r job.iovs c payload)
+    by_carried (Moved parts) e = (h.0, sized_returned size r.blocks (named_by r job.iovs) (scattered parts payload) (sizes-scattered size parts payload (m parts e)) h.1)
+    by_carried (Copied bytes) e =
+        ⊎_elim
+        (λ (k : lie_in_area r job.iovs ≡ true). rw k (sized_copied size r job.iovs payload h))
+        (λ (k : lie_in_area r job.iovs ≡ false). rw k h)
+        (cases_Bool (lie_in_area r job.iovs))
 
 one_placed : (size : ℕ) (k : Placing) (p : Parked) (rest : List GivenJob) (ats : List ℕ) → HasBlocks size k.region → MovesBlocks size p.job → HasBlocks size (placed_at k p rest ats).region
 one_placed size k p rest [] h m = h
@@ -138,39 +171,38 @@ front_placed size k (g ∷ gs) h m = by_reply (λ x y. front_placed size x gs y 
     by_reply again None e = h
     by_reply again (Some p) e = again (placed_one k p gs) (one_placed size k p gs k.user.offsets h (m.0 p e))
 
+pub placed_sized : (size : ℕ) (r : RegionState) (user : UserState) (p : Parked) → HasBlocks size r → AllMove size user.jobs → MovesBlocks size p.job → HasBlocks size (user_responded r user p).region
+unfolding user_responded
+placed_sized size r user p here all mine = by_order user.flags.ooo
+  where
+    parked : List GivenJob
+    parked = with_first (is_open_job p.job.id) (with_parked p) user.jobs
+
+    move : AllMove size (with_first (is_open_job p.job.id) (with_parked p) user.jobs)
+    move = every-with_first (is_open_job p.job.id) (with_parked p) (λ g. (q : Parked) → g.parked ≡ Some q → MovesBlocks size q.job) user.jobs
+        (λ g e k q z. let same : p ≡ q = cc in subst (λ (y : Parked). MovesBlocks size y.job) same mine) all
+
+    by_order : (b : Bool) → HasBlocks size (placing_by b r user p).region
+    by_order true = one_placed size (record { region = r; user = user }) p (without_first (is_open_job p.job.id) user.jobs) user.offsets here mine
+    by_order false = front_placed size (record { region = r; user = with_jobs user parked }) parked here move
+
 pub sized_responded : (r : RegionState) (user : UserState) (hand : List InHand) (rows : List PendingRow) (d : DeviceState) (lists : List Taken) (u : Unfinished) (p : Parked) (parts : List (List ℕ)) →
     r.pages ≡ d.settings.pages → JobsStand user hand rows d lists → IsJobOf d.settings rows lists u p.job parts → IsSized r → IsSized (user_responded r user p).region
-unfolding user_responded
-sized_responded r user hand rows d lists u p parts pages jobs job h = own_size size (placing_by user.flags.ooo r user p).region (by_order user.flags.ooo)
-  where
-    size : ℕ
-    size = block_size d.settings.pages
-
-    here : HasBlocks (block_size d.settings.pages) r
-    here = (ap block_size pages, subst (λ n. AreSized (block_size n) r.blocks) pages h)
-
-    mine : MovesBlocks (block_size d.settings.pages) p.job
-    mine = job_moves d.settings rows lists u p.job parts job
-
-    all : AllMove (block_size d.settings.pages) (with_first (is_open_job p.job.id) (with_parked p) user.jobs)
-    all = every-with_first (is_open_job p.job.id) (with_parked p) (λ g. (q : Parked) → g.parked ≡ Some q → MovesBlocks (block_size d.settings.pages) q.job) user.jobs
-        (λ g e k q z. let same : p ≡ q = cc in subst (λ (y : Parked). MovesBlocks (block_size d.settings.pages) y.job) same mine)
-        (given_move d.settings rows lists user.jobs (filter is_in_hand d.unfinished) jobs.given)
-
-    by_order : (b : Bool) → HasBlocks (block_size d.settings.pages) (placing_by b r user p).region
-    by_order true = one_placed (block_size d.settings.pages) (record { region = r; user = user }) p (without_first (is_open_job p.job.id) user.jobs) user.offsets here mine
-    by_order false =
-        let gs : List GivenJob = with_first (is_open_job p.job.id) (with_parked p) user.jobs in
-        front_placed (block_size d.settings.pages) (record { region = r; user = with_jobs user gs }) gs here all
+sized_responded r user hand rows d lists u p parts pages jobs job h =
+    own_size (block_size d.settings.pages) (user_responded r user p).region
+    (placed_sized (block_size d.settings.pages) r user p (ap block_size pages, subst (λ n. AreSized (block_size n) r.blocks) pages h)
+    (given_move d.settings rows lists user.jobs (filter is_in_hand d.unfinished) jobs.given) (job_moves d.settings rows lists u p.job parts job))
 
 -- ==== jobs given up
 
 job_back : (size : ℕ) (r : RegionState) (job : JobState) → HasBlocks size r → MovesBlocks size job → HasBlocks size (with_job_back r job)
-job_back size r job h m =
-    subst (λ (c : Carried). HasBlocks size (elim c [ Moved parts ↦ record r { blocks = returned r.blocks (named_by r job.iovs) parts } | Copied bytes ↦ r ])) (sym m.1)
-    (h.0, sized_returned size r.blocks (named_by r job.iovs) m.0 m.2 h.1)
+job_back size r job h m = by_carried job.carried refl
+  where
+    by_carried : (c : Carried) → job.carried ≡ c → HasBlocks size (elim c as (λ x. RegionState) [ Moved parts ↦ given_back r job.iovs parts | Copied bytes ↦ r ])
+    by_carried (Moved parts) e = (h.0, sized_returned size r.blocks (named_by r job.iovs) parts (m parts e) h.1)
+    by_carried (Copied bytes) e = h
 
-all_back : (size : ℕ) (r : RegionState) (gs : List GivenJob) → HasBlocks size r → AllMove size gs → HasBlocks size (region_abandoned r gs)
+pub all_back : (size : ℕ) (r : RegionState) (gs : List GivenJob) → HasBlocks size r → AllMove size gs → HasBlocks size (region_abandoned r gs)
 unfolding region_abandoned
 all_back size r [] h m = h
 all_back size r (g ∷ gs) h m = all_back size (with_parked_back r g.parked) gs (by_reply g.parked refl) m.1

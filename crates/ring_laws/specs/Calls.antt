@@ -1,11 +1,15 @@
 -- The target over any bytes: its calls in any order, each on a region whose bytes may have become anything since the one before.
-use Rattle.std.specs.Prelude.{◌≡◌, ◌⊎◌, ℕ, ◌+◌, ◌-◌, ◌<◌, ◌≤◌, ◌==◌, ◌&&◌, not, nat_lt, nat_le, Bool, true, false, List, [], ◌∷◌, ◌++◌, length, take, map, slice_get, Some, None, if◌then◌else◌}
-use Rattle.std.specs.List.{count_by}
+use Rattle.std.specs.Prelude.{◌≡◌, ◌≢◌, ◌⊎◌, ℕ, ◌+◌, ◌-◌, ◌%◌, ◌<◌, ◌≤◌, ◌==◌, ◌&&◌, not, nat_lt, nat_le, Bool, true, false, List, [], ◌∷◌, ◌++◌, length, take, drop, map, slice_get, Some, None, if◌then◌else◌}
+use Rattle.std.specs.List.{count_by, sum_by}
+use Rattle.std.specs.Option.{is_some}
 use Rattle.tcmu_types.specs.Data.{CommandData, DoneData}
 use Rattle.tcmu_types.specs.declared.answer.Submit.{Submit}
 use Rattle.tcmu_types.specs.declared.answer.Submit.TheVariants as submit
 use Rattle.tcmu_types.specs.declared.answer.Enter.TheVariants as enter
+use Rattle.tcmu_types.specs.declared.dump.ItemKind.TheVariants as kind
 use Rattle.tcmu_model.specs.Lists.{first_of}
+use Rattle.tcmu_model.specs.Layout.{ring_start}
+use Rattle.tcmu_model.specs.EntryReading.{response_at}
 use Rattle.tcmu_model.specs.Lengths.{blocks_of}
 use Rattle.tcmu_model.specs.Device.{Delayed}
 use Rattle.tcmu_model.specs.Events.{is_among}
@@ -13,7 +17,7 @@ use Rattle.tcmu_model.specs.Sound.{Every, Differ, Rise, delayed_serials, is_dela
 use Rattle.tcmu_model.specs.Regions.{RegionState, size_of}
 use Rattle.tcmu_model.specs.Pending.{PendingData}
 use Rattle.tcmu_model.specs.Areas.{bytes_along}
-use Rattle.tcmu_model.specs.Sides.{PendingRow, TargetState}
+use Rattle.tcmu_model.specs.Sides.{PendingRow, Recorded, TargetState}
 use Rattle.tcmu_model.specs.Represents.{IsId, has_id, row_has}
 use Rattle.tcmu_model.specs.TargetSteps.{blocks_held, target_submit_answer, target_submitted, target_enter_answer, target_entered, target_tmr_answer, target_noted, target_ticked, target_blocked}
 use Rattle.tcmu_model.specs.TargetCleans.{target_cleaned, region_cleaned, reset_logs, target_reset}
@@ -151,19 +155,35 @@ is_reset (Blocks b) = false
 is_reset Cleans = false
 is_reset (Resets level) = true
 
+-- the first k items are cleared, and no others
+pub record ClearsFirst (before after : TargetState) (k : ℕ) : Type 0 where
+  pub items : after.items ≡ drop k before.items
+  pub cleaned : after.cleaned ≡ (before.cleaned + sum_by (λ x. x.len) (take k before.items)) % before.settings.ring
+
 -- a clean has stopped at an id that no command has, and keeps it
-pub record StopsAt (id : ℕ) (t : TargetState) : Type 0 where
+pub record StopsAt (r : RegionState) (id : ℕ) (t : TargetState) : Type 0 where
   pub kept : t.broken ≡ Some id
   pub none : first_of (has_id id) t.rows ≡ None
+  -- the item there is a command's, and stays, and the id stands in its entry
+  pub len : ℕ
+  pub rest : List Recorded
+  pub item : t.items ≡ record { kind = kind.Cmd; len = len } ∷ rest
+  pub read : (response_at r.front (ring_start + t.cleaned)).id ≡ id
 
--- a target with nothing in it, which has logged what was left behind a clean
-pub record Emptied (cleaned : TargetState) (level : ℕ) (t : TargetState) : Type 0 where
+-- a target with nothing in it and no place left, which has logged what was left behind a clean; the moment and the bit stay
+pub record Emptied (before : TargetState) (level : ℕ) (t : TargetState) : Type 0 where
   pub rows : t.rows ≡ []
   pub delayed : t.delayed ≡ []
   pub items : t.items ≡ []
+  pub cleaned : t.cleaned ≡ 0
+  pub laid : t.laid ≡ 0
+  pub cleared : t.cleared ≡ 0
   pub broken : t.broken ≡ None
-  pub accepted : t.accepted ≡ cleaned.accepted
-  pub log : t.log ≡ cleaned.log ++ reset_logs cleaned level
+  pub settings : t.settings ≡ before.settings
+  pub now : t.now ≡ before.now
+  pub blocked : t.blocked ≡ before.blocked
+  pub accepted : t.accepted ≡ before.accepted
+  pub log : t.log ≡ before.log ++ reset_logs before level
 
 -- ==== the commands of a list of calls
 
@@ -202,13 +222,16 @@ pub record IsRowOf (cs : List CommandData) (pages : ℕ) (p : PendingData) : Typ
   pub in_len : p.in_len ≡ command.in_len
   pub count : length p.blocks ≡ blocks_of pages command
 
--- a completion is for its command's initiator and tag, with no more bytes than were asked for
+-- a completion is for its command's initiator and tag, with no more bytes than were asked for; it has sense data exactly with CHECK
+-- CONDITION, and bytes only with GOOD
 pub record IsDoneOf (cs : List CommandData) (e : DoneData) : Type 0 where
   pub command : CommandData
   pub serial : HasSerial cs e.serial command
   pub init : e.init ≡ command.init
   pub tag : e.tag ≡ command.tag
   pub short : length e.payload ≤ command.in_len
+  pub sense : is_some e.sense ≡ (e.status == 2)
+  pub bytes : e.status ≢ 0 → e.payload ≡ []
 
 -- all that a target has is of the commands that it accepted
 pub record IsOfCommands (cs : List CommandData) (t : TargetState) : Type 0 where

@@ -1,12 +1,15 @@
 -- What the user side keeps over any bytes that the target left, and which bytes of the region it changes.
-use Rattle.std.specs.Prelude.{◌≡◌, ◌≢◌, ◌⊎◌, ℕ, ◌+◌, ◌-◌, ◌%◌, ◌≤◌, ◌<◌, List, length, slice_get, Option, Some}
+use Rattle.std.specs.Prelude.{◌≡◌, ◌≢◌, ◌⊎◌, ℕ, ◌+◌, ◌-◌, ◌%◌, ◌≤◌, ◌<◌, List, drop, length, slice_get, Option, Some}
+use Rattle.std.specs.List.{count_by, sum_by}
 use Rattle.tcmu_model.specs.Layout.{ring_start, data_start, tail_place}
 use Rattle.tcmu_model.specs.MailboxReading.{IsRingSize}
 use Rattle.tcmu_model.specs.EntryReading.{op_at}
-use Rattle.tcmu_model.specs.Regions.{RegionState}
+use Rattle.tcmu_model.specs.Lengths.{block_size}
+use Rattle.tcmu_model.specs.Regions.{HaveSize, RegionState, numbers_of}
 use Rattle.tcmu_model.specs.Sound.{Every}
-use Rattle.tcmu_model.specs.Sides.{UserState}
+use Rattle.tcmu_model.specs.Sides.{JobState, Moved, Parked, UserState}
 use Rattle.ring_laws.specs.RingKept.{IsPlace}
+use Rattle.tcmu_model.specs.UserSteps.{is_cmd}
 use Rattle.tcmu_model.specs.UserNext.{NextAnswer, Job, Note, Nothing, BadMailbox, BadEntry, region_lent}
 
 -- ==== the user side's own records
@@ -19,9 +22,53 @@ pub record UserSound (u : UserState) : Type 0 where
   -- a response fits at each kept offset
   pub offsets : Every (λ at. at + 112 ≤ u.ring) u.offsets
 
+-- the user side's counts and its records are of the same entries
+pub record UserCounts (u : UserState) : Type 0 where
+  -- the next entry begins where the items that were passed end
+  pub reach : u.place ≡ (u.tail + sum_by (λ x. x.len) u.items) % u.ring
+  -- each command that was passed has its entry, used for an answer or kept
+  pub entries : u.placed + length u.offsets ≡ u.dispatched
+  -- each job has an entry that is kept
+  pub owed : length u.jobs ≤ length u.offsets
+  pub commands : u.published + count_by is_cmd u.items ≡ u.dispatched
+  -- no command's entry is published that has no answer
+  pub behind : u.published ≤ u.placed
+
+-- as many entries, the first that were kept, are used as jobs have their answers in them
+pub record UsesEntries (u after : UserState) (k : ℕ) : Type 0 where
+  pub offsets : after.offsets ≡ drop k u.offsets
+  pub placed : after.placed ≡ u.placed + k
+  pub jobs : length after.jobs + k ≡ length u.jobs
+
 -- a region of the ring size that the user side read when it was attached
 abbrev pub HasRing : RegionState → UserState → Type 0
 HasRing r u = length r.front ≡ data_start u.ring
+
+-- a region whose blocks have as many pages as the user side read when it was attached
+abbrev pub HasPages : RegionState → UserState → Type 0
+HasPages r u = r.pages ≡ u.pages
+
+-- ==== jobs
+
+-- the blocks that a job has are as many as its iovecs name, each of a block's size
+abbrev pub IsWholeJob : UserState → JobState → Type 0
+IsWholeJob u job =
+    (parts : List (List ℕ)) → job.carried ≡ Moved parts →
+    HaveSize (block_size u.pages) parts × (length parts ≡ length (numbers_of (data_start u.ring) (block_size u.pages) job.iovs))
+
+-- so are those of each job that has its reply
+abbrev pub AreWholeJobs : UserState → Type 0
+AreWholeJobs u = Every (λ g. (p : Parked) → g.parked ≡ Some p → IsWholeJob u p.job) u.jobs
+
+-- ==== a fault
+
+-- a fault of the mailbox or of an entry
+abbrev pub IsFault : NextAnswer → Type 0
+IsFault (Job job) = ⊥
+IsFault (Note type_ ids) = ⊥
+IsFault Nothing = ⊥
+IsFault (BadMailbox fault) = Unit {0}
+IsFault (BadEntry at fault) = Unit {0}
 
 -- ==== what changes of a region
 

@@ -8,10 +8,10 @@ ghost use Rattle.tcmu_model.specs.Sides.{TargetState};
 ghost use Rattle.tcmu_model.specs.Sound.{Differ, Every, times_logged};
 ghost use Rattle.tcmu_model.specs.Represents.{IsId};
 ghost use Rattle.tcmu_model.specs.TargetSteps.{blocks_held, fits_in, head_in, opening_target, pad_in, place_in};
-ghost use Rattle.tcmu_model.specs.TargetCleans.{BadTail, Broken, target_clean_answer, target_cleaned, target_reset};
+ghost use Rattle.tcmu_model.specs.TargetCleans.{BadTail, Broken, Logged, tail_read, target_clean_answer, target_cleaned, target_reset};
 ghost use Rattle.ring_laws.specs.CalledOn.{CalledOn, region_called};
-ghost use Rattle.ring_laws.specs.RingKept.{RingKept};
-ghost use Rattle.ring_laws.specs.Calls.{CallLogs, CallMade, Called, CanCall, CleanLogs, Emptied, HasSerial, IsDoneOf, IsRowOf, StopsAt, TargetCall, TargetSound, Unchanged, accepted_along, is_given, is_reset, target_called, times_delayed, times_pending};
+ghost use Rattle.ring_laws.specs.RingKept.{RingKept, RowsKept};
+ghost use Rattle.ring_laws.specs.Calls.{CallLogs, CallMade, Called, CanCall, CleanLogs, ClearsFirst, Emptied, HasSerial, IsDoneOf, IsRowOf, StopsAt, TargetCall, TargetSound, Unchanged, accepted_along, is_given, is_reset, target_called, times_delayed, times_pending};
 
 /// The target is sound as it opens, and each of its calls keeps it so, on a region of any bytes and any area; so it is after any list of
 /// calls. No call takes a completion back, and the bytes of each new one are the first along its own command's blocks in the region at that
@@ -44,7 +44,7 @@ pub fn held_law()
 
 /// Over the same, the serial of the k-th command that was accepted is k. Each pending command has its command's initiator, tag and data-in
 /// length, and as many blocks as its command needs; each that waits is as it was accepted; and each completion is for its command's
-/// initiator and tag, with no more bytes than its command asked for.
+/// initiator and tag, with no more bytes than its command asked for, sense data exactly with CHECK CONDITION, and bytes only with GOOD.
 pub fn commands_law()
     ensures count { (s : SettingsData) (calls : List CallMade) (t : TargetState) → Called (opening_target s) calls t → length (accepted_along (opening_target s) calls) ≡ t.accepted }
     ensures rows { (s : SettingsData) (calls : List CallMade) (t : TargetState) → Called (opening_target s) calls t →
@@ -78,18 +78,29 @@ pub fn any_ring_law()
         length (region_called r t call).front ≡ length r.front }
 {}
 
+/// The target's items and its rows are of the same commands, over any list of calls, so there are fewer of them than ids.
+pub fn any_rows_law()
+    ensures all { (s : SettingsData) (calls : List CallMade) (t : TargetState) → Called (opening_target s) calls t → RowsKept t }
+    ensures each { (r : RegionState) (t : TargetState) (call : TargetCall) → RowsKept t → RowsKept (target_called r t call) }
+    ensures few { (s : SettingsData) (calls : List CallMade) (t : TargetState) → IsSettings s → Called (opening_target s) calls t → length t.rows < 65535 }
+{}
+
 /// Whatever the region holds, a clean logs completions of commands that it takes out, each with the first bytes along its own blocks, and
-/// no others. With a kept id, which stays up to a reset, or with a tail that is no item's end, it changes nothing. An id that it stops at
-/// is no command's.
+/// no others. It clears the first items, up to the tail where it comes to no fault. With a kept id, which stays up to a reset, or with a
+/// tail that is no item's end, it changes nothing. An id that it stops at is no command's, and stands in the entry of the first item that
+/// stays.
 pub fn any_clean_law()
     ensures logs { (r : RegionState) (t : TargetState) → TargetSound t → CleanLogs r t (target_cleaned r t) }
     ensures kept { (r : RegionState) (t : TargetState) (id : ℕ) → t.broken ≡ Some id → (target_clean_answer r t ≡ Broken id) × Unchanged r t }
     ensures stays { (r : RegionState) (t : TargetState) (call : TargetCall) (id : ℕ) → t.broken ≡ Some id → is_reset call ≡ false → (target_called r t call).broken ≡ Some id }
     ensures bad_tail { (r : RegionState) (t : TargetState) (tail : ℕ) → target_clean_answer r t ≡ BadTail tail → Unchanged r t }
-    ensures stops { (r : RegionState) (t : TargetState) (id : ℕ) → t.broken ≡ None → target_clean_answer r t ≡ Broken id → StopsAt id (target_cleaned r t) }
+    ensures stops { (r : RegionState) (t : TargetState) (id : ℕ) → t.broken ≡ None → target_clean_answer r t ≡ Broken id → StopsAt r id (target_cleaned r t) }
+    ensures front { (r : RegionState) (t : TargetState) → t.cleaned < t.settings.ring → (k : ℕ) × ClearsFirst t (target_cleaned r t) k }
+    ensures to_tail { (r : RegionState) (t : TargetState) (n : ℕ) → target_clean_answer r t ≡ Logged n → (target_cleaned r t).cleaned ≡ tail_read r }
 {}
 
-/// A reset empties the target, whatever the region holds: after what a clean would log, all that is left is logged.
+/// A reset empties the target, whatever the region holds: after what a clean would log, all that is left is logged. Its record of the ring
+/// begins at place 0 again, and the moment stays.
 pub fn any_reset_law()
     ensures empties { (r : RegionState) (t : TargetState) (level : ℕ) → Emptied (target_cleaned r t) level (target_reset r t level) }
 {}

@@ -1,21 +1,24 @@
 //! What laying a command keeps, at a submit or when it enters.
 ghost use Rattle.std.specs.Prelude.{◌≡◌, ◌<◌, ℕ, false, List, map};
 ghost use Rattle.tcmu_types.specs.Data.{CommandData};
+ghost use Rattle.tcmu_model.specs.Areas.{IsHome};
+ghost use Rattle.tcmu_model.specs.Lists.{above_all};
 ghost use Rattle.tcmu_model.specs.RingState.{serials_in};
 ghost use Rattle.tcmu_model.specs.Device.{DeviceState};
 ghost use Rattle.tcmu_model.specs.Events.{is_among, with_command};
 ghost use Rattle.tcmu_model.specs.BlockLists.{Taken, with_taken};
-ghost use Rattle.tcmu_model.specs.Regions.{RegionState};
+ghost use Rattle.tcmu_model.specs.Regions.{RegionState, grown_to, size_of};
 ghost use Rattle.tcmu_model.specs.Sound.{Every, IsSound};
 ghost use Rattle.tcmu_model.specs.Sides.{InHand, TargetState, UserState};
-ghost use Rattle.tcmu_model.specs.TargetSteps.{region_laid, target_laid};
+ghost use Rattle.tcmu_model.specs.TargetSteps.{blocks_given, region_laid, target_laid};
 ghost use Rattle.tcmu_model.specs.Owned.{HasRoom, ListsSound};
 ghost use Rattle.tcmu_model.specs.Represents.{BlocksStand, IdsStand, IsId, JobsStand, NotesStand, RingStands, TargetKeeps, UserKeeps};
 ghost use Rattle.ring_laws.specs.Sizes.{IsSized};
 
 /// A command is laid, at a submit or when it enters, under an id that none has. The ring stands, with the ids in it; a note's id that is
 /// left over may be the new command's, which is laid behind the note. The blocks stand with their data, where the new ones are cleared or
-/// have the payload, and keep their size. No job is given, both sides' records follow, and the block lists stay sound.
+/// have the payload, and keep their size; each of them is at home once the area has grown, so none that is lent is written. No job is
+/// given, both sides' records follow, and the block lists stay sound.
 pub fn laying_law()
     ensures ring { (r : RegionState) (t : TargetState) (d : DeviceState) (lists : List Taken) (s : ℕ) (c : CommandData) (id : ℕ) →
         IsSound d → ListsSound d lists → RingStands r.front t.items d lists → TargetKeeps t d lists → HasRoom d c → IsId id →
@@ -33,6 +36,9 @@ pub fn laying_law()
         IsSound d → ListsSound d lists → IsSized r → r.pages ≡ d.settings.pages → BlocksStand r.blocks d lists →
         TargetKeeps t d lists → HasRoom d c → Every (λ k. k < s) (serials_in d.ring.laid) →
         BlocksStand (region_laid r t c id).blocks (with_command d s c) (with_taken d lists s c) }
+    ensures home { (r : RegionState) (t : TargetState) (d : DeviceState) (lists : List Taken) (c : CommandData) →
+        IsSound d → ListsSound d lists → IsSized r → r.pages ≡ d.settings.pages → BlocksStand r.blocks d lists → TargetKeeps t d lists → HasRoom d c →
+        Every (IsHome (size_of r) (grown_to r (above_all (blocks_given t c))).blocks) (blocks_given t c) }
     ensures jobs { (user : UserState) (hand : List InHand) (t : TargetState) (d : DeviceState) (lists : List Taken) (s : ℕ) (c : CommandData) (id : ℕ) →
         IsSound d → ListsSound d lists → JobsStand user hand t.rows d lists → Every (λ k. k < s) (serials_in d.ring.laid) →
         JobsStand user hand (target_laid t s c id).rows (with_command d s c) (with_taken d lists s c) }

@@ -1,4 +1,9 @@
 use Rattle.ring_laws.proofs.AnyNext.{next_keeps, next_sizes, next_ring}
+use Rattle.ring_laws.proofs.AnyFaults.{next_faults, next_mailbox, next_entry}
+use Rattle.ring_laws.proofs.AnyJobs.{next_inside}
+use Rattle.ring_laws.proofs.AnyHeads.{next_nothing}
+use Rattle.ring_laws.proofs.AnyCounts.{next_counts}
+use Rattle.ring_laws.proofs.AnyWhole.{next_job, next_jobs, next_pages}
 use Rattle.ring_laws.proofs.any_region.next_law.Goals as goal
 
 pub returns : goal.returns
@@ -9,4 +14,13 @@ returns c =
       sizes = next_sizes;
       bits = λ r u h e. (next_keeps r u h e).bits;
       blocks = λ r u h e. (next_keeps r u h e).blocks;
+      counts = next_counts;
+      pages = next_pages;
+      whole = next_job;
+      jobs = next_jobs;
+      nothing = next_nothing;
+      inside = next_inside;
+      faults = next_faults;
+      mailbox = next_mailbox;
+      entry = next_entry;
     }

@@ -1,5 +1,5 @@
-use Rattle.ring_laws.proofs.HandTells.{answered_handled, asked_out, can_respond, job_asked, not_handled}
+use Rattle.ring_laws.proofs.HandTells.{answered_handled, asked_data, asked_out, can_respond, job_asked, not_handled}
 use Rattle.ring_laws.proofs.in_hand.hand_law.Goals as goal
 
 pub returns : goal.returns
-returns c = record { asked = asked_out; answered = answered_handled; job = job_asked; begins = can_respond; refused = not_handled }
+returns c = record { asked = asked_out; answered = answered_handled; job = job_asked; request = asked_data; begins = can_respond; refused = not_handled }

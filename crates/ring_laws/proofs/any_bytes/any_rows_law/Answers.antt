@@ -1,0 +1,5 @@
+use Rattle.ring_laws.proofs.AnyRows.{rows_of_opening, rows_called, rows_few}
+use Rattle.ring_laws.proofs.any_bytes.any_rows_law.Goals as goal
+
+pub returns : goal.returns
+returns c = record { all = rows_of_opening; each = rows_called; few = rows_few }
