@@ -1,8 +1,6 @@
 //! What clean, tick, reset and restart do to the rows and the log.
 ghost use Rattle.std.specs.Prelude.{◌≡◌, ◌+◌, ◌-◌, ◌≤◌, [], ◌++◌, length, take, drop, map};
 ghost use Rattle.std.specs.List.{filter, count_by};
-ghost use Rattle.tcmu_model.specs.Lists.{first_of, without_first};
-ghost use Rattle.tcmu_model.specs.Device.{is_at};
 ghost use Rattle.tcmu_model.specs.Events.{finish, finish_all, expire, is_due, expiry, is_open, reset_completion, lose, is_losing};
 ghost use Rattle.tcmu_model.specs.RingState.{cleared_commands, published_commands};
 ghost use Rattle.tcmu_path.specs.Fresh.{AreAway};
@@ -130,17 +128,6 @@ fn losing(rows: &VecDeque<Row>, answered: &[u64]) -> u64
     rows.iter().filter(|row| row.is_losing(answered)).count() as u64
 }
 
-/// Loses the commands that a restart takes, and counts them.
-fn lose_all(rows: &mut Rows, answered: &[u64]) -> u64
-    ensures rows { rows.new.items ≡ map (lose answered.now) rows.old.items }
-    ensures count { result ≡ count_by (is_losing answered.now) rows.old.items }
-    ensures kept { KeepsRoom rows.old.items rows.new.items }
-{
-    let count = losing(rows.all(), answered);
-    rows.mark_lost(answered);
-    count
-}
-
 /// The answers that are published and not cleared.
 fn published<'a>(placed: &'a Serials, ring: &Ring) -> &'a [u64]
     requires { published_commands ring.now ≤ length placed.now.items }
@@ -192,5 +179,7 @@ pub fn lose_unpublished(rows: &mut Rows, placed: &Serials, ring: &Ring) -> u64
     ensures kept { KeepsRoom rows.old.items rows.new.items }
 {
     let serials = published(placed, ring);
-    lose_all(rows, serials)
+    let count = losing(rows.all(), serials);
+    rows.mark_lost(serials);
+    count
 }

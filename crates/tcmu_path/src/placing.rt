@@ -2,7 +2,7 @@
 ghost use Rattle.std.specs.Prelude.{◌≡◌, ℕ, ◌≤◌, List, [], ◌∷◌, ◌++◌, length, take, true, false, if◌then◌else◌};
 ghost use Rattle.std.specs.List.{list_any};
 ghost use Rattle.tcmu_model.specs.RingState.{serial_in, serials_in};
-ghost use Rattle.tcmu_model.specs.declared.state.CommandState.TheVariants.{Handled, Parked, Placed};
+ghost use Rattle.tcmu_model.specs.declared.state.CommandState.TheVariants.{Parked, Placed};
 ghost use Rattle.tcmu_model.specs.Device.{is_at};
 ghost use Rattle.tcmu_model.specs.Events.{turned, with_placed, run_placed, is_among};
 ghost use Rattle.tcmu_model.specs.Sound.{Every, Differ};
@@ -11,17 +11,6 @@ ghost use Rattle.tcmu_path.specs.Room.{to_place, KeepsRoom};
 use crate::ring::{Ring, RingItem};
 use crate::rows::Rows;
 use tcmu_types::Serials;
-
-/// Parks the handled command of a serial, where it is there.
-pub fn park(rows: &mut Rows, serial: u64) -> bool
-    ensures found { result ≡ list_any (is_at serial Handled) rows.old.items }
-    ensures rows { rows.new.items ≡ turned serial Handled Parked rows.old.items }
-    ensures none { result ≡ false → rows.new.items ≡ rows.old.items }
-    ensures parked { result ≡ true → list_any (is_at serial Parked) rows.new.items ≡ true }
-    ensures kept { KeepsRoom rows.old.items rows.new.items }
-{
-    rows.park(serial)
-}
 
 /// Places one parked command, and tells whether it was there.
 fn place_one(rows: &mut Rows, placed: &mut Serials, serial: u64) -> bool

@@ -1,12 +1,13 @@
 //! The unfinished commands of a plain device, in rising serial. One is found by bisection, and the first is taken out without moving
 //! the others; of the states that the drain asks for, the least serial is kept.
-ghost use Rattle.std.specs.Prelude.{◌≡◌, ℕ, ◌<◌, ◌≤◌, ◌^◌, [], ◌∷◌, ◌++◌, length, map, false, None, Some, OnOk, MatchOption, slice_index_or};
+ghost use Rattle.std.specs.Prelude.{◌≡◌, ℕ, ◌<◌, ◌≤◌, ◌^◌, [], ◌∷◌, ◌++◌, length, map, true, false, None, Some, OnOk, MatchOption, slice_index_or};
 ghost use Rattle.std.specs.List.{list_any, count_by};
 ghost use Rattle.tcmu_model.specs.declared.state.CommandState.TheVariants.{Waiting, Out, Handled, Parked, Placed};
 ghost use Rattle.tcmu_model.specs.Lists.{IsFirst, first_of, with_first, without_first};
 ghost use Rattle.tcmu_model.specs.Device.{Unfinished, is_at, has_state, has_serial};
 ghost use Rattle.tcmu_model.specs.Events.{unknown_serial, is_in_hand, lose, expire, with_reply, turned};
 ghost use Rattle.tcmu_model.specs.Sound.{Every};
+ghost use Rattle.tcmu_path.specs.Room.{KeepsRoom};
 ghost use Rattle.tcmu_path.specs.Tallies.{serials_of, least_in};
 
 use crate::row::Row;
@@ -175,7 +176,8 @@ impl Rows {
 
     /// Sends the waiting command of a serial out, where it is there.
     pub fn send(&mut self, serial: u64)
-        ensures { self.new.items ≡ turned serial Waiting Out self.old.items }
+        ensures turned { self.new.items ≡ turned serial Waiting Out self.old.items }
+        ensures kept { KeepsRoom self.old.items self.new.items }
     {
         let _few = self.len();
         if let Some(at) = self.place_of(serial, CommandState::Waiting) {
@@ -188,7 +190,8 @@ impl Rows {
     /// Keeps the reply to the command of a serial that is out, where it is there.
     pub fn keep(&mut self, serial: u64, reply: &Reply)
         requires { (u : Unfinished) → first_of (is_at serial Out) self.old.items ≡ Some u → length reply.now.payload ≤ u.command.in_len }
-        ensures { self.new.items ≡ with_first (is_at serial Out) (with_reply reply.now) self.old.items }
+        ensures items { self.new.items ≡ with_first (is_at serial Out) (with_reply reply.now) self.old.items }
+        ensures kept { KeepsRoom self.old.items self.new.items }
     {
         let _few = self.len();
         if let Some(at) = self.place_of(serial, CommandState::Out) {
@@ -204,6 +207,8 @@ impl Rows {
         ensures found { result ≡ list_any (is_at serial Handled) self.old.items }
         ensures turned { self.new.items ≡ turned serial Handled Parked self.old.items }
         ensures none { result ≡ false → self.new.items ≡ self.old.items }
+        ensures parked { result ≡ true → list_any (is_at serial Parked) self.new.items ≡ true }
+        ensures kept { KeepsRoom self.old.items self.new.items }
     {
         match self.place_of(serial, CommandState::Handled) {
             Some(at) => {
@@ -222,6 +227,7 @@ impl Rows {
         ensures found { result ≡ list_any (is_at serial Parked) self.old.items }
         ensures turned { self.new.items ≡ turned serial Parked Placed self.old.items }
         ensures none { result ≡ false → self.new.items ≡ self.old.items }
+        ensures kept { KeepsRoom self.old.items self.new.items }
     {
         match self.place_of(serial, CommandState::Parked) {
             Some(at) => {
@@ -246,14 +252,16 @@ impl Rows {
 
     /// Marks the commands that are due.
     pub fn mark_due(&mut self, now: u64)
-        ensures { self.new.items ≡ map (expire now) self.old.items }
+        ensures items { self.new.items ≡ map (expire now) self.old.items }
+        ensures kept { KeepsRoom self.old.items self.new.items }
     {
         expire_each(&mut self.rows, now);
     }
 
     /// Loses the commands that a restart takes: those in hand are among them.
     pub fn mark_lost(&mut self, answered: &[u64])
-        ensures { self.new.items ≡ map (lose answered.now) self.old.items }
+        ensures items { self.new.items ≡ map (lose answered.now) self.old.items }
+        ensures kept { KeepsRoom self.old.items self.new.items }
     {
         lose_each(&mut self.rows, answered);
         self.out = Tally::new();

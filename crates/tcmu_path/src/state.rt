@@ -15,8 +15,8 @@ mod laying;
 mod shown;
 
 use crate::books::{close_all, expire_all, finish_published, lose_unpublished};
-use crate::dispatching::{dispatch_item, keep_reply};
-use crate::placing::{park, place, place_in_order};
+use crate::dispatching::dispatch_item;
+use crate::placing::{place, place_in_order};
 use crate::ring::Ring;
 use crate::rows::{Rows, handlers_out};
 use crate::waiting::Queue;
@@ -244,7 +244,7 @@ impl State {
         ensures after { self.new ≡ after_respond self.old serial }
         ensures accepted { self.new.accepted ≡ self.old.accepted }
     {
-        if !park(&mut self.rows, serial) {
+        if !self.rows.park(serial) {
             return Respond::NotHandled(serial);
         }
         self.place(serial);
@@ -297,7 +297,7 @@ impl State {
         ensures reply { IsReply reply.now }
     {
         let _status = reply.status;
-        keep_reply(&mut self.rows, serial, reply);
+        self.rows.keep(serial, reply);
     }
 
     /// Logs all that is open as a reset of a level ends it, and forgets all.
