@@ -218,7 +218,7 @@ impl Row {
             return None;
         }
         let head = head?;
-        if head.status.0 != 0 {
+        if head.status != ScsiStatus::GOOD {
             buffer.clear();
         } else if !read_len {
             let missing = command.in_len() as usize - buffer.len();
