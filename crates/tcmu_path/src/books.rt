@@ -16,29 +16,20 @@ use tcmu_model::blocks_of;
 use tcmu_types::{Done, Listed, Serials, Settings};
 
 /// Finishes the placed command of a serial, where it is there, and logs its completion.
-fn finish(
-    rows: &mut Rows,
-    log: &mut Listed<Done>,
-    held: &mut u32,
-    serial: u64,
-    pages: u32,
-    read_len: bool,
-)
+fn finish(rows: &mut Rows, log: &mut Listed<Done>, held: &mut u32, serial: u64, settings: &Settings)
     requires room { to_log rows.old.items ≤ log.old.spare }
-    requires low { 1 ≤ pages }
-    requires high { pages ≤ 16 }
-    requires held { held.old ≡ held_by pages rows.old.items }
-    ensures rows { rows.new.items ≡ (finish read_len (record { unfinished = rows.old.items; log = log.old.items }) serial).unfinished }
-    ensures log { log.new.items ≡ (finish read_len (record { unfinished = rows.old.items; log = log.old.items }) serial).log }
+    requires held { held.old ≡ held_by settings.now.pages rows.old.items }
+    ensures rows { rows.new.items ≡ (finish settings.now.flags.read_len (record { unfinished = rows.old.items; log = log.old.items }) serial).unfinished }
+    ensures log { log.new.items ≡ (finish settings.now.flags.read_len (record { unfinished = rows.old.items; log = log.old.items }) serial).log }
     ensures room { to_log rows.new.items + log.old.spare ≤ log.new.spare + to_log rows.old.items }
-    ensures held { held.new ≡ held_by pages rows.new.items }
+    ensures held { held.new ≡ held_by settings.now.pages rows.new.items }
     ensures less { held.new ≤ held.old }
     ensures to_place { to_place rows.new.items ≤ to_place rows.old.items }
     ensures grows { length log.old.items ≤ length log.new.items }
 {
     if let Some(row) = rows.take_placed(serial) {
-        *held -= blocks_of(row.command(), pages);
-        if let Some(done) = row.into_completion(read_len) {
+        *held -= blocks_of(row.command(), settings.pages);
+        if let Some(done) = row.into_completion(settings.flags.read_len) {
             log.push(done);
         }
     }
@@ -50,23 +41,20 @@ fn finish_all(
     log: &mut Listed<Done>,
     held: &mut u32,
     serials: &[u64],
-    pages: u32,
-    read_len: bool,
+    settings: &Settings,
 )
     requires room { to_log rows.old.items ≤ log.old.spare }
-    requires low { 1 ≤ pages }
-    requires high { pages ≤ 16 }
-    requires held { held.old ≡ held_by pages rows.old.items }
-    ensures rows { rows.new.items ≡ (finish_all read_len (record { unfinished = rows.old.items; log = log.old.items }) serials.now).unfinished }
-    ensures log { log.new.items ≡ (finish_all read_len (record { unfinished = rows.old.items; log = log.old.items }) serials.now).log }
+    requires held { held.old ≡ held_by settings.now.pages rows.old.items }
+    ensures rows { rows.new.items ≡ (finish_all settings.now.flags.read_len (record { unfinished = rows.old.items; log = log.old.items }) serials.now).unfinished }
+    ensures log { log.new.items ≡ (finish_all settings.now.flags.read_len (record { unfinished = rows.old.items; log = log.old.items }) serials.now).log }
     ensures room { to_log rows.new.items + log.old.spare ≤ log.new.spare + to_log rows.old.items }
-    ensures held { held.new ≡ held_by pages rows.new.items }
+    ensures held { held.new ≡ held_by settings.now.pages rows.new.items }
     ensures less { held.new ≤ held.old }
     ensures to_place { to_place rows.new.items ≤ to_place rows.old.items }
     ensures grows { length log.old.items ≤ length log.new.items }
 {
     for serial in serials {
-        finish(rows, log, held, *serial, pages, read_len);
+        finish(rows, log, held, *serial, settings);
     }
 }
 
@@ -160,14 +148,7 @@ pub fn finish_published(
     ensures grows { length log.old.items ≤ length log.new.items }
 {
     let serials = published(placed, ring);
-    finish_all(
-        rows,
-        log,
-        held,
-        serials,
-        settings.pages,
-        settings.flags.read_len,
-    );
+    finish_all(rows, log, held, serials, settings);
 }
 
 /// Loses the commands that a restart takes, and counts them. Of the answers that are cleared no command is left.
