@@ -3,7 +3,8 @@ ghost use Rattle.std.specs.Prelude.{◌≡◌, ◌+◌, ◌-◌, ◌≤◌, [], 
 ghost use Rattle.std.specs.List.{filter, count_by};
 ghost use Rattle.tcmu_model.specs.Events.{finish, finish_all, expire, is_due, expiry, is_open, reset_completion, lose, is_losing};
 ghost use Rattle.tcmu_model.specs.RingState.{cleared_commands, published_commands};
-ghost use Rattle.tcmu_path.specs.Fresh.{AreAway};
+ghost use Rattle.tcmu_path.specs.Away.{AreAway};
+ghost use Rattle.tcmu_path.specs.Changing.{books_of};
 ghost use Rattle.tcmu_path.specs.Room.{to_place, to_log, held_by, KeepsRoom};
 
 use crate::closings::reset_completion;
@@ -19,8 +20,7 @@ use tcmu_types::{Done, Listed, Serials, Settings};
 fn finish(rows: &mut Rows, log: &mut Listed<Done>, held: &mut u32, serial: u64, settings: &Settings)
     requires room { to_log rows.old.items ≤ log.old.spare }
     requires held { held.old ≡ held_by settings.now.pages rows.old.items }
-    ensures rows { rows.new.items ≡ (finish settings.now.flags.read_len (record { unfinished = rows.old.items; log = log.old.items }) serial).unfinished }
-    ensures log { log.new.items ≡ (finish settings.now.flags.read_len (record { unfinished = rows.old.items; log = log.old.items }) serial).log }
+    ensures books { books_of rows.new log.new ≡ finish settings.now.flags.read_len (books_of rows.old log.old) serial }
     ensures room { to_log rows.new.items + log.old.spare ≤ log.new.spare + to_log rows.old.items }
     ensures held { held.new ≡ held_by settings.now.pages rows.new.items }
     ensures less { held.new ≤ held.old }
@@ -45,8 +45,7 @@ fn finish_all(
 )
     requires room { to_log rows.old.items ≤ log.old.spare }
     requires held { held.old ≡ held_by settings.now.pages rows.old.items }
-    ensures rows { rows.new.items ≡ (finish_all settings.now.flags.read_len (record { unfinished = rows.old.items; log = log.old.items }) serials.now).unfinished }
-    ensures log { log.new.items ≡ (finish_all settings.now.flags.read_len (record { unfinished = rows.old.items; log = log.old.items }) serials.now).log }
+    ensures books { books_of rows.new log.new ≡ finish_all settings.now.flags.read_len (books_of rows.old log.old) serials.now }
     ensures room { to_log rows.new.items + log.old.spare ≤ log.new.spare + to_log rows.old.items }
     ensures held { held.new ≡ held_by settings.now.pages rows.new.items }
     ensures less { held.new ≤ held.old }
@@ -140,8 +139,7 @@ pub fn finish_published(
     requires held { held.old ≡ held_by settings.now.pages rows.old.items }
     requires published { published_commands ring.now ≤ length placed.now.items }
     requires away { AreAway (take (cleared_commands ring.now) placed.now.items) rows.old.items }
-    ensures rows { rows.new.items ≡ (finish_all settings.now.flags.read_len (record { unfinished = rows.old.items; log = log.old.items }) (take (published_commands ring.now) placed.now.items)).unfinished }
-    ensures log { log.new.items ≡ (finish_all settings.now.flags.read_len (record { unfinished = rows.old.items; log = log.old.items }) (take (published_commands ring.now) placed.now.items)).log }
+    ensures books { books_of rows.new log.new ≡ finish_all settings.now.flags.read_len (books_of rows.old log.old) (take (published_commands ring.now) placed.now.items) }
     ensures room { to_log rows.new.items + log.old.spare ≤ log.new.spare + to_log rows.old.items }
     ensures held { held.new ≡ held_by settings.now.pages rows.new.items }
     ensures to_place { to_place rows.new.items ≤ to_place rows.old.items }

@@ -8,7 +8,7 @@ ghost use Rattle.tcmu_model.specs.Device.{Unfinished, DeviceState, opening_state
 ghost use Rattle.tcmu_model.specs.Events.{dispatch_answer, after_dispatch, command_out, after_handle, placed_by, respond_answer, after_respond, publish_answer, after_publish, clean_answer, after_clean, later, tick_answer, after_tick, block_answer, after_block, emptied, reset_answer, after_reset, restart_answer, after_restart, expire, expiry, is_due, has_left, departure, is_open, reset_completion, reset_completions};
 ghost use Rattle.tcmu_model.specs.Sound.{IsSound, Differ};
 ghost use Rattle.tcmu_path.specs.Room.{to_log, KeepsRoom};
-ghost use Rattle.tcmu_path.specs.Fresh.{with_placing};
+ghost use Rattle.tcmu_path.specs.Changing.{with_placing};
 ghost use Rattle.tcmu_path.specs.Requests.{IsRequest};
 
 mod laying;

@@ -1,7 +1,7 @@
-use Rattle.std.proofs.Common.{◌≡◌, ℕ, ◌+◌, ◌≤◌, None, true, cond, sym, ap, ◌∙◌, arith}
+use Rattle.std.proofs.Common.{◌≡◌, ℕ, List, ◌+◌, ◌≤◌, None, true, cond, sym, ap, ◌∙◌, arith}
 use Rattle.tcmu_types.specs.Data.{SettingsData}
 use Rattle.tcmu_model.specs.declared.state.CommandState.TheVariants.{Placed}
-use Rattle.tcmu_model.specs.Device.{is_at}
+use Rattle.tcmu_model.specs.Device.{Unfinished, is_at}
 use Rattle.tcmu_model.specs.Lists.{first_of, without_first}
 use Rattle.tcmu_model.specs.Lengths.{blocks_of}
 use Rattle.tcmu_model.specs.Events.{is_open}
@@ -57,10 +57,10 @@ returns-in_default-into_completion-clause-held c =
     let e : held_by c.args.settings.now.pages c.take_placed.new.self.items ≡ held_by c.args.settings.now.pages (without_first p c.args.rows.now.items) = ap (held_by c.args.settings.now.pages) c.take_placed.ensures.rest in
     omega (arith, k, b, e, c.requires.held)
 
-pub returns-in_default-clause-rows : goal.returns-in_default-clause-rows
-returns-in_default-clause-rows c =
+pub returns-in_default-clause-books : goal.returns-in_default-clause-books
+returns-in_default-clause-books c =
     let n : first_of (is_at c.args.serial Placed) c.args.rows.now.items ≡ None = sym c.in_default.ensures.row in
-    rw n (c.take_placed.ensures.rest ∙ without_first_missing (is_at c.args.serial Placed) c.args.rows.now.items n)
+    rw n (ap (λ (us : List Unfinished). record { unfinished = us; log = c.args.log.now.items }) (c.take_placed.ensures.rest ∙ without_first_missing (is_at c.args.serial Placed) c.args.rows.now.items n))
 
 pub returns-in_default-clause-room : goal.returns-in_default-clause-room
 returns-in_default-clause-room c =
