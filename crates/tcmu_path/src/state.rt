@@ -18,8 +18,8 @@ use crate::books::{close_all, expire_all, finish_published, lose_unpublished};
 use crate::dispatching::dispatch_item;
 use crate::placing::{place, place_in_order};
 use crate::ring::Ring;
-use crate::rows::{Rows, handlers_out};
-use crate::waiting::Queue;
+use crate::rows::Rows;
+use crate::waiting::DelayedCommands;
 use handler_trait::Request;
 use std::alloc::Global;
 use std::marker::Model;
@@ -41,7 +41,7 @@ pub struct State {
     accepted: u64,
     rows: Rows,
     held: u32,
-    delayed: Queue,
+    delayed: DelayedCommands,
     placed: Serials,
     passed: usize,
     log: Listed<Done>,
@@ -67,7 +67,13 @@ fn later(now: u64, n: u32) -> u64
 }
 
 /// Logs what a moment ends: commands expire, and delayed ones leave.
-fn end_by(rows: &mut Rows, delayed: &mut Queue, log: &mut Listed<Done>, alloc: Global, now: u64)
+fn end_by(
+    rows: &mut Rows,
+    delayed: &mut DelayedCommands,
+    log: &mut Listed<Done>,
+    alloc: Global,
+    now: u64,
+)
     requires { to_log rows.old.items + length delayed.old.items ≤ log.old.spare }
     ensures rows { rows.new.items ≡ map (expire now) rows.old.items }
     ensures delayed { delayed.new.items ≡ filter (λ w. not (has_left now w)) delayed.old.items }
@@ -76,11 +82,17 @@ fn end_by(rows: &mut Rows, delayed: &mut Queue, log: &mut Listed<Done>, alloc: G
     ensures kept { KeepsRoom rows.old.items rows.new.items }
 {
     expire_all(rows, log, alloc, now);
-    delayed.leave(log, alloc, now);
+    delayed.let_go_due(log, alloc, now);
 }
 
 /// Logs all that is open as a reset of a level ends it, and forgets all.
-fn end_all(rows: &mut Rows, delayed: &mut Queue, log: &mut Listed<Done>, alloc: Global, level: u8)
+fn end_all(
+    rows: &mut Rows,
+    delayed: &mut DelayedCommands,
+    log: &mut Listed<Done>,
+    alloc: Global,
+    level: u8,
+)
     requires { to_log rows.old.items + length delayed.old.items ≤ log.old.spare }
     ensures rows { rows.new.items ≡ [] }
     ensures delayed { delayed.new.items ≡ [] }
@@ -105,7 +117,7 @@ impl State {
             accepted: 0,
             rows: Rows::new(alloc),
             held: 0,
-            delayed: Queue::new(alloc),
+            delayed: DelayedCommands::new(alloc),
             placed: Serials::new(alloc),
             passed: 0,
             log: Listed::new(alloc),
@@ -344,7 +356,7 @@ impl State {
         if !self.blocked {
             return Reset::NotBlocked;
         }
-        let count = handlers_out(self.rows.all());
+        let count = self.rows.handlers_out();
         if count > 0 {
             return Reset::HandlersOut(count as u64);
         }
