@@ -97,7 +97,7 @@ fn log_open(rows: &VecDeque<Row>, log: &mut Listed<Done>, alloc: Global, level: 
     }
 }
 
-/// Logs each command that is open as a reset ends it, and forgets all.
+/// Logs each unfinished command that is open as a reset of a level ends it, and forgets the unfinished commands.
 pub fn close_all(rows: &mut Rows, log: &mut Listed<Done>, alloc: Global, level: u8)
     requires { to_log rows.old.items ≤ log.old.spare }
     ensures rows { rows.new.items ≡ [] }

@@ -108,6 +108,7 @@ fn front_with(items: &[RingItem], most: usize) -> (usize, usize)
     (items.len(), most - left)
 }
 
+/// The bytes of all these items together.
 fn lengths_of(items: &[RingItem]) -> u32
     requires { sum_by (λ i. i.len) items.now < 2 ^ 32 }
     ensures { result ≡ lengths items.now }

@@ -85,7 +85,7 @@ fn end_by(
     delayed.let_go_due(log, alloc, now);
 }
 
-/// Logs all that is open as a reset of a level ends it, and forgets all.
+/// Logs the unfinished and the delayed commands as a reset of a level ends them, and forgets them.
 fn end_all(
     rows: &mut Rows,
     delayed: &mut DelayedCommands,
@@ -312,7 +312,7 @@ impl State {
         self.rows.keep(serial, reply);
     }
 
-    /// Logs all that is open as a reset of a level ends it, and forgets all.
+    /// Logs the unfinished and the delayed commands as a reset of a level ends them, empties the ring, and attaches a user side.
     fn close(&mut self, level: u8)
         ensures after { self.new ≡ emptied self.old level }
         ensures count { length self.new.log ≡ length self.old.log + length (reset_completions self.old level) }

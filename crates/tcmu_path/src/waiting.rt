@@ -28,6 +28,7 @@ impl Model for DelayedCommand {
 }
 
 impl DelayedCommand {
+    /// Whether its time is up.
     fn has_left(&self, now: u64) -> bool
         ensures { result ≡ has_left now self.now }
     {

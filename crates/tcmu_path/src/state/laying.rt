@@ -109,7 +109,7 @@ impl State {
         self.now + self.settings.qfull as u64
     }
 
-    /// Whether commands wait where room lacks.
+    /// Whether commands wait where there is no room.
     fn waits_for_room(&self) -> bool
         ensures { result ≡ not (self.entry.now.settings.qfull == 0) }
     {
