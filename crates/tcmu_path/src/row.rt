@@ -35,10 +35,9 @@ pub struct Row {
 
 impl Model for Row {
     ghost use Rattle.tcmu_model.specs.Device.{Unfinished};
+    ghost use Rattle.tcmu_path.specs.Kept.{reply_of, HasRoom};
 
     ghost Value = { Unfinished };
-
-    ghost use Rattle.tcmu_path.specs.Kept.{reply_of, HasRoom};
 
     ghost view = { λ a. record { serial = a.serial; command = a.command; state = a.state; deadline = a.deadline; expired = a.expired; reply = reply_of a.head a.buffer.items } };
 
