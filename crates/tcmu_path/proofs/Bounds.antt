@@ -8,7 +8,7 @@ use Rattle.tcmu_model.specs.RingState.{serials_in, used}
 use Rattle.tcmu_model.specs.Device.{Unfinished, Delayed, DeviceState, has_serial}
 use Rattle.tcmu_model.specs.Events.{is_among, unknown_serial}
 use Rattle.tcmu_model.specs.Sound.{IsSound, Every, Rise, Differ, finished, delayed_serials}
-use Rattle.tcmu_path.specs.Fresh.{AreAway}
+use Rattle.tcmu_path.specs.Away.{AreAway}
 use Rattle.tcmu_model.proofs.Facts.{bounded_rows}
 use Rattle.tcmu_model.proofs.Everies.{every-filter}
 use Rattle.tcmu_path.specs.Tallies.{serials_of}

@@ -10,7 +10,7 @@ use Rattle.tcmu_model.specs.Lists.{first_of}
 use Rattle.tcmu_model.specs.Device.{Unfinished, has_state, is_at}
 use Rattle.tcmu_model.specs.Events.{is_among, is_losing, is_in_hand, lose, Books, finish, finish_all}
 use Rattle.tcmu_model.proofs.Firsts.{first_of_none}
-use Rattle.tcmu_path.specs.Fresh.{AreAway}
+use Rattle.tcmu_path.specs.Away.{AreAway}
 
 -- the first m of a list, cut at n
 pub parts : (n m : ℕ) (xs : List ℕ) → n ≤ m → take m xs ≡ take n xs ++ take (m - n) (drop n xs)

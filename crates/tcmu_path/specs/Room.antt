@@ -9,6 +9,7 @@ use Rattle.tcmu_model.specs.Lengths.{blocks_of}
 use Rattle.tcmu_model.specs.Device.{Unfinished, Delayed}
 use Rattle.tcmu_model.specs.Events.{is_open}
 
+-- in these states the answer of a command may still be placed
 abbrev pub is_placeable : CommandState → Bool
 is_placeable Waiting = true
 is_placeable Out = true
@@ -17,13 +18,15 @@ is_placeable Parked = true
 is_placeable Placed = false
 is_placeable Lost = false
 
+-- an answer to this command may still be placed
 abbrev pub may_be_placed : Unfinished → Bool
 may_be_placed u = is_placeable u.state
 
--- how many commands are to be placed, and how many completions are to be logged
+-- how many answers may still be placed
 abbrev pub to_place : List Unfinished → ℕ
 to_place us = count_by may_be_placed us
 
+-- how many completions are still to be logged
 abbrev pub to_log : List Unfinished → ℕ
 to_log us = count_by is_open us
 

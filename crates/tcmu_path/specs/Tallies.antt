@@ -9,6 +9,7 @@ use Rattle.tcmu_model.specs.Lists.{first_of, IsRising}
 use Rattle.tcmu_model.specs.Device.{Unfinished, has_state}
 use Rattle.tcmu_path.specs.declared.tally.Tally.{Tally}
 
+-- the serials of these commands, in order
 abbrev pub serials_of : List Unfinished → List ℕ
 serials_of us = map (λ u. u.serial) us
 
@@ -29,6 +30,7 @@ pub record IsTally (t : CommandState) (us : List Unfinished) (tally : Tally) : T
   pub least_is : tally.least ≡ least_in t us
   pub count_is : tally.count ≡ count_by (has_state t) us
 
+-- serials rise, and each tally is that of the commands in its state
 pub record AreRows (us : List Unfinished) (out handled : Tally) : Type 0 where
   pub rising : IsRising (serials_of us)
   pub out_is : IsTally Out us out

@@ -1,11 +1,10 @@
 //! What clean, tick, reset and restart do to the rows and the log.
 ghost use Rattle.std.specs.Prelude.{◌≡◌, ◌+◌, ◌-◌, ◌≤◌, [], ◌++◌, length, take, drop, map};
 ghost use Rattle.std.specs.List.{filter, count_by};
-ghost use Rattle.tcmu_model.specs.Lists.{first_of, without_first};
-ghost use Rattle.tcmu_model.specs.Device.{is_at};
 ghost use Rattle.tcmu_model.specs.Events.{finish, finish_all, expire, is_due, expiry, is_open, reset_completion, lose, is_losing};
 ghost use Rattle.tcmu_model.specs.RingState.{cleared_commands, published_commands};
-ghost use Rattle.tcmu_path.specs.Fresh.{AreAway};
+ghost use Rattle.tcmu_path.specs.Away.{AreAway};
+ghost use Rattle.tcmu_path.specs.Changing.{books_of};
 ghost use Rattle.tcmu_path.specs.Room.{to_place, to_log, held_by, KeepsRoom};
 
 use crate::closings::reset_completion;
@@ -18,29 +17,19 @@ use tcmu_model::blocks_of;
 use tcmu_types::{Done, Listed, Serials, Settings};
 
 /// Finishes the placed command of a serial, where it is there, and logs its completion.
-fn finish(
-    rows: &mut Rows,
-    log: &mut Listed<Done>,
-    held: &mut u32,
-    serial: u64,
-    pages: u32,
-    read_len: bool,
-)
+fn finish(rows: &mut Rows, log: &mut Listed<Done>, held: &mut u32, serial: u64, settings: &Settings)
     requires room { to_log rows.old.items ≤ log.old.spare }
-    requires low { 1 ≤ pages }
-    requires high { pages ≤ 16 }
-    requires held { held.old ≡ held_by pages rows.old.items }
-    ensures rows { rows.new.items ≡ (finish read_len (record { unfinished = rows.old.items; log = log.old.items }) serial).unfinished }
-    ensures log { log.new.items ≡ (finish read_len (record { unfinished = rows.old.items; log = log.old.items }) serial).log }
+    requires held { held.old ≡ held_by settings.now.pages rows.old.items }
+    ensures books { books_of rows.new log.new ≡ finish settings.now.flags.read_len (books_of rows.old log.old) serial }
     ensures room { to_log rows.new.items + log.old.spare ≤ log.new.spare + to_log rows.old.items }
-    ensures held { held.new ≡ held_by pages rows.new.items }
+    ensures held { held.new ≡ held_by settings.now.pages rows.new.items }
     ensures less { held.new ≤ held.old }
     ensures to_place { to_place rows.new.items ≤ to_place rows.old.items }
     ensures grows { length log.old.items ≤ length log.new.items }
 {
     if let Some(row) = rows.take_placed(serial) {
-        *held -= blocks_of(row.command(), pages);
-        if let Some(done) = row.into_completion(read_len) {
+        *held -= blocks_of(row.command(), settings.pages);
+        if let Some(done) = row.into_completion(settings.flags.read_len) {
             log.push(done);
         }
     }
@@ -52,23 +41,19 @@ fn finish_all(
     log: &mut Listed<Done>,
     held: &mut u32,
     serials: &[u64],
-    pages: u32,
-    read_len: bool,
+    settings: &Settings,
 )
     requires room { to_log rows.old.items ≤ log.old.spare }
-    requires low { 1 ≤ pages }
-    requires high { pages ≤ 16 }
-    requires held { held.old ≡ held_by pages rows.old.items }
-    ensures rows { rows.new.items ≡ (finish_all read_len (record { unfinished = rows.old.items; log = log.old.items }) serials.now).unfinished }
-    ensures log { log.new.items ≡ (finish_all read_len (record { unfinished = rows.old.items; log = log.old.items }) serials.now).log }
+    requires held { held.old ≡ held_by settings.now.pages rows.old.items }
+    ensures books { books_of rows.new log.new ≡ finish_all settings.now.flags.read_len (books_of rows.old log.old) serials.now }
     ensures room { to_log rows.new.items + log.old.spare ≤ log.new.spare + to_log rows.old.items }
-    ensures held { held.new ≡ held_by pages rows.new.items }
+    ensures held { held.new ≡ held_by settings.now.pages rows.new.items }
     ensures less { held.new ≤ held.old }
     ensures to_place { to_place rows.new.items ≤ to_place rows.old.items }
     ensures grows { length log.old.items ≤ length log.new.items }
 {
     for serial in serials {
-        finish(rows, log, held, *serial, pages, read_len);
+        finish(rows, log, held, *serial, settings);
     }
 }
 
@@ -112,7 +97,7 @@ fn log_open(rows: &VecDeque<Row>, log: &mut Listed<Done>, alloc: Global, level: 
     }
 }
 
-/// Logs each command that is open as a reset ends it, and forgets all.
+/// Logs each unfinished command that is open as a reset of a level ends it, and forgets the unfinished commands.
 pub fn close_all(rows: &mut Rows, log: &mut Listed<Done>, alloc: Global, level: u8)
     requires { to_log rows.old.items ≤ log.old.spare }
     ensures rows { rows.new.items ≡ [] }
@@ -128,17 +113,6 @@ fn losing(rows: &VecDeque<Row>, answered: &[u64]) -> u64
     ensures { result ≡ count_by (is_losing answered.now) rows.now.items }
 {
     rows.iter().filter(|row| row.is_losing(answered)).count() as u64
-}
-
-/// Loses the commands that a restart takes, and counts them.
-fn lose_all(rows: &mut Rows, answered: &[u64]) -> u64
-    ensures rows { rows.new.items ≡ map (lose answered.now) rows.old.items }
-    ensures count { result ≡ count_by (is_losing answered.now) rows.old.items }
-    ensures kept { KeepsRoom rows.old.items rows.new.items }
-{
-    let count = losing(rows.all(), answered);
-    rows.mark_lost(answered);
-    count
 }
 
 /// The answers that are published and not cleared.
@@ -165,22 +139,14 @@ pub fn finish_published(
     requires held { held.old ≡ held_by settings.now.pages rows.old.items }
     requires published { published_commands ring.now ≤ length placed.now.items }
     requires away { AreAway (take (cleared_commands ring.now) placed.now.items) rows.old.items }
-    ensures rows { rows.new.items ≡ (finish_all settings.now.flags.read_len (record { unfinished = rows.old.items; log = log.old.items }) (take (published_commands ring.now) placed.now.items)).unfinished }
-    ensures log { log.new.items ≡ (finish_all settings.now.flags.read_len (record { unfinished = rows.old.items; log = log.old.items }) (take (published_commands ring.now) placed.now.items)).log }
+    ensures books { books_of rows.new log.new ≡ finish_all settings.now.flags.read_len (books_of rows.old log.old) (take (published_commands ring.now) placed.now.items) }
     ensures room { to_log rows.new.items + log.old.spare ≤ log.new.spare + to_log rows.old.items }
     ensures held { held.new ≡ held_by settings.now.pages rows.new.items }
     ensures to_place { to_place rows.new.items ≤ to_place rows.old.items }
     ensures grows { length log.old.items ≤ length log.new.items }
 {
     let serials = published(placed, ring);
-    finish_all(
-        rows,
-        log,
-        held,
-        serials,
-        settings.pages,
-        settings.flags.read_len,
-    );
+    finish_all(rows, log, held, serials, settings);
 }
 
 /// Loses the commands that a restart takes, and counts them. Of the answers that are cleared no command is left.
@@ -192,5 +158,7 @@ pub fn lose_unpublished(rows: &mut Rows, placed: &Serials, ring: &Ring) -> u64
     ensures kept { KeepsRoom rows.old.items rows.new.items }
 {
     let serials = published(placed, ring);
-    lose_all(rows, serials)
+    let count = losing(rows.all(), serials);
+    rows.mark_lost(serials);
+    count
 }

@@ -39,7 +39,8 @@ pub fn closing(
     }
 }
 
-/// The completion of a command that a reset of a level ends: BUSY at 1, INTERNAL TARGET FAILURE at 2 (SPC-4, 4.5.6).
+/// The completion of a command that a reset of a level ends: BUSY at 1 (SAM-5, 5.3.1); HARDWARE ERROR, INTERNAL TARGET FAILURE at 2
+/// (SPC-4, 4.5.6).
 pub fn reset_completion(alloc: Global, level: u8, serial: u64, command: &Command) -> Done
     ensures { result ≡ reset_completion level serial command.now }
 {

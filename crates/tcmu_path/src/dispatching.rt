@@ -1,12 +1,10 @@
-//! What dispatch and handle do to the rows.
-ghost use Rattle.std.specs.Prelude.{◌≡◌, ℕ, ◌+◌, ◌<◌, ◌≤◌, [], ◌∷◌, ◌++◌, length, IfOk, OnOk, OnErr, Some};
+//! What is appended to the rows, and what dispatch does to them.
+ghost use Rattle.std.specs.Prelude.{◌≡◌, ℕ, ◌+◌, ◌<◌, ◌≤◌, [], ◌∷◌, ◌++◌, IfOk, OnOk, OnErr};
 ghost use Rattle.std.specs.List.{filter};
 ghost use Rattle.tcmu_types.specs.Views.{dispatch_data};
-ghost use Rattle.tcmu_model.specs.declared.state.CommandState.TheVariants.{Waiting, Out};
-ghost use Rattle.tcmu_model.specs.Lists.{first_of, with_first};
+ghost use Rattle.tcmu_model.specs.declared.state.CommandState.TheVariants.{Waiting};
 ghost use Rattle.tcmu_model.specs.Lengths.{blocks_of};
-ghost use Rattle.tcmu_model.specs.Device.{Unfinished, is_at};
-ghost use Rattle.tcmu_model.specs.Events.{turned, is_running, item_answer, after_item, with_reply};
+ghost use Rattle.tcmu_model.specs.Events.{is_running, item_answer, after_item};
 ghost use Rattle.tcmu_model.specs.Sound.{Every};
 ghost use Rattle.tcmu_path.specs.Tallies.{serials_of};
 ghost use Rattle.tcmu_path.specs.Room.{to_place, to_log, held_by, KeepsRoom};
@@ -16,7 +14,7 @@ use crate::row::Row;
 use crate::rows::Rows;
 use std::alloc::Global;
 use tcmu_model::CommandState;
-use tcmu_types::{Dispatch, NoMemory, Reply, Serials};
+use tcmu_types::{Dispatch, NoMemory, Serials};
 
 /// Appends a row where there is room for it.
 #[tactic(auto, using(crate::proofs::Rooms::pushes))]
@@ -53,14 +51,6 @@ fn running(alloc: Global, rows: &Rows, serials: &[u64]) -> Result<Serials, NoMem
     Ok(listed)
 }
 
-/// Sends the waiting command of a serial out.
-fn send(rows: &mut Rows, serial: u64)
-    ensures rows { rows.new.items ≡ turned serial CommandState.Waiting CommandState.Out rows.old.items }
-    ensures kept { KeepsRoom rows.old.items rows.new.items }
-{
-    rows.send(serial);
-}
-
 /// Hands an item of the ring out.
 pub fn dispatch_item(alloc: Global, rows: &mut Rows, item: &RingItem) -> Result<Dispatch, NoMemory>
     ensures answer { IfOk result (λ a. dispatch_data a ≡ item_answer rows.old.items item.now) }
@@ -71,7 +61,7 @@ pub fn dispatch_item(alloc: Global, rows: &mut Rows, item: &RingItem) -> Result<
     match &item.content {
         Content::Pad => Ok(Dispatch::Nothing),
         Content::Command { serial, .. } => {
-            send(rows, *serial);
+            rows.send(*serial);
             Ok(Dispatch::Job(*serial))
         }
         Content::Note { kind, serials } => {
@@ -82,13 +72,4 @@ pub fn dispatch_item(alloc: Global, rows: &mut Rows, item: &RingItem) -> Result<
             })
         }
     }
-}
-
-/// Keeps the reply to the command of a serial that is out.
-pub fn keep_reply(rows: &mut Rows, serial: u64, reply: &Reply)
-    requires { (u : Unfinished) → first_of (is_at serial CommandState.Out) rows.old.items ≡ Some u → length reply.now.payload ≤ u.command.in_len }
-    ensures rows { rows.new.items ≡ with_first (is_at serial CommandState.Out) (with_reply reply.now) rows.old.items }
-    ensures kept { KeepsRoom rows.old.items rows.new.items }
-{
-    rows.keep(serial, reply);
 }

@@ -29,10 +29,10 @@ pub trait Path {
     /// The data blocks of each command, where this way of keeping a device tells them.
     ghost lists: { Self → Option (List Taken) } = { λ _. None };
 
-    /// An initiator sends a command. The first that applies: `Busy` on a blocked device; `TooBig` for an entry over half the ring
-    /// (bytes), or else for more blocks than the device's limit (data blocks); without a queue-full time `FullRing`, or else
-    /// `FullBlocks`, where room lacks now; with one `Delayed` where room lacks or another command is delayed; else `Queued`. It asks
-    /// that fewer than 2^63 commands were accepted before.
+    /// An initiator sends a command. The answer is the first of these that applies: `Busy` on a blocked device; `TooBig` where the
+    /// entry is over half the ring (bytes), or else where it needs more data blocks than the device may hold; without a queue-full
+    /// time `FullRing`, or else `FullBlocks`, where there is no room now; with one, `Delayed` where there is no room now or a command
+    /// is delayed already; else `Queued` with its serial. Fewer than 2^63 commands may have been accepted before.
     fn submit(&mut self, alloc: Global, command: &Command) -> Result<Submit, NoMemory>
         requires { (device self.old).state.accepted < 2 ^ 63 }
         ensures step { IfOk result (λ a. Submits (device self.old) command.now a (device self.new)) }
@@ -62,7 +62,8 @@ pub trait Path {
         ensures lists { GoesOn (lists self.old) (device self.old) (ev.Respond serial) (ev.Responded result) (device self.new) (lists self.new) }
         ensures accepts { Accepts 0 (device self.old) (device self.new) };
 
-    /// The user side moves the mailbox's tail past what is answered; `Detached` where no user side is attached.
+    /// The user side moves the mailbox's tail past what is answered: `Moved` with how many items, and how many commands among them;
+    /// `Detached` where no user side is attached.
     fn publish(&mut self) -> Publish
         ensures step { Publishes (device self.old) result (device self.new) }
         ensures lists { GoesOn (lists self.old) (device self.old) ev.Publish (ev.Published result) (device self.new) (lists self.new) }
@@ -108,9 +109,9 @@ pub trait Path {
         ensures lists { GoesOn (lists self.old) (device self.old) ev.Restart (ev.Lost result) (device self.new) (lists self.new) }
         ensures accepts { Accepts 0 (device self.old) (device self.new) };
 
-    /// A task management note on these serials, which rise, of a kind from 1 (ABORT TASK) to 7 (TARGET COLD RESET), is laid in the
-    /// ring. `Off` where the device has no such notes, `Busy` on a blocked device, `Unknown` with the first serial that no unfinished
-    /// command in the ring has, `FullRing` where room lacks.
+    /// A task management note on these serials, which rise, of a kind of the kernel's `TCMU_TMR_*` from 1 (ABORT TASK; SAM-5,
+    /// clause 7, has the first five) to 7 (TARGET COLD RESET), is laid in the ring. `Off` where the device has no such notes, `Busy` on
+    /// a blocked device, `Unknown` with the first serial that no unfinished command in the ring has, `FullRing` where there is no room.
     fn tmr(&mut self, alloc: Global, kind: u8, serials: &Serials) -> Result<Tmr, NoMemory>
         requires low { 1 ≤ kind }
         requires high { kind ≤ 7 }
@@ -120,8 +121,8 @@ pub trait Path {
         ensures unchanged { OnErr result (Keeps (device self.old) (device self.new) (lists self.old) (lists self.new)) }
         ensures accepts { Accepts 0 (device self.old) (device self.new) };
 
-    /// The delayed command of the least serial enters the ring; `Empty` where none is delayed, `FullRing` or `FullBlocks` where room
-    /// still lacks.
+    /// The delayed command of the least serial enters the ring; `Empty` where none is delayed, `FullRing` or `FullBlocks` where there is
+    /// still no room.
     fn enter(&mut self, alloc: Global) -> Result<Enter, NoMemory>
         ensures step { IfOk result (λ a. Enters (device self.old) a (device self.new)) }
         ensures lists { IfOk result (λ a. GoesOn (lists self.old) (device self.old) ev.Enter (ev.Entered a) (device self.new) (lists self.new)) }

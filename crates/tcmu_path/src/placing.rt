@@ -2,26 +2,16 @@
 ghost use Rattle.std.specs.Prelude.{◌≡◌, ℕ, ◌≤◌, List, [], ◌∷◌, ◌++◌, length, take, true, false, if◌then◌else◌};
 ghost use Rattle.std.specs.List.{list_any};
 ghost use Rattle.tcmu_model.specs.RingState.{serial_in, serials_in};
-ghost use Rattle.tcmu_model.specs.declared.state.CommandState.TheVariants.{Handled, Parked, Placed};
+ghost use Rattle.tcmu_model.specs.declared.state.CommandState.TheVariants.{Parked, Placed};
 ghost use Rattle.tcmu_model.specs.Device.{is_at};
 ghost use Rattle.tcmu_model.specs.Events.{turned, with_placed, run_placed, is_among};
 ghost use Rattle.tcmu_model.specs.Sound.{Every, Differ};
+ghost use Rattle.tcmu_path.specs.Changing.{placing_of};
 ghost use Rattle.tcmu_path.specs.Room.{to_place, KeepsRoom};
 
 use crate::ring::{Ring, RingItem};
 use crate::rows::Rows;
 use tcmu_types::Serials;
-
-/// Parks the handled command of a serial, where it is there.
-pub fn park(rows: &mut Rows, serial: u64) -> bool
-    ensures found { result ≡ list_any (is_at serial Handled) rows.old.items }
-    ensures rows { rows.new.items ≡ turned serial Handled Parked rows.old.items }
-    ensures none { result ≡ false → rows.new.items ≡ rows.old.items }
-    ensures parked { result ≡ true → list_any (is_at serial Parked) rows.new.items ≡ true }
-    ensures kept { KeepsRoom rows.old.items rows.new.items }
-{
-    rows.park(serial)
-}
 
 /// Places one parked command, and tells whether it was there.
 fn place_one(rows: &mut Rows, placed: &mut Serials, serial: u64) -> bool
@@ -44,8 +34,7 @@ fn place_one(rows: &mut Rows, placed: &mut Serials, serial: u64) -> bool
 pub fn place(rows: &mut Rows, placed: &mut Serials, serial: u64)
     requires room { to_place rows.old.items ≤ placed.old.spare }
     requires parked { list_any (is_at serial Parked) rows.old.items ≡ true }
-    ensures rows { rows.new.items ≡ (with_placed (record { placed = placed.old.items; unfinished = rows.old.items }) serial).unfinished }
-    ensures placed { placed.new.items ≡ (with_placed (record { placed = placed.old.items; unfinished = rows.old.items }) serial).placed }
+    ensures placing { placing_of placed.new rows.new ≡ with_placed (placing_of placed.old rows.old) serial }
     ensures room { to_place rows.new.items ≤ placed.new.spare }
     ensures kept { KeepsRoom rows.old.items rows.new.items }
 {
@@ -56,8 +45,8 @@ pub fn place(rows: &mut Rows, placed: &mut Serials, serial: u64)
 fn pass_item(rows: &mut Rows, placed: &mut Serials, item: &RingItem) -> bool
     requires room { to_place rows.old.items ≤ placed.old.spare }
     requires apart { Every (λ s. is_among placed.old.items s ≡ false) (serial_in item.now) }
-    ensures goes { result ≡ true → (rest : List ℕ) → run_placed (record { placed = placed.old.items; unfinished = rows.old.items }) (serial_in item.now ++ rest) ≡ run_placed (record { placed = placed.new.items; unfinished = rows.new.items }) rest }
-    ensures stops { result ≡ false → (rest : List ℕ) → run_placed (record { placed = placed.old.items; unfinished = rows.old.items }) (serial_in item.now ++ rest) ≡ record { placed = placed.new.items; unfinished = rows.new.items } }
+    ensures goes { result ≡ true → (rest : List ℕ) → run_placed (placing_of placed.old rows.old) (serial_in item.now ++ rest) ≡ run_placed (placing_of placed.new rows.new) rest }
+    ensures stops { result ≡ false → (rest : List ℕ) → run_placed (placing_of placed.old rows.old) (serial_in item.now ++ rest) ≡ placing_of placed.new rows.new }
     ensures passed { result ≡ true → placed.new.items ≡ placed.old.items ++ serial_in item.now }
     ensures same { result ≡ false → placed.new.items ≡ placed.old.items }
     ensures room { to_place rows.new.items ≤ placed.new.spare }
@@ -74,8 +63,7 @@ fn pass_item(rows: &mut Rows, placed: &mut Serials, item: &RingItem) -> bool
 fn place_run(rows: &mut Rows, placed: &mut Serials, items: &[RingItem]) -> usize
     requires room { to_place rows.old.items ≤ placed.old.spare }
     requires differ { Differ (placed.old.items ++ serials_in items.now) }
-    ensures rows { rows.new.items ≡ (run_placed (record { placed = placed.old.items; unfinished = rows.old.items }) (serials_in items.now)).unfinished }
-    ensures placed { placed.new.items ≡ (run_placed (record { placed = placed.old.items; unfinished = rows.old.items }) (serials_in items.now)).placed }
+    ensures placing { placing_of placed.new rows.new ≡ run_placed (placing_of placed.old rows.old) (serials_in items.now) }
     ensures passed { placed.new.items ≡ placed.old.items ++ serials_in (take result items.now) }
     ensures within { result ≤ length items.now }
     ensures room { to_place rows.new.items ≤ placed.new.spare }
@@ -96,8 +84,7 @@ pub fn place_in_order(rows: &mut Rows, placed: &mut Serials, ring: &Ring, passed
     requires within { passed ≤ length ring.now.laid }
     requires ordered { placed.old.items ≡ serials_in (take passed ring.now.laid) }
     requires differ { Differ (serials_in ring.now.laid) }
-    ensures rows { rows.new.items ≡ (run_placed (record { placed = placed.old.items; unfinished = rows.old.items }) (serials_in ring.now.laid)).unfinished }
-    ensures placed { placed.new.items ≡ (run_placed (record { placed = placed.old.items; unfinished = rows.old.items }) (serials_in ring.now.laid)).placed }
+    ensures placing { placing_of placed.new rows.new ≡ run_placed (placing_of placed.old rows.old) (serials_in ring.now.laid) }
     ensures ordered { placed.new.items ≡ serials_in (take result ring.now.laid) }
     ensures within { result ≤ length ring.now.laid }
     ensures room { to_place rows.new.items ≤ placed.new.spare }

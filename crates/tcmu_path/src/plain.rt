@@ -12,7 +12,7 @@ use tcmu_types::{
     Stat, Submit, Tmr, Todo,
 };
 
-/// A device over a handler, as plain lists. What it says of every device (that it is sound) is its invariant.
+/// A device over a handler, kept as plain lists. Its invariant is that the device is sound (`IsSound`).
 #[derive(Drop)]
 pub struct PlainPath<H: Handler + Drop> {
     state: State,

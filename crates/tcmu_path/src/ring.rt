@@ -47,22 +47,14 @@ impl RingItem {
     pub fn is_pad(&self) -> bool
         ensures { result ≡ is_pad self.now }
     {
-        match &self.content {
-            Content::Pad => true,
-            Content::Command { .. } => false,
-            Content::Note { .. } => false,
-        }
+        matches!(&self.content, Content::Pad)
     }
 
     /// Whether it is a command.
     pub fn is_command(&self) -> bool
         ensures { result ≡ is_command self.now }
     {
-        match &self.content {
-            Content::Pad => false,
-            Content::Command { .. } => true,
-            Content::Note { .. } => false,
-        }
+        matches!(&self.content, Content::Command { .. })
     }
 
     /// The serial of the command that is laid here.
@@ -70,9 +62,8 @@ impl RingItem {
         ensures { option_to_list result ≡ serial_in self.now }
     {
         match &self.content {
-            Content::Pad => None,
             Content::Command { serial, .. } => Some(*serial),
-            Content::Note { .. } => None,
+            _ => None,
         }
     }
 }
@@ -117,6 +108,7 @@ fn front_with(items: &[RingItem], most: usize) -> (usize, usize)
     (items.len(), most - left)
 }
 
+/// The bytes of all these items together.
 fn lengths_of(items: &[RingItem]) -> u32
     requires { sum_by (λ i. i.len) items.now < 2 ^ 32 }
     ensures { result ≡ lengths items.now }

@@ -35,10 +35,9 @@ pub struct Row {
 
 impl Model for Row {
     ghost use Rattle.tcmu_model.specs.Device.{Unfinished};
+    ghost use Rattle.tcmu_path.specs.Kept.{reply_of, HasRoom};
 
     ghost Value = { Unfinished };
-
-    ghost use Rattle.tcmu_path.specs.Kept.{reply_of, HasRoom};
 
     ghost view = { λ a. record { serial = a.serial; command = a.command; state = a.state; deadline = a.deadline; expired = a.expired; reply = reply_of a.head a.buffer.items } };
 
@@ -218,7 +217,7 @@ impl Row {
             return None;
         }
         let head = head?;
-        if head.status.0 != 0 {
+        if head.status != ScsiStatus::GOOD {
             buffer.clear();
         } else if !read_len {
             let missing = command.in_len() as usize - buffer.len();

@@ -1,12 +1,13 @@
 //! The unfinished commands of a plain device, in rising serial. One is found by bisection, and the first is taken out without moving
 //! the others; of the states that the drain asks for, the least serial is kept.
-ghost use Rattle.std.specs.Prelude.{◌≡◌, ℕ, ◌<◌, ◌≤◌, ◌^◌, [], ◌∷◌, ◌++◌, length, map, false, None, Some, OnOk, MatchOption, slice_index_or};
+ghost use Rattle.std.specs.Prelude.{◌≡◌, ℕ, ◌<◌, ◌≤◌, ◌^◌, [], ◌∷◌, ◌++◌, length, map, true, false, None, Some, OnOk, MatchOption, slice_index_or};
 ghost use Rattle.std.specs.List.{list_any, count_by};
 ghost use Rattle.tcmu_model.specs.declared.state.CommandState.TheVariants.{Waiting, Out, Handled, Parked, Placed};
 ghost use Rattle.tcmu_model.specs.Lists.{IsFirst, first_of, with_first, without_first};
 ghost use Rattle.tcmu_model.specs.Device.{Unfinished, is_at, has_state, has_serial};
 ghost use Rattle.tcmu_model.specs.Events.{unknown_serial, is_in_hand, lose, expire, with_reply, turned};
 ghost use Rattle.tcmu_model.specs.Sound.{Every};
+ghost use Rattle.tcmu_path.specs.Room.{KeepsRoom};
 ghost use Rattle.tcmu_path.specs.Tallies.{serials_of, least_in};
 
 use crate::row::Row;
@@ -100,8 +101,8 @@ impl Rows {
         self.handled.least
     }
 
-    /// The place of the first command of a serial or of one above it.
-    fn place_from(&self, serial: u64) -> usize
+    /// The index of the first command of a serial or of one above it.
+    fn first_from(&self, serial: u64) -> usize
         ensures below { (k : ℕ) (d : Unfinished) → k < result → (slice_index_or self.now.items k d).serial < serial }
         ensures above { (k : ℕ) (d : Unfinished) → result ≤ k → k < length self.now.items → serial ≤ (slice_index_or self.now.items k d).serial }
         ensures within { result ≤ length self.now.items }
@@ -109,11 +110,11 @@ impl Rows {
         self.rows.partition_point(|row| row.serial() < serial)
     }
 
-    /// The place of the command of a serial in a state.
-    fn place_of(&self, serial: u64, state: CommandState) -> Option<usize>
+    /// The index of the command of a serial in a state.
+    fn index_of(&self, serial: u64, state: CommandState) -> Option<usize>
         ensures { MatchOption result (list_any (is_at serial state) self.now.items ≡ false) (IsFirst (is_at serial state) self.now.items) }
     {
-        let at = self.place_from(serial);
+        let at = self.first_from(serial);
         if at == self.rows.len() {
             return None;
         }
@@ -129,14 +130,14 @@ impl Rows {
     pub fn has(&self, serial: u64, state: CommandState) -> bool
         ensures { result ≡ list_any (is_at serial state) self.now.items }
     {
-        self.place_of(serial, state).is_some()
+        self.index_of(serial, state).is_some()
     }
 
     /// The command of a serial in a state.
     pub fn find(&self, serial: u64, state: CommandState) -> Option<&Row>
         ensures { MatchOption result (first_of (is_at serial state) self.now.items ≡ None) (λ r. first_of (is_at serial state) self.now.items ≡ Some r.now) }
     {
-        match self.place_of(serial, state) {
+        match self.index_of(serial, state) {
             Some(at) => Some(&self.rows[at]),
             None => None,
         }
@@ -146,12 +147,35 @@ impl Rows {
     pub fn is_known(&self, serial: u64) -> bool
         ensures { result ≡ list_any (has_serial serial) self.now.items }
     {
-        let at = self.place_from(serial);
+        let at = self.first_from(serial);
         if at == self.rows.len() {
             return false;
         }
         let row = &self.rows[at];
         row.serial() == serial
+    }
+
+    /// How many commands are in a state.
+    pub fn count_in(&self, state: CommandState) -> u32
+        requires { length self.now.items ≤ 2 ^ 30 }
+        ensures { result ≡ count_by (has_state state) self.now.items }
+    {
+        self.rows.iter().filter(|row| row.state().is(state)).count() as u32
+    }
+
+    /// How many commands are expired.
+    pub fn count_expired(&self) -> u32
+        requires { length self.now.items ≤ 2 ^ 30 }
+        ensures { result ≡ count_by (λ u. u.expired) self.now.items }
+    {
+        self.rows.iter().filter(|row| row.is_expired()).count() as u32
+    }
+
+    /// How many commands are out, handled or parked: what keeps a reset from being made.
+    pub fn handlers_out(&self) -> usize
+        ensures { result ≡ count_by is_in_hand self.now.items }
+    {
+        self.rows.iter().filter(|row| row.is_in_hand()).count()
     }
 
     /// Makes room for one more.
@@ -175,10 +199,11 @@ impl Rows {
 
     /// Sends the waiting command of a serial out, where it is there.
     pub fn send(&mut self, serial: u64)
-        ensures { self.new.items ≡ turned serial Waiting Out self.old.items }
+        ensures turned { self.new.items ≡ turned serial Waiting Out self.old.items }
+        ensures kept { KeepsRoom self.old.items self.new.items }
     {
         let _few = self.len();
-        if let Some(at) = self.place_of(serial, CommandState::Waiting) {
+        if let Some(at) = self.index_of(serial, CommandState::Waiting) {
             self.out.enter(serial);
             let row = &mut self.rows[at];
             row.set_state(CommandState::Out);
@@ -188,10 +213,11 @@ impl Rows {
     /// Keeps the reply to the command of a serial that is out, where it is there.
     pub fn keep(&mut self, serial: u64, reply: &Reply)
         requires { (u : Unfinished) → first_of (is_at serial Out) self.old.items ≡ Some u → length reply.now.payload ≤ u.command.in_len }
-        ensures { self.new.items ≡ with_first (is_at serial Out) (with_reply reply.now) self.old.items }
+        ensures items { self.new.items ≡ with_first (is_at serial Out) (with_reply reply.now) self.old.items }
+        ensures kept { KeepsRoom self.old.items self.new.items }
     {
         let _few = self.len();
-        if let Some(at) = self.place_of(serial, CommandState::Out) {
+        if let Some(at) = self.index_of(serial, CommandState::Out) {
             self.out.leave(&self.rows, at, serial, CommandState::Out);
             self.handled.enter(serial);
             let row = &mut self.rows[at];
@@ -204,8 +230,10 @@ impl Rows {
         ensures found { result ≡ list_any (is_at serial Handled) self.old.items }
         ensures turned { self.new.items ≡ turned serial Handled Parked self.old.items }
         ensures none { result ≡ false → self.new.items ≡ self.old.items }
+        ensures parked { result ≡ true → list_any (is_at serial Parked) self.new.items ≡ true }
+        ensures kept { KeepsRoom self.old.items self.new.items }
     {
-        match self.place_of(serial, CommandState::Handled) {
+        match self.index_of(serial, CommandState::Handled) {
             Some(at) => {
                 self.handled
                     .leave(&self.rows, at, serial, CommandState::Handled);
@@ -222,8 +250,9 @@ impl Rows {
         ensures found { result ≡ list_any (is_at serial Parked) self.old.items }
         ensures turned { self.new.items ≡ turned serial Parked Placed self.old.items }
         ensures none { result ≡ false → self.new.items ≡ self.old.items }
+        ensures kept { KeepsRoom self.old.items self.new.items }
     {
-        match self.place_of(serial, CommandState::Parked) {
+        match self.index_of(serial, CommandState::Parked) {
             Some(at) => {
                 let row = &mut self.rows[at];
                 row.set_state(CommandState::Placed);
@@ -238,7 +267,7 @@ impl Rows {
         ensures row { result ≡ first_of (is_at serial Placed) self.old.items }
         ensures rest { self.new.items ≡ without_first (is_at serial Placed) self.old.items }
     {
-        match self.place_of(serial, CommandState::Placed) {
+        match self.index_of(serial, CommandState::Placed) {
             Some(at) => self.rows.remove(at),
             None => None,
         }
@@ -246,14 +275,16 @@ impl Rows {
 
     /// Marks the commands that are due.
     pub fn mark_due(&mut self, now: u64)
-        ensures { self.new.items ≡ map (expire now) self.old.items }
+        ensures items { self.new.items ≡ map (expire now) self.old.items }
+        ensures kept { KeepsRoom self.old.items self.new.items }
     {
         expire_each(&mut self.rows, now);
     }
 
     /// Loses the commands that a restart takes: those in hand are among them.
     pub fn mark_lost(&mut self, answered: &[u64])
-        ensures { self.new.items ≡ map (lose answered.now) self.old.items }
+        ensures items { self.new.items ≡ map (lose answered.now) self.old.items }
+        ensures kept { KeepsRoom self.old.items self.new.items }
     {
         lose_each(&mut self.rows, answered);
         self.out = Tally::new();
@@ -280,27 +311,4 @@ pub fn unknown(rows: &Rows, serials: &[u64]) -> Option<u64>
         }
     }
     None
-}
-
-/// How many commands are in a state.
-pub fn count_in(rows: &VecDeque<Row>, state: CommandState) -> u32
-    requires { length rows.now.items ≤ 2 ^ 30 }
-    ensures { result ≡ count_by (has_state state) rows.now.items }
-{
-    rows.iter().filter(|row| row.state().is(state)).count() as u32
-}
-
-/// How many commands are expired.
-pub fn count_expired(rows: &VecDeque<Row>) -> u32
-    requires { length rows.now.items ≤ 2 ^ 30 }
-    ensures { result ≡ count_by (λ u. u.expired) rows.now.items }
-{
-    rows.iter().filter(|row| row.is_expired()).count() as u32
-}
-
-/// How many commands are out, handled or parked: what keeps a reset from being made.
-pub fn handlers_out(rows: &VecDeque<Row>) -> usize
-    ensures { result ≡ count_by is_in_hand rows.now.items }
-{
-    rows.iter().filter(|row| row.is_in_hand()).count()
 }

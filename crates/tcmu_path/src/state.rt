@@ -8,18 +8,18 @@ ghost use Rattle.tcmu_model.specs.Device.{Unfinished, DeviceState, opening_state
 ghost use Rattle.tcmu_model.specs.Events.{dispatch_answer, after_dispatch, command_out, after_handle, placed_by, respond_answer, after_respond, publish_answer, after_publish, clean_answer, after_clean, later, tick_answer, after_tick, block_answer, after_block, emptied, reset_answer, after_reset, restart_answer, after_restart, expire, expiry, is_due, has_left, departure, is_open, reset_completion, reset_completions};
 ghost use Rattle.tcmu_model.specs.Sound.{IsSound, Differ};
 ghost use Rattle.tcmu_path.specs.Room.{to_log, KeepsRoom};
-ghost use Rattle.tcmu_path.specs.Fresh.{with_placing};
+ghost use Rattle.tcmu_path.specs.Changing.{with_placing};
 ghost use Rattle.tcmu_path.specs.Requests.{IsRequest};
 
 mod laying;
 mod shown;
 
 use crate::books::{close_all, expire_all, finish_published, lose_unpublished};
-use crate::dispatching::{dispatch_item, keep_reply};
-use crate::placing::{park, place, place_in_order};
+use crate::dispatching::dispatch_item;
+use crate::placing::{place, place_in_order};
 use crate::ring::Ring;
-use crate::rows::{Rows, handlers_out};
-use crate::waiting::Queue;
+use crate::rows::Rows;
+use crate::waiting::DelayedCommands;
 use handler_trait::Request;
 use std::alloc::Global;
 use std::marker::Model;
@@ -41,7 +41,7 @@ pub struct State {
     accepted: u64,
     rows: Rows,
     held: u32,
-    delayed: Queue,
+    delayed: DelayedCommands,
     placed: Serials,
     passed: usize,
     log: Listed<Done>,
@@ -67,7 +67,13 @@ fn later(now: u64, n: u32) -> u64
 }
 
 /// Logs what a moment ends: commands expire, and delayed ones leave.
-fn end_by(rows: &mut Rows, delayed: &mut Queue, log: &mut Listed<Done>, alloc: Global, now: u64)
+fn end_by(
+    rows: &mut Rows,
+    delayed: &mut DelayedCommands,
+    log: &mut Listed<Done>,
+    alloc: Global,
+    now: u64,
+)
     requires { to_log rows.old.items + length delayed.old.items ≤ log.old.spare }
     ensures rows { rows.new.items ≡ map (expire now) rows.old.items }
     ensures delayed { delayed.new.items ≡ filter (λ w. not (has_left now w)) delayed.old.items }
@@ -76,11 +82,17 @@ fn end_by(rows: &mut Rows, delayed: &mut Queue, log: &mut Listed<Done>, alloc: G
     ensures kept { KeepsRoom rows.old.items rows.new.items }
 {
     expire_all(rows, log, alloc, now);
-    delayed.leave(log, alloc, now);
+    delayed.let_go_due(log, alloc, now);
 }
 
-/// Logs all that is open as a reset of a level ends it, and forgets all.
-fn end_all(rows: &mut Rows, delayed: &mut Queue, log: &mut Listed<Done>, alloc: Global, level: u8)
+/// Logs the unfinished and the delayed commands as a reset of a level ends them, and forgets them.
+fn end_all(
+    rows: &mut Rows,
+    delayed: &mut DelayedCommands,
+    log: &mut Listed<Done>,
+    alloc: Global,
+    level: u8,
+)
     requires { to_log rows.old.items + length delayed.old.items ≤ log.old.spare }
     ensures rows { rows.new.items ≡ [] }
     ensures delayed { delayed.new.items ≡ [] }
@@ -105,7 +117,7 @@ impl State {
             accepted: 0,
             rows: Rows::new(alloc),
             held: 0,
-            delayed: Queue::new(alloc),
+            delayed: DelayedCommands::new(alloc),
             placed: Serials::new(alloc),
             passed: 0,
             log: Listed::new(alloc),
@@ -244,7 +256,7 @@ impl State {
         ensures after { self.new ≡ after_respond self.old serial }
         ensures accepted { self.new.accepted ≡ self.old.accepted }
     {
-        if !park(&mut self.rows, serial) {
+        if !self.rows.park(serial) {
             return Respond::NotHandled(serial);
         }
         self.place(serial);
@@ -297,10 +309,10 @@ impl State {
         ensures reply { IsReply reply.now }
     {
         let _status = reply.status;
-        keep_reply(&mut self.rows, serial, reply);
+        self.rows.keep(serial, reply);
     }
 
-    /// Logs all that is open as a reset of a level ends it, and forgets all.
+    /// Logs the unfinished and the delayed commands as a reset of a level ends them, empties the ring, and attaches a user side.
     fn close(&mut self, level: u8)
         ensures after { self.new ≡ emptied self.old level }
         ensures count { length self.new.log ≡ length self.old.log + length (reset_completions self.old level) }
@@ -344,7 +356,7 @@ impl State {
         if !self.blocked {
             return Reset::NotBlocked;
         }
-        let count = handlers_out(self.rows.all());
+        let count = self.rows.handlers_out();
         if count > 0 {
             return Reset::HandlersOut(count as u64);
         }

@@ -20,7 +20,7 @@ fn next_in(rows: &VecDeque<Row>, from: usize, state: CommandState) -> Option<u64
     None
 }
 
-/// The least serial of the commands in a state, and how many they are: what the drain asks for at each step is not looked for.
+/// The least serial of the commands in a state, and how many they are: kept, so that no step of a drain looks for them.
 #[derive(Clone, Copy, Debug)]
 pub struct Tally {
     pub least: Option<u64>,

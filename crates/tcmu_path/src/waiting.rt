@@ -28,6 +28,7 @@ impl Model for DelayedCommand {
 }
 
 impl DelayedCommand {
+    /// Whether its time is up.
     fn has_left(&self, now: u64) -> bool
         ensures { result ≡ has_left now self.now }
     {
@@ -50,11 +51,11 @@ impl DelayedCommand {
 
 /// The delayed commands, in the order in which they were accepted.
 #[derive(Drop)]
-pub struct Queue {
+pub struct DelayedCommands {
     commands: VecDeque<DelayedCommand>,
 }
 
-impl Model for Queue {
+impl Model for DelayedCommands {
     ghost use Rattle.std.specs.Prelude.{◌-◌};
     ghost use Rattle.std.specs.VecDeque.{deque_len, deque_capacity};
     ghost use Rattle.tcmu_types.specs.Data.{Spared};
@@ -65,12 +66,12 @@ impl Model for Queue {
     ghost view = { λ a. record { items = a.commands.items; spare = deque_capacity a.commands - deque_len a.commands } };
 }
 
-impl Queue {
-    /// A queue with no command.
-    pub fn new(alloc: Global) -> Queue
+impl DelayedCommands {
+    /// No command.
+    pub fn new(alloc: Global) -> DelayedCommands
         ensures { result.items ≡ [] }
     {
-        Queue {
+        DelayedCommands {
             commands: VecDeque::new(alloc),
         }
     }
@@ -122,19 +123,19 @@ impl Queue {
     }
 
     /// Logs the commands whose time is up, and lets them go.
-    pub fn leave(&mut self, log: &mut Listed<Done>, alloc: Global, now: u64)
+    pub fn let_go_due(&mut self, log: &mut Listed<Done>, alloc: Global, now: u64)
         requires { length self.old.items ≤ log.old.spare }
         ensures items { self.new.items ≡ filter (λ w. not (has_left now w)) self.old.items }
         ensures log { log.new.items ≡ log.old.items ++ map departure (filter (has_left now) self.old.items) }
         ensures room { length self.new.items + log.old.spare ≤ log.new.spare + length self.old.items }
     {
         for _ in 0..self.len() {
-            self.turn(log, alloc, now);
+            self.let_go_or_turn(log, alloc, now);
         }
     }
 
-    /// The first command leaves where its time is up, and else goes behind the others.
-    fn turn(&mut self, log: &mut Listed<Done>, alloc: Global, now: u64)
+    /// Logs the first command and lets it go where its time is up, and else turns it behind the others.
+    fn let_go_or_turn(&mut self, log: &mut Listed<Done>, alloc: Global, now: u64)
         requires room { 1 ≤ log.old.spare }
         requires some { 0 < length self.old.items }
         ensures items { self.new.items ≡ drop 1 self.old.items ++ filter (λ w. not (has_left now w)) (take 1 self.old.items) }

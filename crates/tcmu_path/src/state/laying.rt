@@ -73,17 +73,17 @@ impl State {
         self.rows.len()
     }
 
-    /// Places for the answers of all that is unfinished, and for one more.
+    /// No fewer than the answers that may still be placed, and one more.
     #[tactic(auto, using(crate::proofs::Rooms::most_places))]
-    fn places(&self) -> u64
+    fn answers_to_place(&self) -> u64
         ensures { to_place self.entry.now.unfinished + 1 ≤ result }
     {
         self.count() as u64 + 1
     }
 
-    /// Room for the completions of all that is unfinished or delayed, and for one more.
+    /// No fewer than the completions that are still to be logged, and one more.
     #[tactic(auto, using(crate::proofs::Rooms::most_completions))]
-    fn completions(&self) -> u64
+    fn completions_to_log(&self) -> u64
         ensures { to_log self.entry.now.unfinished + length self.entry.now.delayed + 1 ≤ result }
     {
         self.count() as u64 + self.delayed.len() as u64 + 1
@@ -102,14 +102,14 @@ impl State {
     }
 
     /// When a command that is delayed now leaves.
-    fn leaves(&self) -> u64
+    fn leaving_time(&self) -> u64
         requires { self.now.now ≤ 2 ^ 63 }
         ensures { result ≡ self.entry.now.now + self.entry.now.settings.qfull }
     {
         self.now + self.settings.qfull as u64
     }
 
-    /// Whether commands wait where room lacks.
+    /// Whether commands wait where there is no room.
     fn waits_for_room(&self) -> bool
         ensures { result ≡ not (self.entry.now.settings.qfull == 0) }
     {
@@ -132,8 +132,8 @@ impl State {
         let serial = self.accepted + 1;
         let blocks = self.blocks_of(command);
         let held = self.held_with(blocks);
-        let places = self.places();
-        let completions = self.completions();
+        let places = self.answers_to_place();
+        let completions = self.completions_to_log();
         self.placed.reserve(places)?;
         self.log.reserve(completions)?;
         self.rows.reserve()?;
@@ -166,8 +166,8 @@ impl State {
         ensures err { OnErr result (self.new ≡ self.old) }
         ensures accepted { OnOk result (self.new.accepted ≡ self.old.accepted + 1) }
     {
-        let completions = self.completions();
-        let leaves = self.leaves();
+        let completions = self.completions_to_log();
+        let leaves = self.leaving_time();
         self.log.reserve(completions)?;
         self.delayed.reserve()?;
         let command = command.try_clone(self.alloc)?;
@@ -288,7 +288,7 @@ impl State {
         ensures accepted { self.new.accepted ≡ self.old.accepted }
     {
         let held = self.held_with(blocks);
-        let places = self.places();
+        let places = self.answers_to_place();
         let deadline = self.deadline();
         let Some(first) = self.delayed.first() else {
             return Ok(());
@@ -352,7 +352,7 @@ impl State {
         ensures value { result ≡ unknown_serial self.entry.now.unfinished serials.now.items }
         ensures few { result ≡ None → length serials.now.items ≤ 65536 }
     {
-        unknown(self.few(), serials.as_slice())
+        unknown(self.unfinished(), serials.as_slice())
     }
 
     /// Whether the device has task management notes.

@@ -6,7 +6,7 @@ ghost use Rattle.tcmu_model.specs.Drain.{todo_of, can_enter};
 ghost use Rattle.tcmu_model.specs.Sound.{IsSound};
 
 use super::State;
-use crate::rows::{Rows, count_expired, count_in};
+use crate::rows::Rows;
 use tcmu_model::CommandState;
 use tcmu_types::{Stat, Todo};
 
@@ -50,8 +50,8 @@ impl State {
         }
     }
 
-    /// The unfinished commands, which are few.
-    pub(super) fn few(&self) -> &Rows
+    /// The unfinished commands: at most 65,536, since each has 112 bytes or more of a ring of at most 4 MiB.
+    pub(super) fn unfinished(&self) -> &Rows
         requires { IsSound self.now }
         ensures value { result.now.items ≡ self.entry.now.unfinished }
         ensures few { length result.now.items ≤ 65536 }
@@ -65,20 +65,19 @@ impl State {
         requires { length self.now.unfinished ≤ 65536 }
         ensures { result ≡ stat_answer self.entry.now }
     {
-        let rows = self.rows.all();
         Stat {
             now: self.now,
             blocked: self.blocked,
             attached: self.attached,
             head: self.ring.head(),
             used: self.ring.used(),
-            waiting: count_in(rows, CommandState::Waiting),
-            out: count_in(rows, CommandState::Out),
-            handled: count_in(rows, CommandState::Handled),
-            parked: count_in(rows, CommandState::Parked),
-            placed: count_in(rows, CommandState::Placed),
-            lost: count_in(rows, CommandState::Lost),
-            expired: count_expired(rows),
+            waiting: self.rows.count_in(CommandState::Waiting),
+            out: self.rows.count_in(CommandState::Out),
+            handled: self.rows.count_in(CommandState::Handled),
+            parked: self.rows.count_in(CommandState::Parked),
+            placed: self.rows.count_in(CommandState::Placed),
+            lost: self.rows.count_in(CommandState::Lost),
+            expired: self.rows.count_expired(),
             held: self.held(),
             delayed: self.delayed.len() as u64,
         }

@@ -2,6 +2,7 @@ use Rattle.std.proofs.Common.{◌≡◌, ℕ, List, ◌++◌, take, drop, sym, a
 use Rattle.tcmu_model.specs.RingState.{Item, serials_in}
 use Rattle.tcmu_model.specs.Events.{Placing, run_placed}
 use Rattle.tcmu_model.specs.Sound.{Differ}
+use Rattle.tcmu_path.specs.Changing.{placing_of}
 use Rattle.tcmu_path.proofs.Placings.{run_from, serials-cut, serials-front}
 use Rattle.tcmu_path.proofs.placing.place_in_order.Goals as goal
 
@@ -14,15 +15,10 @@ place_run-requires-clause-differ c =
     serials-cut laid c.args.passed ∙ (ap (λ (ss : List ℕ). ss ++ serials_in (drop c.args.passed laid)) (sym front) ∙ ap (λ (xs : List Item). c.args.placed.now.items ++ serials_in xs) (sym behind)) in
     subst (λ (ss : List ℕ). Differ ss) all c.requires.differ
 
-pub returns-clause-rows : goal.returns-clause-rows
-returns-clause-rows c =
-    let p : Placing = record { placed = c.args.placed.now.items; unfinished = c.args.rows.now.items } in
-    c.place_run.ensures.rows ∙ (ap (λ (xs : List Item). (run_placed p (serials_in xs)).unfinished) c.items_from-items.ensures.value ∙ ap (λ (q : Placing). q.unfinished) (run_from c.args.placed.now.items c.args.rows.now.items c.args.ring.now.laid c.args.passed c.requires.ordered))
-
-pub returns-clause-placed : goal.returns-clause-placed
-returns-clause-placed c =
-    let p : Placing = record { placed = c.args.placed.now.items; unfinished = c.args.rows.now.items } in
-    c.place_run.ensures.placed ∙ (ap (λ (xs : List Item). (run_placed p (serials_in xs)).placed) c.items_from-items.ensures.value ∙ ap (λ (q : Placing). q.placed) (run_from c.args.placed.now.items c.args.rows.now.items c.args.ring.now.laid c.args.passed c.requires.ordered))
+pub returns-clause-placing : goal.returns-clause-placing
+returns-clause-placing c =
+    let p : Placing = placing_of c.args.placed.now c.args.rows.now in
+    c.place_run.ensures.placing ∙ (ap (λ (xs : List Item). run_placed p (serials_in xs)) c.items_from-items.ensures.value ∙ run_from c.args.placed.now.items c.args.rows.now.items c.args.ring.now.laid c.args.passed c.requires.ordered)
 
 pub returns-clause-ordered : goal.returns-clause-ordered
 returns-clause-ordered c =

@@ -1,11 +1,8 @@
 use Rattle.std.proofs.Common.{◌≡◌, ◌+◌, sym, ap, ◌∙◌, arith}
 use Rattle.tcmu_model.specs.declared.state.CommandState.TheVariants.{Parked, Placed}
-use Rattle.tcmu_model.specs.Device.{Unfinished}
 use Rattle.tcmu_model.specs.Events.{turned, in_state}
 use Rattle.tcmu_path.specs.Room.{to_place}
-use Rattle.std.proofs.Common.{List, subst, refl}
-use Rattle.tcmu_path.specs.Room.{KeepsRoom}
-use Rattle.tcmu_path.proofs.Rooms.{to_place_less, KeepsRoom-turned}
+use Rattle.tcmu_path.proofs.Rooms.{to_place_less}
 use Rattle.tcmu_model.proofs.Firsts.{with_first_none}
 use Rattle.tcmu_path.proofs.placing.place_one.Goals as goal
 
@@ -27,6 +24,3 @@ pub returns-else-place-clause-room : goal.returns-else-place-clause-room
 returns-else-place-clause-room c =
     let same : to_place c.place.new.self.items ≡ to_place c.args.rows.now.items = ap to_place (c.place.ensures.turned ∙ with_first_none _ (in_state Placed) c.args.rows.now.items (sym c.if-place.ensures.found)) in
     omega (arith, same)
-
-pub returns-then-place-clause-kept : goal.returns-then-place-clause-kept
-returns-then-place-clause-kept c = subst (λ (us : List Unfinished). KeepsRoom c.args.rows.now.items us) (sym c.place.ensures.turned) (KeepsRoom-turned c.args.serial Parked Placed c.args.rows.now.items (λ e. refl))

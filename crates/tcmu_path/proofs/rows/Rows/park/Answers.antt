@@ -1,11 +1,14 @@
-use Rattle.std.proofs.Common.{List, refl, sym, ap, subst, ◌∙◌}
+use Rattle.std.proofs.Common.{◌≡◌, true, List, refl, sym, ap, subst, ◌∙◌}
+use Rattle.std.specs.List.{list_any}
 use Rattle.tcmu_types.specs.Data.{Spared}
 use Rattle.tcmu_model.specs.declared.state.CommandState.TheVariants.{Handled, Parked}
 use Rattle.tcmu_model.specs.Lists.{IsFirst}
 use Rattle.tcmu_model.specs.Device.{Unfinished, is_at}
 use Rattle.tcmu_model.specs.Events.{in_state, turned}
-use Rattle.tcmu_model.proofs.Firsts.{with_first_set, with_first_none}
+use Rattle.tcmu_model.proofs.Firsts.{any_at, with_first_set, with_first_none}
 use Rattle.tcmu_path.specs.Tallies.{AreRows}
+use Rattle.tcmu_path.specs.Room.{KeepsRoom}
+use Rattle.tcmu_path.proofs.Rooms.{KeepsRoom-turned, any-turned}
 use Rattle.tcmu_path.proofs.RowsAfter.{rows_parked, some_there}
 use Rattle.tcmu_path.proofs.rows.Rows.park.Goals as goal
 
@@ -35,3 +38,9 @@ returns-in-Some-clause-turned c =
 
 pub returns-in-None-clause-turned : goal.returns-in-None-clause-turned
 returns-in-None-clause-turned c = sym (with_first_none (is_at c.args.serial Handled) (in_state Parked) c.args.self.now.items c.in-None.ensures)
+
+pub returns-in-Some-clause-parked : goal.returns-in-Some-clause-parked
+returns-in-Some-clause-parked c = λ h. subst (λ (us : List Unfinished). list_any (is_at c.args.serial Parked) us ≡ true) (sym (returns-in-Some-clause-turned c)) (any-turned c.args.serial Handled Parked c.args.self.now.items (any_at (is_at c.args.serial Handled) c.args.self.now.items c.in-Some.at c.in-Some.ensures))
+
+pub returns-in-Some-clause-kept : goal.returns-in-Some-clause-kept
+returns-in-Some-clause-kept c = subst (λ (us : List Unfinished). KeepsRoom c.args.self.now.items us) (sym (returns-in-Some-clause-turned c)) (KeepsRoom-turned c.args.serial Handled Parked c.args.self.now.items (λ e. refl))

@@ -1,4 +1,4 @@
-use Rattle.std.proofs.Common.{List, sym, ap, subst, ◌∙◌}
+use Rattle.std.proofs.Common.{List, refl, sym, ap, subst, ◌∙◌}
 use Rattle.tcmu_types.specs.Data.{Spared}
 use Rattle.tcmu_model.specs.declared.state.CommandState.TheVariants.{Parked, Placed}
 use Rattle.tcmu_model.specs.Lists.{IsFirst}
@@ -6,6 +6,8 @@ use Rattle.tcmu_model.specs.Device.{Unfinished, is_at}
 use Rattle.tcmu_model.specs.Events.{in_state, turned}
 use Rattle.tcmu_model.proofs.Firsts.{with_first_set, with_first_none}
 use Rattle.tcmu_path.specs.Tallies.{AreRows}
+use Rattle.tcmu_path.specs.Room.{KeepsRoom}
+use Rattle.tcmu_path.proofs.Rooms.{KeepsRoom-turned}
 use Rattle.tcmu_path.proofs.RowsAfter.{rows_placed}
 use Rattle.tcmu_path.proofs.rows.Rows.place.Goals as goal
 
@@ -27,3 +29,6 @@ returns-in-Some-clause-turned c =
 
 pub returns-in-None-clause-turned : goal.returns-in-None-clause-turned
 returns-in-None-clause-turned c = sym (with_first_none (is_at c.args.serial Parked) (in_state Placed) c.args.self.now.items c.in-None.ensures)
+
+pub returns-in-Some-clause-kept : goal.returns-in-Some-clause-kept
+returns-in-Some-clause-kept c = subst (λ (us : List Unfinished). KeepsRoom c.args.self.now.items us) (sym (returns-in-Some-clause-turned c)) (KeepsRoom-turned c.args.serial Parked Placed c.args.self.now.items (λ e. refl))

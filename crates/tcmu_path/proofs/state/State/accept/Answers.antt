@@ -17,8 +17,8 @@ invariant_of-self-3 c =
     let command : u.command ≡ c.args.command.now = ap (λ (v : Unfinished). v.command) c.new-row.ensures ∙ c.in_ok-try_clone.ensures in
     let blocks : c.blocks_of-blocks.result ≡ blocks_in c.args.self.now c.args.command.now = c.blocks_of-blocks.ensures in
     let held : c.held_with-held.result ≡ held_by a.settings.pages us + blocks_of a.settings.pages c.args.command.now = subst (λ (d : DeviceState). c.held_with-held.result ≡ held_blocks d + blocks_in d c.args.command.now) (sym c.self.view_is) (c.held_with-held.ensures ∙ ap (λ n. held_blocks c.args.self.now + n) blocks) in
-    let places : to_place us + 1 ≤ c.places-places.result = subst (λ (d : DeviceState). to_place d.unfinished + 1 ≤ c.places-places.result) (sym c.self.view_is) c.places-places.ensures in
-    let completions : to_log us + length a.delayed.items + 1 ≤ c.completions-completions.result = subst (λ (d : DeviceState). to_log d.unfinished + length d.delayed + 1 ≤ c.completions-completions.result) (sym c.self.view_is) c.completions-completions.ensures in
+    let places : to_place us + 1 ≤ c.answers_to_place-places.result = subst (λ (d : DeviceState). to_place d.unfinished + 1 ≤ c.answers_to_place-places.result) (sym c.self.view_is) c.answers_to_place-places.ensures in
+    let completions : to_log us + length a.delayed.items + 1 ≤ c.completions_to_log-completions.result = subst (λ (d : DeviceState). to_log d.unfinished + length d.delayed + 1 ≤ c.completions_to_log-completions.result) (sym c.self.view_is) c.completions_to_log-completions.ensures in
     plain_laid a.settings a.ring.laid c.lay.new.self.laid us c.append.new.rows.items u a.delayed.items a.delayed.items a.placed.items c.reserve.new.self.items
     a.held a.placed.spare a.log.spare c.held_with-held.result c.reserve.new.self.spare c.reserve-2.new.self.spare a.passed
     c.self.invariant

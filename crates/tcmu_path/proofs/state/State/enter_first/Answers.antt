@@ -24,7 +24,7 @@ invariant_of-self-in-Some-pop c =
     let command : u.command ≡ next.first.command = ap (λ (v : Unfinished). v.command) c.new.ensures ∙ (ap (λ (v : Delayed). v.command) c.waited.view_is ∙ ap (λ (v : Delayed). v.command) (sym first)) in
     let blocks : c.args.blocks ≡ blocks_in c.args.self.now u.command = next.blocks_are ∙ ap (blocks_in c.args.self.now) (sym command) in
     let held : c.held_with-held.result ≡ held_by a.settings.pages us + blocks_of a.settings.pages u.command = subst (λ (d : DeviceState). c.held_with-held.result ≡ held_blocks d + blocks_in d u.command) (sym c.self.view_is) (c.held_with-held.ensures ∙ ap (λ n. held_blocks c.args.self.now + n) blocks) in
-    let places : to_place us + 1 ≤ c.places-places.result = subst (λ (d : DeviceState). to_place d.unfinished + 1 ≤ c.places-places.result) (sym c.self.view_is) c.places-places.ensures in
+    let places : to_place us + 1 ≤ c.answers_to_place-places.result = subst (λ (d : DeviceState). to_place d.unfinished + 1 ≤ c.answers_to_place-places.result) (sym c.self.view_is) c.answers_to_place-places.ensures in
     let fewer : length a.delayed.items ≡ length (w ∷ c.pop.new.self.items) = ap (λ (ws : List Delayed). length ws) c.in-Some-pop.ensures in
     plain_laid a.settings a.ring.laid c.lay.new.self.laid us c.append.new.rows.items u a.delayed.items c.pop.new.self.items a.placed.items c.reserve.new.self.items
     a.held a.placed.spare a.log.spare c.held_with-held.result c.reserve.new.self.spare a.log.spare a.passed

@@ -1,7 +1,7 @@
 use Rattle.std.proofs.Common.{take, subst, sym}
 use Rattle.tcmu_model.specs.RingState.{cleared_commands}
 use Rattle.tcmu_model.specs.Device.{DeviceState}
-use Rattle.tcmu_path.specs.Fresh.{AreAway}
+use Rattle.tcmu_path.specs.Away.{AreAway}
 use Rattle.tcmu_path.proofs.Bounds.{away}
 use Rattle.tcmu_path.proofs.state.State.restart.Goals as goal
 

@@ -7,5 +7,5 @@ pub returns-clause-few : goal.returns-clause-few
 returns-clause-few c = λ none.
     let e = c.as_slice.ensures in
     let rising : IsRising c.as_slice.result.now = subst (λ (ss : List ℕ). IsRising ss) (sym e) c.requires.rising in
-    let known : length c.as_slice.result.now ≤ length c.few.result.now.items = few_known c.as_slice.result.now c.few.result.now.items rising (sym c.unknown.ensures ∙ none) in
-    omega (arith, known, c.few.ensures.few, ap (λ (ss : List ℕ). length ss) e)
+    let known : length c.as_slice.result.now ≤ length c.unfinished.result.now.items = few_known c.as_slice.result.now c.unfinished.result.now.items rising (sym c.unknown.ensures ∙ none) in
+    omega (arith, known, c.unfinished.ensures.few, ap (λ (ss : List ℕ). length ss) e)

@@ -1,7 +1,7 @@
 use Rattle.std.proofs.Common.{◌≡◌, ◌≤◌, ◌+◌, ◌++◌, not, drop, take, map, length}
 use Rattle.std.specs.List.{filter}
 use Rattle.tcmu_model.specs.Events.{departure, has_left}
-use Rattle.tcmu_path.proofs.waiting.Queue.leave.Given as goal
+use Rattle.tcmu_path.proofs.waiting.DelayedCommands.let_go_due.Given as goal
 
 abbrev pub invariant-loop : goal.invariant-loop
 invariant-loop l = record {

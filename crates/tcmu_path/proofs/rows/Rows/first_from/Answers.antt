@@ -5,7 +5,7 @@ use Rattle.std.proofs.lemmas.List.Sorted.{IsPartitionPoint-from_clause, IsPartit
 use Rattle.tcmu_types.specs.Data.{Spared}
 use Rattle.tcmu_model.specs.Device.{Unfinished}
 use Rattle.tcmu_path.proofs.Rising.{nondecreasing}
-use Rattle.tcmu_path.proofs.rows.Rows.place_from.Goals as goal
+use Rattle.tcmu_path.proofs.rows.Rows.first_from.Goals as goal
 
 pub returns-clause-below : goal.returns-clause-below
 returns-clause-below c =

@@ -1,6 +1,6 @@
 use Rattle.std.proofs.Common.{◌≡◌, ◌≤◌, ◌++◌, drop, take, map, length}
 use Rattle.tcmu_model.specs.Events.{reset_completion}
-use Rattle.tcmu_path.proofs.waiting.Queue.close.Given as goal
+use Rattle.tcmu_path.proofs.waiting.DelayedCommands.close.Given as goal
 
 abbrev pub invariant-loop : goal.invariant-loop
 invariant-loop l = record {

@@ -3,7 +3,7 @@ use Rattle.std.proofs.lemmas.List.{drop-drop, length-drop}
 use Rattle.tcmu_model.specs.Device.{Delayed}
 use Rattle.tcmu_model.specs.Events.{reset_completion}
 use Rattle.tcmu_path.proofs.Turns.{closed_round}
-use Rattle.tcmu_path.proofs.waiting.Queue.close.Goals as goal
+use Rattle.tcmu_path.proofs.waiting.DelayedCommands.close.Goals as goal
 
 pub loop-preserved : goal.loop-preserved
 loop-preserved c =

@@ -1,7 +1,7 @@
 use Rattle.std.proofs.Common.{◌≤◌, length, subst, sym, arith}
 use Rattle.tcmu_model.specs.Device.{DeviceState}
 use Rattle.tcmu_path.proofs.Bounds.{few_rows}
-use Rattle.tcmu_path.proofs.state.State.few.Goals as goal
+use Rattle.tcmu_path.proofs.state.State.unfinished.Goals as goal
 
 pub returns-clause-few : goal.returns-clause-few
 returns-clause-few c =
