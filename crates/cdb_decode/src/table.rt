@@ -4,7 +4,7 @@ ghost use Rattle.byteorder.specs.Endian.{big_from};
 ghost use Rattle.tcmu_model.specs.Decoding.{decoded, ruled, rule, asks_page, asked_page, inquiry_page, is_vpd_page, is_mode_page, no_high_bits, no_low_bit, no_low_bits, same_count, count6, IsDecoded};
 ghost use Rattle.tcmu_model.specs.declared.op.Op.TheVariants.{RequestSense, Inquiry, ModeSense, Capacity16, ReportLuns, Unmap, CompareWrite};
 
-use crate::{be_u16_at, be_u32_at, be_u64_at};
+use crate::{be_u16_at, be_u32_at, be_u64_at, opcode};
 use tcmu_model::{CdbFault, MAXIMUM_WRITE_SAME_LENGTH, Op};
 use tcmu_types::Cdb;
 
@@ -34,18 +34,18 @@ fn decode_6(bytes: &[u8]) -> Result<Op, CdbFault>
     ensures sound { IfOk result IsDecoded }
 {
     match bytes[0] {
-        0x00 => Ok(Op::TestUnitReady),
-        0x03 => request_sense(bytes),
-        0x08 => Ok(Op::Read {
+        opcode::TEST_UNIT_READY => Ok(Op::TestUnitReady),
+        opcode::REQUEST_SENSE => request_sense(bytes),
+        opcode::READ_6 => Ok(Op::Read {
             lba: lba_6(bytes),
             count: count_6(bytes),
         }),
-        0x0a => Ok(Op::Write {
+        opcode::WRITE_6 => Ok(Op::Write {
             lba: lba_6(bytes),
             count: count_6(bytes),
         }),
-        0x12 => inquiry(bytes),
-        0x1a => mode_sense(bytes),
+        opcode::INQUIRY => inquiry(bytes),
+        opcode::MODE_SENSE_6 => mode_sense(bytes),
         code => Err(CdbFault::Opcode(code)),
     }
 }
@@ -62,12 +62,12 @@ fn decode_10(bytes: &[u8]) -> Result<Op, CdbFault>
     let lba = u64::from(be_u32_at(bytes, 2));
     let count = u32::from(be_u16_at(bytes, 7));
     match bytes[0] {
-        0x25 => Ok(Op::Capacity10),
-        0x28 => unprotected(bytes, Op::Read { lba, count }),
-        0x2a => unprotected(bytes, Op::Write { lba, count }),
-        0x35 => Ok(Op::Sync { lba, count }),
-        0x41 => write_same(bytes, 7, count, Op::WriteSame { lba, count }),
-        0x42 => unmap(bytes),
+        opcode::READ_CAPACITY_10 => Ok(Op::Capacity10),
+        opcode::READ_10 => unprotected(bytes, Op::Read { lba, count }),
+        opcode::WRITE_10 => unprotected(bytes, Op::Write { lba, count }),
+        opcode::SYNCHRONIZE_CACHE_10 => Ok(Op::Sync { lba, count }),
+        opcode::WRITE_SAME_10 => write_same(bytes, 7, count, Op::WriteSame { lba, count }),
+        opcode::UNMAP => unmap(bytes),
         code => Err(CdbFault::Opcode(code)),
     }
 }
@@ -84,9 +84,9 @@ fn decode_12(bytes: &[u8]) -> Result<Op, CdbFault>
     let lba = u64::from(be_u32_at(bytes, 2));
     let count = be_u32_at(bytes, 6);
     match bytes[0] {
-        0xa0 => report_luns(bytes),
-        0xa8 => unprotected(bytes, Op::Read { lba, count }),
-        0xaa => unprotected(bytes, Op::Write { lba, count }),
+        opcode::REPORT_LUNS => report_luns(bytes),
+        opcode::READ_12 => unprotected(bytes, Op::Read { lba, count }),
+        opcode::WRITE_12 => unprotected(bytes, Op::Write { lba, count }),
         code => Err(CdbFault::Opcode(code)),
     }
 }
@@ -103,15 +103,15 @@ fn decode_16(bytes: &[u8]) -> Result<Op, CdbFault>
     let lba = be_u64_at(bytes, 2);
     let count = be_u32_at(bytes, 10);
     match bytes[0] {
-        0x88 => unprotected(bytes, Op::Read { lba, count }),
-        0x89 => {
+        opcode::READ_16 => unprotected(bytes, Op::Read { lba, count }),
+        opcode::COMPARE_AND_WRITE => {
             let count = u32::from(bytes[13]);
             unprotected(bytes, Op::CompareWrite { lba, count })
         }
-        0x8a => unprotected(bytes, Op::Write { lba, count }),
-        0x91 => Ok(Op::Sync { lba, count }),
-        0x93 => write_same(bytes, 10, count, Op::WriteSame { lba, count }),
-        0x9e => read_capacity_16(bytes),
+        opcode::WRITE_16 => unprotected(bytes, Op::Write { lba, count }),
+        opcode::SYNCHRONIZE_CACHE_16 => Ok(Op::Sync { lba, count }),
+        opcode::WRITE_SAME_16 => write_same(bytes, 10, count, Op::WriteSame { lba, count }),
+        opcode::SERVICE_ACTION_IN_16 => read_capacity_16(bytes),
         code => Err(CdbFault::Opcode(code)),
     }
 }
@@ -147,8 +147,8 @@ fn unprotected(bytes: &[u8], op: Op) -> Result<Op, CdbFault>
     Ok(op)
 }
 
-/// WRITE SAME, whose count stands in the block from byte `at` on: the low five bits of byte 1 are 0, so ANCHOR, UNMAP and what
-/// is obsolete are not taken, and the count is from 1 to MAXIMUM WRITE SAME LENGTH.
+/// WRITE SAME, whose count stands in the block from byte `at` on: the low five bits of byte 1 (ANCHOR, UNMAP and what is obsolete)
+/// are 0, and the count is from 1 to MAXIMUM WRITE SAME LENGTH.
 fn write_same(bytes: &[u8], at: u8, count: u32, op: Op) -> Result<Op, CdbFault>
     requires { 6 ≤ length bytes.now }
     ensures value { result ≡ ruled (no_low_bits bytes.now ∷ same_count at count ∷ []) op }
