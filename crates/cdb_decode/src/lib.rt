@@ -2,6 +2,7 @@
 #![tactic(auto)]
 
 mod fields;
+mod opcode;
 mod table;
 #[cfg(test)]
 mod tests;

@@ -4,8 +4,8 @@ ghost use Rattle.byteorder.specs.Endian.{big_from};
 ghost use Rattle.tcmu_model.specs.Decoding.{decoded, ruled, rule, asks_page, asked_page, inquiry_page, is_vpd_page, is_mode_page, no_high_bits, no_low_bit, no_low_bits, same_count, count6, IsDecoded};
 ghost use Rattle.tcmu_model.specs.declared.op.Op.TheVariants.{RequestSense, Inquiry, ModeSense, Capacity16, ReportLuns, Unmap, CompareWrite};
 
-use crate::{be_u16_at, be_u32_at, be_u64_at};
-use tcmu_model::{CdbFault, Op};
+use crate::{be_u16_at, be_u32_at, be_u64_at, opcode};
+use tcmu_model::{CdbFault, MAXIMUM_WRITE_SAME_LENGTH, Op};
 use tcmu_types::Cdb;
 
 /// What a command descriptor block asks, or why it asks nothing: `Opcode` exactly where its operation code is not in the table,
@@ -17,40 +17,42 @@ pub fn decode(cdb: &Cdb) -> Result<Op, CdbFault>
 {
     let bytes = cdb.as_bytes();
     match bytes[0] {
-        0x00..0x20 => six(bytes),
-        0x20..0x60 => ten(bytes),
-        0x80..0xa0 => sixteen(bytes),
-        0xa0..0xc0 => twelve(bytes),
+        0x00..0x20 => decode_6(bytes),
+        0x20..0x60 => decode_10(bytes),
+        0x80..0xa0 => decode_16(bytes),
+        0xa0..0xc0 => decode_12(bytes),
         code => Err(CdbFault::Opcode(code)),
     }
 }
 
+/// The operations of group 0, whose blocks have 6 bytes.
 #[tactic(auto, unfolding(tcmu_model::specs::Decoding::decoded))]
-fn six(bytes: &[u8]) -> Result<Op, CdbFault>
+fn decode_6(bytes: &[u8]) -> Result<Op, CdbFault>
     requires length { length bytes.now ≡ 6 }
     requires code { slice_index bytes.now 0 < 0x20 }
     ensures value { result ≡ decoded bytes.now }
     ensures sound { IfOk result IsDecoded }
 {
     match bytes[0] {
-        0x00 => Ok(Op::TestUnitReady),
-        0x03 => request_sense(bytes),
-        0x08 => Ok(Op::Read {
-            lba: short_lba(bytes),
-            count: short_count(bytes),
+        opcode::TEST_UNIT_READY => Ok(Op::TestUnitReady),
+        opcode::REQUEST_SENSE => request_sense(bytes),
+        opcode::READ_6 => Ok(Op::Read {
+            lba: lba_6(bytes),
+            count: count_6(bytes),
         }),
-        0x0a => Ok(Op::Write {
-            lba: short_lba(bytes),
-            count: short_count(bytes),
+        opcode::WRITE_6 => Ok(Op::Write {
+            lba: lba_6(bytes),
+            count: count_6(bytes),
         }),
-        0x12 => inquiry(bytes),
-        0x1a => mode_sense(bytes),
+        opcode::INQUIRY => inquiry(bytes),
+        opcode::MODE_SENSE_6 => mode_sense(bytes),
         code => Err(CdbFault::Opcode(code)),
     }
 }
 
+/// The operations of groups 1 and 2, whose blocks have 10 bytes.
 #[tactic(auto, unfolding(tcmu_model::specs::Decoding::decoded))]
-fn ten(bytes: &[u8]) -> Result<Op, CdbFault>
+fn decode_10(bytes: &[u8]) -> Result<Op, CdbFault>
     requires length { length bytes.now ≡ 10 }
     requires low { 0x20 ≤ slice_index bytes.now 0 }
     requires high { slice_index bytes.now 0 < 0x60 }
@@ -60,18 +62,19 @@ fn ten(bytes: &[u8]) -> Result<Op, CdbFault>
     let lba = u64::from(be_u32_at(bytes, 2));
     let count = u32::from(be_u16_at(bytes, 7));
     match bytes[0] {
-        0x25 => Ok(Op::Capacity10),
-        0x28 => without_high_bits(bytes, Op::Read { lba, count }),
-        0x2a => without_high_bits(bytes, Op::Write { lba, count }),
-        0x35 => Ok(Op::Sync { lba, count }),
-        0x41 => same(bytes, 7, count, Op::WriteSame { lba, count }),
-        0x42 => unmap(bytes),
+        opcode::READ_CAPACITY_10 => Ok(Op::Capacity10),
+        opcode::READ_10 => unprotected(bytes, Op::Read { lba, count }),
+        opcode::WRITE_10 => unprotected(bytes, Op::Write { lba, count }),
+        opcode::SYNCHRONIZE_CACHE_10 => Ok(Op::Sync { lba, count }),
+        opcode::WRITE_SAME_10 => write_same(bytes, 7, count, Op::WriteSame { lba, count }),
+        opcode::UNMAP => unmap(bytes),
         code => Err(CdbFault::Opcode(code)),
     }
 }
 
+/// The operations of group 5, whose blocks have 12 bytes.
 #[tactic(auto, unfolding(tcmu_model::specs::Decoding::decoded))]
-fn twelve(bytes: &[u8]) -> Result<Op, CdbFault>
+fn decode_12(bytes: &[u8]) -> Result<Op, CdbFault>
     requires length { length bytes.now ≡ 12 }
     requires low { 0xa0 ≤ slice_index bytes.now 0 }
     requires high { slice_index bytes.now 0 < 0xc0 }
@@ -81,15 +84,16 @@ fn twelve(bytes: &[u8]) -> Result<Op, CdbFault>
     let lba = u64::from(be_u32_at(bytes, 2));
     let count = be_u32_at(bytes, 6);
     match bytes[0] {
-        0xa0 => report_luns(bytes),
-        0xa8 => without_high_bits(bytes, Op::Read { lba, count }),
-        0xaa => without_high_bits(bytes, Op::Write { lba, count }),
+        opcode::REPORT_LUNS => report_luns(bytes),
+        opcode::READ_12 => unprotected(bytes, Op::Read { lba, count }),
+        opcode::WRITE_12 => unprotected(bytes, Op::Write { lba, count }),
         code => Err(CdbFault::Opcode(code)),
     }
 }
 
+/// The operations of group 4, whose blocks have 16 bytes.
 #[tactic(auto, unfolding(tcmu_model::specs::Decoding::decoded))]
-fn sixteen(bytes: &[u8]) -> Result<Op, CdbFault>
+fn decode_16(bytes: &[u8]) -> Result<Op, CdbFault>
     requires length { length bytes.now ≡ 16 }
     requires low { 0x80 ≤ slice_index bytes.now 0 }
     requires high { slice_index bytes.now 0 < 0xa0 }
@@ -99,27 +103,29 @@ fn sixteen(bytes: &[u8]) -> Result<Op, CdbFault>
     let lba = be_u64_at(bytes, 2);
     let count = be_u32_at(bytes, 10);
     match bytes[0] {
-        0x88 => without_high_bits(bytes, Op::Read { lba, count }),
-        0x89 => {
+        opcode::READ_16 => unprotected(bytes, Op::Read { lba, count }),
+        opcode::COMPARE_AND_WRITE => {
             let count = u32::from(bytes[13]);
-            without_high_bits(bytes, Op::CompareWrite { lba, count })
+            unprotected(bytes, Op::CompareWrite { lba, count })
         }
-        0x8a => without_high_bits(bytes, Op::Write { lba, count }),
-        0x91 => Ok(Op::Sync { lba, count }),
-        0x93 => same(bytes, 10, count, Op::WriteSame { lba, count }),
-        0x9e => capacity(bytes),
+        opcode::WRITE_16 => unprotected(bytes, Op::Write { lba, count }),
+        opcode::SYNCHRONIZE_CACHE_16 => Ok(Op::Sync { lba, count }),
+        opcode::WRITE_SAME_16 => write_same(bytes, 10, count, Op::WriteSame { lba, count }),
+        opcode::SERVICE_ACTION_IN_16 => read_capacity_16(bytes),
         code => Err(CdbFault::Opcode(code)),
     }
 }
 
-fn short_lba(bytes: &[u8]) -> u64
+/// The address of READ(6) and WRITE(6): 21 bits.
+fn lba_6(bytes: &[u8]) -> u64
     requires { length bytes.now ≡ 6 }
     ensures { result ≡ 65536 * (slice_index bytes.now 1 % 32) + big_from 2 2 bytes.now }
 {
     65536 * u64::from(bytes[1] % 32) + u64::from(be_u16_at(bytes, 2))
 }
 
-fn short_count(bytes: &[u8]) -> u32
+/// The count of READ(6) and WRITE(6), in which 0 is 256.
+fn count_6(bytes: &[u8]) -> u32
     requires { length bytes.now ≡ 6 }
     ensures { result ≡ count6 bytes.now }
 {
@@ -129,7 +135,8 @@ fn short_count(bytes: &[u8]) -> u32
     }
 }
 
-fn without_high_bits(bytes: &[u8], op: Op) -> Result<Op, CdbFault>
+/// The operation, where RDPROTECT or WRPROTECT, the high three bits of byte 1, is 0.
+fn unprotected(bytes: &[u8], op: Op) -> Result<Op, CdbFault>
     requires { 6 ≤ length bytes.now }
     ensures value { result ≡ ruled (no_high_bits bytes.now ∷ []) op }
     ensures sound { IsDecoded op → IfOk result IsDecoded }
@@ -140,8 +147,9 @@ fn without_high_bits(bytes: &[u8], op: Op) -> Result<Op, CdbFault>
     Ok(op)
 }
 
-// WRITE SAME, whose count stands in the block from a byte on.
-fn same(bytes: &[u8], at: u8, count: u32, op: Op) -> Result<Op, CdbFault>
+/// WRITE SAME, whose count stands in the block from byte `at` on: the low five bits of byte 1 (ANCHOR, UNMAP and what is obsolete)
+/// are 0, and the count is from 1 to MAXIMUM WRITE SAME LENGTH.
+fn write_same(bytes: &[u8], at: u8, count: u32, op: Op) -> Result<Op, CdbFault>
     requires { 6 ≤ length bytes.now }
     ensures value { result ≡ ruled (no_low_bits bytes.now ∷ same_count at count ∷ []) op }
     ensures sound { (0 < count → IsDecoded op) → IfOk result IsDecoded }
@@ -149,12 +157,13 @@ fn same(bytes: &[u8], at: u8, count: u32, op: Op) -> Result<Op, CdbFault>
     if bytes[1] % 32 != 0 {
         return Err(CdbFault::Field(1));
     }
-    if count == 0 || count > 2048 {
+    if count == 0 || count > MAXIMUM_WRITE_SAME_LENGTH {
         return Err(CdbFault::Field(at));
     }
     Ok(op)
 }
 
+/// UNMAP, with ANCHOR at 0.
 fn unmap(bytes: &[u8]) -> Result<Op, CdbFault>
     requires { length bytes.now ≡ 10 }
     ensures value { result ≡ ruled (no_low_bit bytes.now ∷ []) (Unmap (big_from 7 2 bytes.now)) }
@@ -168,6 +177,7 @@ fn unmap(bytes: &[u8]) -> Result<Op, CdbFault>
     })
 }
 
+/// REQUEST SENSE, with DESC at 0.
 fn request_sense(bytes: &[u8]) -> Result<Op, CdbFault>
     requires { length bytes.now ≡ 6 }
     ensures value { result ≡ ruled (no_low_bit bytes.now ∷ []) (RequestSense (slice_index bytes.now 4)) }
@@ -181,18 +191,21 @@ fn request_sense(bytes: &[u8]) -> Result<Op, CdbFault>
     })
 }
 
+/// The pages of vital product data that are served: 00h, 80h, 83h and B0h.
 fn is_vpd_page(page: u8) -> bool
     ensures { result ≡ is_vpd_page page }
 {
     matches!(page, 0x00 | 0x80 | 0x83 | 0xb0)
 }
 
+/// The mode pages that are served: Caching, Control and all pages, with PC at 0, the current values.
 fn is_mode_page(page: u8) -> bool
     ensures { result ≡ is_mode_page page }
 {
     matches!(page, 0x08 | 0x0a | 0x3f)
 }
 
+/// INQUIRY: with EVPD a served page, and else no page.
 fn inquiry(bytes: &[u8]) -> Result<Op, CdbFault>
     requires { length bytes.now ≡ 6 }
     ensures value { result ≡ ruled (inquiry_page bytes.now ∷ []) (Inquiry (asked_page bytes.now) (big_from 3 2 bytes.now)) }
@@ -214,6 +227,7 @@ fn inquiry(bytes: &[u8]) -> Result<Op, CdbFault>
     }
 }
 
+/// MODE SENSE(6) of a served page, without a subpage.
 fn mode_sense(bytes: &[u8]) -> Result<Op, CdbFault>
     requires { length bytes.now ≡ 6 }
     ensures value { result ≡ ruled (rule 2 (not (is_mode_page (slice_index bytes.now 2))) ∷ rule 3 (not (slice_index bytes.now 3 == 0)) ∷ [])
@@ -232,7 +246,8 @@ fn mode_sense(bytes: &[u8]) -> Result<Op, CdbFault>
     })
 }
 
-fn capacity(bytes: &[u8]) -> Result<Op, CdbFault>
+/// SERVICE ACTION IN(16), of which READ CAPACITY(16) alone is served.
+fn read_capacity_16(bytes: &[u8]) -> Result<Op, CdbFault>
     requires { length bytes.now ≡ 16 }
     ensures value { result ≡ ruled (rule 1 (not (slice_index bytes.now 1 % 32 == 0x10)) ∷ []) (Capacity16 (big_from 10 4 bytes.now)) }
     ensures sound { IfOk result IsDecoded }
@@ -245,6 +260,7 @@ fn capacity(bytes: &[u8]) -> Result<Op, CdbFault>
     })
 }
 
+/// REPORT LUNS, with SELECT REPORT from 0 to 2.
 fn report_luns(bytes: &[u8]) -> Result<Op, CdbFault>
     requires { length bytes.now ≡ 12 }
     ensures value { result ≡ ruled (rule 2 (nat_lt 2 (slice_index bytes.now 2)) ∷ []) (ReportLuns (slice_index bytes.now 2) (big_from 6 4 bytes.now)) }

@@ -5,6 +5,9 @@ ghost use Rattle.tcmu_model.specs.Decoding.{is_vpd_page};
 
 use byteorder::{BigEndian, ByteOrder};
 use std::alloc::Global;
+use tcmu_model::{
+    MAXIMUM_UNMAP_DESCRIPTOR_COUNT, MAXIMUM_UNMAP_LBA_COUNT, MAXIMUM_WRITE_SAME_LENGTH,
+};
 use tcmu_types::{Bytes, Name, NoMemory};
 
 /// Standard INQUIRY data, 36 bytes (SPC-4): a direct access block device, with VERSION 05h (SPC-3).
@@ -15,6 +18,7 @@ pub fn standard_inquiry() -> [u8; 36]
     *b"\x00\x00\x05\x02\x1f\x00\x00\x00RTLTCMU ring disk       0001"
 }
 
+/// The bytes of both, one behind the other.
 fn joined(alloc: Global, front: &[u8], rest: &[u8]) -> Result<Vec<u8>, NoMemory>
     ensures { IfOk result (λ bytes. bytes.items ≡ front.now ++ rest.now) }
 {
@@ -23,7 +27,7 @@ fn joined(alloc: Global, front: &[u8], rest: &[u8]) -> Result<Vec<u8>, NoMemory>
     Ok(bytes)
 }
 
-// The page of this code, of which these bytes follow the header.
+/// The page of this code, of which these bytes follow the header.
 fn vital_page(alloc: Global, page: u8, rest: &[u8]) -> Result<Bytes, NoMemory>
     requires { length rest.now < 65536 }
     ensures { IfOk result (λ bytes. bytes.items ≡ vital_page page rest.now) }
@@ -33,6 +37,7 @@ fn vital_page(alloc: Global, page: u8, rest: &[u8]) -> Result<Bytes, NoMemory>
     Ok(Bytes::from_vec(joined(alloc, &header, rest)?))
 }
 
+/// A designator of type T10 vendor ID (SPC-4): in ASCII, of the logical unit, the vendor and the device's name.
 fn designator(alloc: Global, name: &[u8]) -> Result<Vec<u8>, NoMemory>
     requires { length name.now ≤ 16 }
     ensures { IfOk result (λ bytes. bytes.items ≡ designator name.now) }
@@ -42,15 +47,16 @@ fn designator(alloc: Global, name: &[u8]) -> Result<Vec<u8>, NoMemory>
     joined(alloc, &front, name)
 }
 
+/// The Block Limits page (SBC-3) behind its header of 4 bytes, so each place is 4 below that of the standard's table.
 fn block_limits() -> [u8; 60]
     ensures { result ≡ block_limits }
 {
     let mut limits = [0; 60];
-    limits[0] = 0x01;
-    limits[1] = 0xff;
-    BigEndian::write_u32(&mut limits[16..], 32_768);
-    BigEndian::write_u32(&mut limits[20..], 256);
-    BigEndian::write_u64(&mut limits[32..], 2_048);
+    limits[0] = 0x01; // WSNZ: WRITE SAME takes no count of 0
+    limits[1] = 0xff; // MAXIMUM COMPARE AND WRITE LENGTH
+    BigEndian::write_u32(&mut limits[16..], MAXIMUM_UNMAP_LBA_COUNT);
+    BigEndian::write_u32(&mut limits[20..], MAXIMUM_UNMAP_DESCRIPTOR_COUNT);
+    BigEndian::write_u64(&mut limits[32..], u64::from(MAXIMUM_WRITE_SAME_LENGTH));
     limits
 }
 

@@ -6,12 +6,15 @@ ghost use Rattle.tcmu_model.specs.Decoding.{is_mode_page};
 use std::alloc::Global;
 use tcmu_types::{Bytes, NoMemory};
 
-const CACHING: [u8; 20] = [
+/// The Caching mode page (SBC-3), its code and its length before zeros.
+const CACHING_PAGE: [u8; 20] = [
     0x08, 0x12, 0, 0, 0, 0, 0, 0, 0, 0, 0, 0, 0, 0, 0, 0, 0, 0, 0, 0,
 ];
 
-const CONTROL: [u8; 12] = [0x0a, 0x0a, 0, 0, 0, 0, 0, 0, 0, 0, 0, 0];
+/// The Control mode page (SPC-4), its code and its length before zeros.
+const CONTROL_PAGE: [u8; 12] = [0x0a, 0x0a, 0, 0, 0, 0, 0, 0, 0, 0, 0, 0];
 
+/// The mode parameter header (SPC-4), and these pages behind it.
 fn with_header(
     alloc: Global,
     protected: bool,
@@ -22,8 +25,8 @@ fn with_header(
     ensures { IfOk result (λ bytes. bytes.items ≡ ((3 + length (first.now ++ second.now)) ∷ 0x00 ∷ (if protected then 0x80 else 0x00) ∷ 0x00 ∷ []) ++ (first.now ++ second.now)) }
 {
     let follow = 3 + (first.len() + second.len()) as u8;
-    let wp = if protected { 0x80 } else { 0x00 };
-    let mut bytes = Vec::from_slice(alloc, &[follow, 0x00, wp, 0x00])?;
+    let write_protected = if protected { 0x80 } else { 0x00 };
+    let mut bytes = Vec::from_slice(alloc, &[follow, 0x00, write_protected, 0x00])?;
     bytes.extend_from_slice(first)?;
     bytes.extend_from_slice(second)?;
     Ok(Bytes::from_vec(bytes))
@@ -37,8 +40,8 @@ pub fn mode_sense(alloc: Global, page: u8, protected: bool) -> Result<Bytes, NoM
     ensures { IfOk result (λ bytes. bytes.items ≡ mode_sense page protected) }
 {
     match page {
-        0x08 => with_header(alloc, protected, &CACHING, &[]),
-        0x0a => with_header(alloc, protected, &CONTROL, &[]),
-        _ => with_header(alloc, protected, &CACHING, &CONTROL),
+        0x08 => with_header(alloc, protected, &CACHING_PAGE, &[]),
+        0x0a => with_header(alloc, protected, &CONTROL_PAGE, &[]),
+        _ => with_header(alloc, protected, &CACHING_PAGE, &CONTROL_PAGE),
     }
 }

@@ -62,22 +62,14 @@ pub const READ_ONE: Sent = Sent {
     in_len: 512,
 };
 
-/// The same with another tag.
-pub const READ_ONE_MORE: Sent = Sent {
-    init: "a",
-    tag: 2,
-    cdb: &[0x28, 0, 0, 0, 0, 0, 0, 0, 1, 0],
-    runs: &[],
-    in_len: 512,
-};
+/// `READ_ONE` with another tag.
+pub const READ_ONE_MORE: Sent = Sent { tag: 2, ..READ_ONE };
 
 /// READ(10) of one logical block at 1.
 pub const READ_AT_1: Sent = Sent {
-    init: "a",
     tag: 3,
     cdb: &[0x28, 0, 0, 0, 0, 1, 0, 0, 1, 0],
-    runs: &[],
-    in_len: 512,
+    ..READ_ONE
 };
 
 /// READ(10) of one logical block at 2, of another initiator.
@@ -85,54 +77,99 @@ pub const READ_AT_2: Sent = Sent {
     init: "b",
     tag: 4,
     cdb: &[0x28, 0, 0, 0, 0, 2, 0, 0, 1, 0],
-    runs: &[],
-    in_len: 512,
+    ..READ_ONE
 };
 
 /// READ(10) of 64 KiB.
 pub const READ_128: Sent = Sent {
-    init: "a",
-    tag: 1,
     cdb: &[0x28, 0, 0, 0, 0, 0, 0, 0, 128, 0],
-    runs: &[],
     in_len: 65536,
+    ..READ_ONE
 };
 
 /// READ(10) of 68 KiB.
 pub const READ_136: Sent = Sent {
-    init: "a",
-    tag: 1,
     cdb: &[0x28, 0, 0, 0, 0, 0, 0, 0, 136, 0],
-    runs: &[],
     in_len: 69632,
+    ..READ_ONE
 };
 
 /// READ(10) of 1 MiB.
 pub const READ_2048: Sent = Sent {
-    init: "a",
-    tag: 1,
     cdb: &[0x28, 0, 0, 0, 0, 0, 0, 8, 0, 0],
-    runs: &[],
     in_len: 1048576,
+    ..READ_ONE
 };
 
 /// WRITE(10) of three logical blocks at 0, of 11h, 22h and 33h.
 pub const WRITE_THREE: Sent = Sent {
-    init: "a",
-    tag: 1,
     cdb: &[0x2a, 0, 0, 0, 0, 0, 0, 0, 3, 0],
     runs: &[(0x11, 512), (0x22, 512), (0x33, 512)],
     in_len: 0,
+    ..READ_ONE
 };
 
 /// TEST UNIT READY: it moves no data, and its entry is of 120 bytes.
 pub const TEST_UNIT_READY: Sent = Sent {
+    cdb: &[0, 0, 0, 0, 0, 0],
+    in_len: 0,
+    ..READ_ONE
+};
+
+/// The completion of the read `READ_ONE` under serial 1: GOOD, with 512 zeros.
+pub const DONE: Finished = Finished {
+    serial: 1,
     init: "a",
     tag: 1,
-    cdb: &[0, 0, 0, 0, 0, 0],
-    runs: &[],
-    in_len: 0,
+    status: 0x00,
+    sense: (0x00, 0x00, 0x00),
+    payload: (0x00, 512),
 };
+
+/// The same command ended by a reset of level 1: BUSY.
+pub const BUSY: Finished = Finished {
+    status: 0x08,
+    payload: (0x00, 0),
+    ..DONE
+};
+
+/// The same command ended by a reset of level 2: HARDWARE ERROR, INTERNAL TARGET FAILURE.
+pub const FAILED_TARGET: Finished = Finished {
+    status: 0x02,
+    sense: (0x04, 0x44, 0x00),
+    payload: (0x00, 0),
+    ..DONE
+};
+
+/// The same command when its time is up: ABORTED COMMAND, LOGICAL UNIT COMMUNICATION TIME-OUT.
+pub const EXPIRED: Finished = Finished {
+    status: 0x02,
+    sense: (0x0b, 0x08, 0x01),
+    payload: (0x00, 0),
+    ..DONE
+};
+
+/// The same command when it has waited for room for too long: TASK SET FULL.
+pub const TASK_SET_FULL: Finished = Finished {
+    status: 0x28,
+    payload: (0x00, 0),
+    ..DONE
+};
+
+/// A publish of one answer, that of a command.
+pub const MOVED_ONE: Told = Told::Publish(Publish::Moved {
+    items: 1,
+    commands: 1,
+});
+
+/// A publish of three answers, those of commands.
+pub const MOVED_THREE: Told = Told::Publish(Publish::Moved {
+    items: 3,
+    commands: 3,
+});
+
+/// A command that does not enter, since its one data block is not free.
+pub const NO_BLOCK: Told = Told::Enter(Enter::FullBlocks { need: 1, free: 0 });
 
 /// The numbers of a device that is new, but that no user side is at.
 pub const ZEROS: Stat = Stat {
@@ -168,53 +205,38 @@ pub const OUT_OF_ORDER: [(Call, Told); 16] = [
     (Call::Respond(2), Told::Respond(Respond::Placed)),
     (Call::Handle(3), Told::Reply(0, 512)),
     (Call::Respond(3), Told::Respond(Respond::Placed)),
-    (
-        Call::Publish,
-        Told::Publish(Publish::Moved {
-            items: 3,
-            commands: 3,
-        }),
-    ),
+    (Call::Publish, MOVED_THREE),
     (Call::Clean, Told::Number(3)),
 ];
 
 /// The completions of `OUT_OF_ORDER`.
 pub const OUT_OF_ORDER_LOG: [Finished; 4] = [
     Finished {
-        serial: 1,
-        init: "a",
-        tag: 1,
-        status: 0x00,
-        sense: (0x00, 0x00, 0x00),
         payload: (0x00, 0),
+        ..DONE
     },
     Finished {
         serial: 4,
         init: "b",
         tag: 4,
-        status: 0x00,
-        sense: (0x00, 0x00, 0x00),
         payload: (0x33, 512),
+        ..DONE
     },
     Finished {
         serial: 2,
-        init: "a",
         tag: 2,
-        status: 0x00,
-        sense: (0x00, 0x00, 0x00),
         payload: (0x11, 512),
+        ..DONE
     },
     Finished {
         serial: 3,
-        init: "a",
         tag: 3,
-        status: 0x00,
-        sense: (0x00, 0x00, 0x00),
         payload: (0x22, 512),
+        ..DONE
     },
 ];
 
-/// The same where answers go in order: the last one waits for the others.
+/// The calls of `OUT_OF_ORDER` where answers go in order: that of the last read waits for the others.
 pub const IN_ORDER: [(Call, Told); 16] = [
     (Call::Submit(WRITE_THREE), Told::Submit(Submit::Queued(1))),
     (Call::Drain, Told::Drained),
@@ -230,49 +252,34 @@ pub const IN_ORDER: [(Call, Told); 16] = [
     (Call::Respond(2), Told::Respond(Respond::Placed)),
     (Call::Handle(3), Told::Reply(0, 512)),
     (Call::Respond(3), Told::Respond(Respond::Placed)),
-    (
-        Call::Publish,
-        Told::Publish(Publish::Moved {
-            items: 3,
-            commands: 3,
-        }),
-    ),
+    (Call::Publish, MOVED_THREE),
     (Call::Clean, Told::Number(3)),
 ];
 
 /// The completions of `IN_ORDER`.
 pub const IN_ORDER_LOG: [Finished; 4] = [
     Finished {
-        serial: 1,
-        init: "a",
-        tag: 1,
-        status: 0x00,
-        sense: (0x00, 0x00, 0x00),
         payload: (0x00, 0),
+        ..DONE
     },
     Finished {
         serial: 2,
-        init: "a",
         tag: 2,
-        status: 0x00,
-        sense: (0x00, 0x00, 0x00),
         payload: (0x11, 512),
+        ..DONE
     },
     Finished {
         serial: 3,
-        init: "a",
         tag: 3,
-        status: 0x00,
-        sense: (0x00, 0x00, 0x00),
         payload: (0x22, 512),
+        ..DONE
     },
     Finished {
         serial: 4,
         init: "b",
         tag: 4,
-        status: 0x00,
-        sense: (0x00, 0x00, 0x00),
         payload: (0x33, 512),
+        ..DONE
     },
 ];
 
@@ -297,13 +304,7 @@ pub const LATE: [(Call, Told); 10] = [
     ),
     (Call::Handle(1), Told::Reply(0, 512)),
     (Call::Respond(1), Told::Respond(Respond::Placed)),
-    (
-        Call::Publish,
-        Told::Publish(Publish::Moved {
-            items: 1,
-            commands: 1,
-        }),
-    ),
+    (Call::Publish, MOVED_ONE),
     (Call::Clean, Told::Number(0)),
     (
         Call::Stat,
@@ -317,14 +318,7 @@ pub const LATE: [(Call, Told); 10] = [
 ];
 
 /// The completions of `LATE`.
-pub const LATE_LOG: [Finished; 1] = [Finished {
-    serial: 1,
-    init: "a",
-    tag: 1,
-    status: 0x02,
-    sense: (0x0b, 0x08, 0x01),
-    payload: (0x00, 0),
-}];
+pub const LATE_LOG: [Finished; 1] = [EXPIRED];
 
 /// An expired read of 64 KiB holds its blocks until it is answered.
 pub const EXPIRED_BLOCKS: [(Call, Told); 5] = [
@@ -337,6 +331,9 @@ pub const EXPIRED_BLOCKS: [(Call, Told); 5] = [
     (Call::Drain, Told::Drained),
     (Call::Submit(READ_ONE), Told::Submit(Submit::Queued(2))),
 ];
+
+/// The completions of `EXPIRED_BLOCKS`.
+pub const EXPIRED_BLOCKS_LOG: [Finished; 1] = [EXPIRED];
 
 /// Without a timeout nothing expires.
 pub const NO_TIMEOUT: [(Call, Told); 2] = [
@@ -366,14 +363,7 @@ pub const RESET: [(Call, Told); 10] = [
 ];
 
 /// The completions of `RESET`.
-pub const RESET_LOG: [Finished; 1] = [Finished {
-    serial: 1,
-    init: "a",
-    tag: 1,
-    status: 0x08,
-    sense: (0x00, 0x00, 0x00),
-    payload: (0x00, 0),
-}];
+pub const RESET_LOG: [Finished; 1] = [BUSY];
 
 /// A reset finishes what is published, and takes the rest.
 pub const PUBLISHED: [(Call, Told); 10] = [
@@ -383,13 +373,7 @@ pub const PUBLISHED: [(Call, Told); 10] = [
     (Call::Dispatch, Told::Job(2)),
     (Call::Handle(2), Told::Reply(0, 512)),
     (Call::Respond(2), Told::Respond(Respond::Placed)),
-    (
-        Call::Publish,
-        Told::Publish(Publish::Moved {
-            items: 1,
-            commands: 1,
-        }),
-    ),
+    (Call::Publish, MOVED_ONE),
     (Call::Restart, Told::Number(1)),
     (Call::Block, Told::Changed(true)),
     (Call::Reset, Told::Reset(Reset::Reset(2))),
@@ -399,20 +383,10 @@ pub const PUBLISHED: [(Call, Told); 10] = [
 pub const PUBLISHED_LOG: [Finished; 2] = [
     Finished {
         serial: 2,
-        init: "a",
         tag: 2,
-        status: 0x00,
-        sense: (0x00, 0x00, 0x00),
-        payload: (0x00, 512),
+        ..DONE
     },
-    Finished {
-        serial: 1,
-        init: "a",
-        tag: 1,
-        status: 0x08,
-        sense: (0x00, 0x00, 0x00),
-        payload: (0x00, 0),
-    },
+    BUSY,
 ];
 
 /// A reset of level 2 tells of a failed target.
@@ -423,13 +397,7 @@ pub const HARD_RESET: [(Call, Told); 10] = [
     (Call::Dispatch, Told::Job(2)),
     (Call::Handle(2), Told::Reply(0, 512)),
     (Call::Respond(2), Told::Respond(Respond::Placed)),
-    (
-        Call::Publish,
-        Told::Publish(Publish::Moved {
-            items: 1,
-            commands: 1,
-        }),
-    ),
+    (Call::Publish, MOVED_ONE),
     (Call::Restart, Told::Number(1)),
     (Call::Block, Told::Changed(true)),
     (Call::HardReset, Told::Reset(Reset::Reset(2))),
@@ -439,20 +407,10 @@ pub const HARD_RESET: [(Call, Told); 10] = [
 pub const HARD_RESET_LOG: [Finished; 2] = [
     Finished {
         serial: 2,
-        init: "a",
         tag: 2,
-        status: 0x00,
-        sense: (0x00, 0x00, 0x00),
-        payload: (0x00, 512),
+        ..DONE
     },
-    Finished {
-        serial: 1,
-        init: "a",
-        tag: 1,
-        status: 0x02,
-        sense: (0x04, 0x44, 0x00),
-        payload: (0x00, 0),
-    },
+    FAILED_TARGET,
 ];
 
 /// Where no user side is attached nothing is dispatched, handled, answered or published.
@@ -498,6 +456,9 @@ pub const NOTES: [(Call, Told); 11] = [
     (Call::Clean, Told::Number(1)),
 ];
 
+/// The completions of `NOTES`.
+pub const NOTES_LOG: [Finished; 2] = [DONE, Finished { serial: 2, ..DONE }];
+
 /// Notes that are off.
 pub const NO_NOTES: [(Call, Told); 1] = [(Call::ResetUnit, Told::Tmr(Tmr::Off))];
 
@@ -505,10 +466,7 @@ pub const NO_NOTES: [(Call, Told); 1] = [(Call::ResetUnit, Told::Tmr(Tmr::Off))]
 pub const LEAVES: [(Call, Told); 5] = [
     (Call::Submit(READ_ONE), Told::Submit(Submit::Queued(1))),
     (Call::Submit(READ_ONE), Told::Submit(Submit::Delayed(2))),
-    (
-        Call::Enter,
-        Told::Enter(Enter::FullBlocks { need: 1, free: 0 }),
-    ),
+    (Call::Enter, NO_BLOCK),
     (Call::Tick(5), Told::Number(1)),
     (Call::Enter, Told::Enter(Enter::Empty)),
 ];
@@ -516,26 +474,16 @@ pub const LEAVES: [(Call, Told); 5] = [
 /// The completions of `LEAVES`.
 pub const LEAVES_LOG: [Finished; 1] = [Finished {
     serial: 2,
-    init: "a",
-    tag: 1,
-    status: 0x28,
-    sense: (0x00, 0x00, 0x00),
-    payload: (0x00, 0),
+    ..TASK_SET_FULL
 }];
 
-/// In 4 ticks it does not leave.
+/// A second read that waits for the only block is still there after 4 ticks.
 pub const STILL_WAITS: [(Call, Told); 6] = [
     (Call::Submit(READ_ONE), Told::Submit(Submit::Queued(1))),
     (Call::Submit(READ_ONE), Told::Submit(Submit::Delayed(2))),
-    (
-        Call::Enter,
-        Told::Enter(Enter::FullBlocks { need: 1, free: 0 }),
-    ),
+    (Call::Enter, NO_BLOCK),
     (Call::Tick(4), Told::Number(0)),
-    (
-        Call::Enter,
-        Told::Enter(Enter::FullBlocks { need: 1, free: 0 }),
-    ),
+    (Call::Enter, NO_BLOCK),
     (
         Call::Stat,
         Told::Stat(Stat {
@@ -551,92 +499,40 @@ pub const STILL_WAITS: [(Call, Told); 6] = [
     ),
 ];
 
-/// A reset finishes it too.
+/// A reset finishes the delayed read after the one in the ring.
 pub const WAITS_FOR_RESET: [(Call, Told); 6] = [
     (Call::Submit(READ_ONE), Told::Submit(Submit::Queued(1))),
     (Call::Submit(READ_ONE), Told::Submit(Submit::Delayed(2))),
-    (
-        Call::Enter,
-        Told::Enter(Enter::FullBlocks { need: 1, free: 0 }),
-    ),
+    (Call::Enter, NO_BLOCK),
     (Call::Block, Told::Changed(true)),
     (Call::Reset, Told::Reset(Reset::Reset(2))),
     (Call::Enter, Told::Enter(Enter::Empty)),
 ];
 
 /// The completions of `WAITS_FOR_RESET`.
-pub const WAITS_FOR_RESET_LOG: [Finished; 2] = [
-    Finished {
-        serial: 1,
-        init: "a",
-        tag: 1,
-        status: 0x08,
-        sense: (0x00, 0x00, 0x00),
-        payload: (0x00, 0),
-    },
-    Finished {
-        serial: 2,
-        init: "a",
-        tag: 1,
-        status: 0x08,
-        sense: (0x00, 0x00, 0x00),
-        payload: (0x00, 0),
-    },
-];
+pub const WAITS_FOR_RESET_LOG: [Finished; 2] = [BUSY, Finished { serial: 2, ..BUSY }];
 
-/// It enters when the first is finished.
+/// The delayed read enters once the first is finished.
 pub const ENTERS: [(Call, Told); 15] = [
     (Call::Submit(READ_ONE), Told::Submit(Submit::Queued(1))),
     (Call::Submit(READ_ONE), Told::Submit(Submit::Delayed(2))),
-    (
-        Call::Enter,
-        Told::Enter(Enter::FullBlocks { need: 1, free: 0 }),
-    ),
+    (Call::Enter, NO_BLOCK),
     (Call::Dispatch, Told::Job(1)),
     (Call::Handle(1), Told::Reply(0, 512)),
     (Call::Respond(1), Told::Respond(Respond::Placed)),
-    (
-        Call::Publish,
-        Told::Publish(Publish::Moved {
-            items: 1,
-            commands: 1,
-        }),
-    ),
+    (Call::Publish, MOVED_ONE),
     (Call::Clean, Told::Number(1)),
     (Call::Enter, Told::Enter(Enter::Entered(2))),
     (Call::Enter, Told::Enter(Enter::Empty)),
     (Call::Dispatch, Told::Job(2)),
     (Call::Handle(2), Told::Reply(0, 512)),
     (Call::Respond(2), Told::Respond(Respond::Placed)),
-    (
-        Call::Publish,
-        Told::Publish(Publish::Moved {
-            items: 1,
-            commands: 1,
-        }),
-    ),
+    (Call::Publish, MOVED_ONE),
     (Call::Clean, Told::Number(1)),
 ];
 
 /// The completions of `ENTERS`.
-pub const ENTERS_LOG: [Finished; 2] = [
-    Finished {
-        serial: 1,
-        init: "a",
-        tag: 1,
-        status: 0x00,
-        sense: (0x00, 0x00, 0x00),
-        payload: (0x00, 512),
-    },
-    Finished {
-        serial: 2,
-        init: "a",
-        tag: 1,
-        status: 0x00,
-        sense: (0x00, 0x00, 0x00),
-        payload: (0x00, 512),
-    },
-];
+pub const ENTERS_LOG: [Finished; 2] = [DONE, Finished { serial: 2, ..DONE }];
 
 /// A read of 68 KiB needs more than the 16 blocks there are.
 pub const TOO_MANY_BLOCKS: [(Call, Told); 1] = [(
@@ -656,43 +552,13 @@ pub const MEBIBYTE_REFUSED: [(Call, Told); 1] = [(
     }),
 )];
 
-/// It is not over half a ring of 12,288 bytes.
+/// The entry of a read of 1 MiB is not over half a ring of 12,288 bytes.
 pub const MEBIBYTE_QUEUED: [(Call, Told); 1] = [(
     Call::Submit(READ_2048),
     Told::Submit(Submit::Queued(1)),
 )];
 
-/// The completions of `EXPIRED_BLOCKS`.
-pub const EXPIRED_BLOCKS_LOG: [Finished; 1] = [Finished {
-    serial: 1,
-    init: "a",
-    tag: 1,
-    status: 0x02,
-    sense: (0x0b, 0x08, 0x01),
-    payload: (0x00, 0),
-}];
-
-/// The completions of `NOTES`.
-pub const NOTES_LOG: [Finished; 2] = [
-    Finished {
-        serial: 1,
-        init: "a",
-        tag: 1,
-        status: 0x00,
-        sense: (0x00, 0x00, 0x00),
-        payload: (0x00, 512),
-    },
-    Finished {
-        serial: 2,
-        init: "a",
-        tag: 1,
-        status: 0x00,
-        sense: (0x00, 0x00, 0x00),
-        payload: (0x00, 512),
-    },
-];
-
-/// After 31 entries of 128 bytes.
+/// A ring with 31 entries of 128 bytes has no room for another.
 pub const FULL_RING: [(Call, Told); 1] = [(
     Call::Submit(READ_ONE),
     Told::Submit(Submit::FullRing {

@@ -3,7 +3,7 @@ ghost use Rattle.std.specs.Prelude.{◌≡◌, ◌≤◌};
 
 use std::alloc::Global;
 use std::marker::Model;
-use tcmu_path::Path;
+use tcmu_path::{Path, make_event, next_event};
 use tcmu_types::{
     Command, Dispatch, Done, Enter, Handle, NoMemory, Publish, Reset, Respond, Serials, Stat,
     Submit, Tmr,
@@ -112,26 +112,10 @@ impl<P: Path + Drop> Rig<P> {
 
     /// Makes the event that the drain chooses; false where none applies.
     fn step(&mut self, alloc: Global) -> Result<bool, NoMemory> {
-        let todo = self.path.todo();
-        if let Some(serial) = todo.handle {
-            self.path.handle(alloc, serial)?;
-            return Ok(true);
-        }
-        if let Some(serial) = todo.respond {
-            self.path.respond(serial);
-            return Ok(true);
-        }
-        if todo.publish {
-            self.path.publish();
-        } else if todo.clean {
-            self.path.clean();
-        } else if todo.enter {
-            self.path.enter(alloc)?;
-        } else if todo.dispatch {
-            self.path.dispatch(alloc)?;
-        } else {
+        let Some(event) = next_event(&self.path.todo()) else {
             return Ok(false);
-        }
+        };
+        make_event(alloc, &mut self.path, &event)?;
         Ok(true)
     }
 

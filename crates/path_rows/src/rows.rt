@@ -93,6 +93,7 @@ pub fn command(alloc: Global, parts: &Sent) -> Result<Command, Fail> {
     Ok(Command::new(init, parts.tag, cdb, sent, parts.in_len).ok_or("a command")?)
 }
 
+/// What a dispatch answers.
 fn dispatched(answer: Dispatch) -> Told {
     match answer {
         Dispatch::Job(serial) => Told::Job(serial),
@@ -102,6 +103,7 @@ fn dispatched(answer: Dispatch) -> Told {
     }
 }
 
+/// What a handler's call answers.
 fn handled(answer: Handle) -> Told {
     match answer {
         Handle::Done(reply) => Told::Reply(reply.status.0, reply.payload.len()),
@@ -110,7 +112,7 @@ fn handled(answer: Handle) -> Told {
 }
 
 /// Makes a call that takes memory; none where the call takes none.
-fn made<P: Path + Drop>(
+fn call_with_memory<P: Path + Drop>(
     rig: &mut Rig<P>,
     alloc: Global,
     call: &Call,
@@ -131,7 +133,7 @@ fn made<P: Path + Drop>(
 }
 
 /// Makes a call that takes no memory; none where the call takes some.
-fn done<P: Path + Drop>(rig: &mut Rig<P>, call: &Call) -> Option<Told> {
+fn call_without_memory<P: Path + Drop>(rig: &mut Rig<P>, call: &Call) -> Option<Told> {
     Some(match *call {
         Call::Respond(serial) => Told::Respond(rig.respond(serial)),
         Call::Publish => Told::Publish(rig.publish()),
@@ -147,16 +149,16 @@ fn done<P: Path + Drop>(rig: &mut Rig<P>, call: &Call) -> Option<Told> {
     })
 }
 
-/// What the call answers, or a failure where memory lacks.
+/// What the call answers, or a failure where memory is wanting.
 pub fn answered<P: Path + Drop>(
     rig: &mut Rig<P>,
     alloc: Global,
     call: &Call,
 ) -> Result<Told, Fail> {
-    if let Some(answer) = made(rig, alloc, call)? {
+    if let Some(answer) = call_with_memory(rig, alloc, call)? {
         return Ok(answer);
     }
-    Ok(done(rig, call).ok_or("a call")?)
+    Ok(call_without_memory(rig, call).ok_or("a call")?)
 }
 
 /// Makes the calls of a table, and gives the number of the first that does not answer as its row says.

@@ -9,71 +9,92 @@ use std::test::Fail;
 /// An UNMAP, its parameter list, and how it ends.
 type ListCase = (&'static str, &'static str, Outcome);
 
-// On 256 logical blocks: commands that answer bytes.
-const READS: [Case; 25] = [
+/// On 256 logical blocks: commands that answer bytes, and some that are not served.
+const ANSWERS_AT_LIMITS: [Case; 25] = [
+    // READ(6)
     ("080000000000", 0, 131_072, GOOD),
     ("080000010000", 0, 131_072, RANGE),
     ("08e000000100", 0, 512, GOOD),
+    // READ(10)
     ("2800000000ff00000100", 0, 512, GOOD),
     ("28000000010000000100", 0, 512, RANGE),
+    // READ(12)
     ("a80000000101000000000000", 0, 512, RANGE),
+    // READ(16)
     ("88000000000000000100000000010000", 0, 512, RANGE),
     ("88000000000000000101000000000000", 0, 512, RANGE),
+    // REQUEST SENSE
     ("03fe00001200", 0, 18, GOOD),
+    // INQUIRY
     ("12fe00002400", 0, 36, GOOD),
     ("120100002400", 0, 36, GOOD),
     ("120180002400", 0, 36, GOOD),
     ("1201b0004000", 0, 64, GOOD),
+    // MODE SENSE(6)
     ("1a000a002400", 0, 36, GOOD),
     ("1a003f002400", 0, 36, GOOD),
     ("1a0048002400", 0, 36, FIELD),
     ("1a0088002400", 0, 36, FIELD),
+    // READ CAPACITY(16)
     ("9ef00000000000000000000000200000", 0, 32, GOOD),
     ("9e000000000000000000000000200000", 0, 32, FIELD),
+    // REPORT LUNS
     ("a00001000000000000100000", 0, 16, GOOD),
     ("a00002000000000000100000", 0, 16, GOOD),
+    // Codes that are not served.
     ("040000000000", 0, 0, OPERATION_CODE),
     ("5a003f00000000002400", 0, 36, OPERATION_CODE),
     ("7f000000000000000000000000000000", 0, 0, OPERATION_CODE),
     ("a30000000000000000100000", 0, 16, OPERATION_CODE),
 ];
 
-// On 256 logical blocks: commands that take bytes, or none.
-const WRITES: [Case; 18] = [
+/// On 256 logical blocks: commands that take bytes, or none.
+const CALLS_AT_LIMITS: [Case; 18] = [
+    // WRITE(6)
     ("0a0000000000", 131_072, 0, GOOD),
     ("0a0000000000", 512, 0, FIELD),
     ("0a0000010000", 131_072, 0, RANGE),
     ("0ae000000100", 512, 0, GOOD),
+    // WRITE(10)
     ("2a00000000ff00000100", 512, 0, GOOD),
     ("2a000000010000000100", 512, 0, RANGE),
+    // WRITE(12)
     ("aa0000000101000000000000", 0, 0, RANGE),
+    // WRITE(16)
     ("8a000000000000000100000000000000", 0, 0, GOOD),
+    // SYNCHRONIZE CACHE(10)
     ("3500000000ff00000100", 0, 0, GOOD),
     ("35000000010000000100", 0, 0, RANGE),
     ("35000000010100000000", 0, 0, RANGE),
+    // SYNCHRONIZE CACHE(16)
     ("910000000000000000ff000000010000", 0, 0, GOOD),
     ("91000000000000000100000000010000", 0, 0, RANGE),
+    // WRITE SAME(16)
     ("93000000000000000000000000010000", 1_024, 0, FIELD),
+    // COMPARE AND WRITE
     ("890000000000000000fe000000020000", 2_048, 0, GOOD),
     ("89000000000000000101000000000000", 0, 0, RANGE),
     ("89000000000000000000000000000000", 512, 0, FIELD),
+    // Codes that are not served.
     ("5f000000000000001800", 24, 0, OPERATION_CODE),
 ];
 
-// On 2048 logical blocks: the counts of WRITE SAME.
-const SAME: [Case; 8] = [
+/// On 2048 logical blocks: the counts of WRITE SAME.
+const COUNTS_OF_WRITE_SAME: [Case; 8] = [
+    // WRITE SAME(10)
     ("41000000000000080000", 512, 0, GOOD),
     ("41000000000000080100", 512, 0, FIELD),
     ("41000000000100080000", 512, 0, RANGE),
     ("41000000000000000000", 512, 0, FIELD),
+    // WRITE SAME(16)
     ("93000000000000000000000008000000", 512, 0, GOOD),
     ("93000000000000000000000008010000", 512, 0, FIELD),
     ("93000000000000000001000008000000", 512, 0, RANGE),
     ("93000000000000000000000000000000", 512, 0, FIELD),
 ];
 
-// On 64 logical blocks: the head of a list is 8 bytes, each descriptor 16.
-const LISTS: [ListCase; 17] = [
+/// On 64 logical blocks: the head of a list is 8 bytes, each descriptor 16.
+const UNMAP_LISTS: [ListCase; 17] = [
     ("42000000000000000100", "00", LIST_LENGTH),
     ("42000000000000000700", "00050000000000", LIST_LENGTH),
     ("42000000000000000800", "0006000000000000", GOOD),
@@ -142,18 +163,18 @@ const LISTS: [ListCase; 17] = [
 ];
 
 #[test]
-fn reads_and_pages_at_their_limits(rt: HostRuntime) -> Result<(), Fail> {
+fn answers_at_their_limits(rt: HostRuntime) -> Result<(), Fail> {
     let alloc = rt.alloc();
     let mut disk = disk(alloc, 256)?;
-    assert_eq!(rt; first_wrong(alloc, &mut disk, &READS)?, None);
+    assert_eq!(rt; first_wrong(alloc, &mut disk, &ANSWERS_AT_LIMITS)?, None);
     Ok(())
 }
 
 #[test]
-fn writes_and_syncs_at_their_limits(rt: HostRuntime) -> Result<(), Fail> {
+fn calls_at_their_limits(rt: HostRuntime) -> Result<(), Fail> {
     let alloc = rt.alloc();
     let mut disk = disk(alloc, 256)?;
-    assert_eq!(rt; first_wrong(alloc, &mut disk, &WRITES)?, None);
+    assert_eq!(rt; first_wrong(alloc, &mut disk, &CALLS_AT_LIMITS)?, None);
     Ok(())
 }
 
@@ -161,7 +182,7 @@ fn writes_and_syncs_at_their_limits(rt: HostRuntime) -> Result<(), Fail> {
 fn write_same_is_of_2048_blocks_at_most(rt: HostRuntime) -> Result<(), Fail> {
     let alloc = rt.alloc();
     let mut disk = disk(alloc, 2_048)?;
-    assert_eq!(rt; first_wrong(alloc, &mut disk, &SAME)?, None);
+    assert_eq!(rt; first_wrong(alloc, &mut disk, &COUNTS_OF_WRITE_SAME)?, None);
     Ok(())
 }
 
@@ -175,7 +196,7 @@ fn unmapped(alloc: Global, disk: &mut Disk, cdb: &str, list: &str) -> Result<Out
 fn an_unmap_list_is_checked_before_ranges(rt: HostRuntime) -> Result<(), Fail> {
     let alloc = rt.alloc();
     let mut disk = disk(alloc, 64)?;
-    for &(cdb, list, wanted) in &LISTS {
+    for &(cdb, list, wanted) in &UNMAP_LISTS {
         let answer = unmapped(alloc, &mut disk, cdb, list)?;
         assert_eq!(rt; answer, wanted, "{cdb} {list}");
     }

@@ -12,6 +12,7 @@ pub type Disk = Engine<MemMedium>;
 /// The status, the sense key, and the additional sense code with its qualifier; zeros where there is no sense.
 pub type Outcome = (u8, u8, u8, u8);
 
+/// No sense.
 pub const GOOD: Outcome = (0, 0, 0, 0);
 
 /// PARAMETER LIST LENGTH ERROR.
