@@ -51,10 +51,7 @@ fn command_of(tag: u32, cdb: Cdb, sent: Bytes, in_len: u32) -> Command
     requires { let c : CommandData = record { init = codes "a"; tag = tag; cdb = cdb; sent = sent.items; in_len = in_len } in is_sendable c ≡ true }
     ensures { let c : CommandData = record { init = codes "a"; tag = tag; cdb = cdb; sent = sent.items; in_len = in_len } in result ≡ c }
 {
-    match Command::new(initiator(), tag, cdb, sent, in_len) {
-        Some(command) => command,
-        None => unreachable!(),
-    }
+    Command::new(initiator(), tag, cdb, sent, in_len).unwrap()
 }
 
 /// The command of this task tag that a number asks for.

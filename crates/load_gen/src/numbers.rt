@@ -1,5 +1,5 @@
 //! The numbers behind a seed, and what each of them asks for.
-ghost use Rattle.std.specs.Prelude.{◌≡◌, ◌≤◌, ◌<◌};
+ghost use Rattle.std.specs.Prelude.{◌≡◌, ◌≤◌};
 ghost use Rattle.tcmu_model.specs.Load.{next_random, load_count, load_lba, load_fill, load_writes};
 
 /// The next of the 64-bit pseudo-random numbers of a load: a linear congruential generator (Knuth's MMIX) modulo 2^64.
@@ -37,7 +37,7 @@ pub fn load_fill(x: u64) -> u8
     ((x >> 40) % 256) as u8
 }
 
-/// Whether a number asks for a write; else it asks for a read.
+/// Whether a number asks for a write, WRITE(10); else it asks for a read, READ(10).
 #[tactic(auto, unfolding(tcmu_model::specs::Load::load_writes))]
 pub fn load_writes(x: u64) -> bool
     ensures { result ≡ load_writes x }

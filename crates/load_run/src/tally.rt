@@ -1,5 +1,5 @@
 //! The replay of a load: its lines are played on its device without a journal, and summed up after the last.
-ghost use Rattle.std.specs.Prelude.{◌≡◌, ◌+◌, ◌^◌, ◌≤◌, ◌<◌, ◌++◌, [], ◌∷◌, length, OnOk, OnErr, IfOk};
+ghost use Rattle.std.specs.Prelude.{◌≡◌, ◌+◌, ◌^◌, ◌<◌, ◌++◌, [], ◌∷◌, length, OnOk};
 ghost use Rattle.tcmu_types.specs.Views.{event_data, answer_data};
 ghost use Rattle.tcmu_model.specs.Drain.{Drains};
 ghost use Rattle.tcmu_model.specs.Sound.{IsSound, Every};

@@ -5,6 +5,7 @@ use handler_trait::Medium;
 use media::{MakeFault, Media};
 use std::test::Fail;
 
+/// A block full of this byte.
 fn block_of(byte: u8) -> [u8; 512] {
     [byte; 512]
 }
@@ -25,6 +26,7 @@ fn fill(medium: &mut Media<MemStore>, count: u64, byte: u8) -> Option<Result<(),
     Some(medium.fill(0, &block_of(byte), count))
 }
 
+/// The byte that these bytes all are.
 fn same_byte(bytes: &[u8]) -> Option<u8> {
     let first = *bytes.first()?;
     bytes.iter().all(|byte| *byte == first).then_some(first)

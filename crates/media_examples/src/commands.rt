@@ -8,25 +8,34 @@ use std::alloc::Global;
 use std::test::Fail;
 use tcmu_types::{Bytes, Cdb, Name, Reply};
 
+/// What serves the commands.
 type Disk = Engine<Media<MemStore>>;
 
+/// READ(10) of the first block.
 const READ: &str = "28000000000000000100";
 
+/// WRITE(10) of the first block.
 const WRITE: &str = "2a000000000000000100";
 
+/// No sense.
 const GOOD: (u8, u8, u8) = (0, 0, 0);
 
+/// MEDIUM ERROR, UNRECOVERED READ ERROR.
 const READ_FAULT: (u8, u8, u8) = (2, 0x3, 0x11);
 
+/// MEDIUM ERROR, WRITE ERROR.
 const WRITE_FAULT: (u8, u8, u8) = (2, 0x3, 0x0c);
 
+/// DATA PROTECT, WRITE PROTECTED.
 const PROTECTED: (u8, u8, u8) = (2, 0x7, 0x27);
 
+/// A disk over the medium of a config text.
 fn disk(alloc: Global, config: &str, files: &mut MemFiles) -> Result<Disk, Fail> {
     let name = Name::new("d0").ok_or("a name")?;
     Ok(Engine::new(name, made(alloc, config, files)?))
 }
 
+/// The reply to a command descriptor block in hexadecimal digits, with the bytes that go with it.
 fn ask(alloc: Global, disk: &mut Disk, cdb: &str, sent: &[u8], in_len: u32) -> Result<Reply, Fail> {
     let cdb = hex::decode(alloc, cdb).ok().ok_or("hexadecimal digits")?;
     let cdb = Cdb::new(&cdb).ok().ok_or("a command descriptor block")?;
@@ -35,7 +44,7 @@ fn ask(alloc: Global, disk: &mut Disk, cdb: &str, sent: &[u8], in_len: u32) -> R
     Ok(disk.handle(alloc, &request)?)
 }
 
-// The status, the sense key and the additional sense code.
+/// The status, the sense key and the additional sense code; zeros where there is no sense.
 fn outcome(reply: &Reply) -> (u8, u8, u8) {
     let status = reply.status.0;
     match reply.sense {
@@ -44,13 +53,14 @@ fn outcome(reply: &Reply) -> (u8, u8, u8) {
     }
 }
 
+/// How a write of a block of this byte ends.
 fn write(alloc: Global, disk: &mut Disk, byte: u8) -> Result<(u8, u8, u8), Fail> {
     let mut bytes = Vec::new(alloc);
     bytes.resize(512, byte)?;
     Ok(outcome(&ask(alloc, disk, WRITE, &bytes, 0)?))
 }
 
-// How a read comes out, and whether it gave a block of this byte.
+/// How a read ends, and whether it gave a block of this byte.
 fn read(alloc: Global, disk: &mut Disk, byte: u8) -> Result<((u8, u8, u8), bool), Fail> {
     let reply = ask(alloc, disk, READ, &[], 512)?;
     let bytes = reply.payload.as_slice();

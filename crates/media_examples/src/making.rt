@@ -21,6 +21,7 @@ pub fn files_with(alloc: Global, size: usize, fails: &[u64]) -> Result<MemFiles,
     Ok(files)
 }
 
+/// The medium of a config text over these files, or why none is made of it.
 fn make(
     alloc: Global,
     config: &str,

@@ -2,6 +2,7 @@
 use crate::replays::{ended, left_in_file, over_file};
 use std::test::Fail;
 
+/// A write of three blocks, and a read of each, answered last, first, second.
 const SCENARIO: &str = "\
 device d0 tcm-user/0/d0/mem/64 ring=4096 blocks=16 flags=ooo timeout=30\n\
 submit d0 a 1 2a000000000000000300 out=11*512,22*512,33*512\n\
@@ -83,8 +84,10 @@ fn each_read_fails(rt: HostRuntime) -> Result<(), Fail> {
     Ok(())
 }
 
+/// A device over the file `img`.
 const IMG: &str = "device d0 tcm-user/0/d0/file/img ring=4096 blocks=16 flags=ooo timeout=30\n";
 
+/// A device over a file that is missing.
 const NONE: &str = "device d0 tcm-user/0/d0/file/none ring=4096 blocks=16 flags=ooo timeout=30\n";
 
 /// A file that is missing, and one of which the fetch fails.
@@ -99,11 +102,13 @@ fn a_fetch_fails(rt: HostRuntime) -> Result<(), Fail> {
     Ok(())
 }
 
+/// A write of 11h to the first block of the file `img`.
 const WRITE: &str = "\
 device d0 tcm-user/0/d0/file/img ring=4096 blocks=16 flags=ooo timeout=30\n\
 submit d0 a 1 2a000000000000000100 out=11*512\n\
 ";
 
+/// A write of 11h to the first block of the file `img`, beside a device over a file that is missing.
 const OTHER: &str = "\
 device d0 tcm-user/0/d0/file/img ring=4096 blocks=16 flags=ooo timeout=30\n\
 device d1 tcm-user/0/d1/file/none ring=4096 blocks=16 flags=ooo timeout=30\n\

@@ -2,6 +2,7 @@
 use crate::replays::{ended, has_line, over_file};
 use std::test::Fail;
 
+/// A read of each block of the file `img`, one after the other.
 const TWO_READS: &str = "\
 device d0 tcm-user/0/d0/file/img ring=4096 blocks=16 flags=ooo timeout=30\n\
 submit d0 a 1 28000000000000000100 in=512\n\
@@ -24,6 +25,7 @@ fn the_second_call_of_a_store_fails(rt: HostRuntime) -> Result<(), Fail> {
     Ok(())
 }
 
+/// Four reads of the first block of the file `img`.
 const FOUR_READS: &str = "\
 device d0 tcm-user/0/d0/file/img ring=4096 blocks=16 flags=ooo timeout=30\n\
 submit d0 a 1 28000000000000000100 in=512\n\
@@ -79,6 +81,7 @@ fn each_call_of_a_store_fails(rt: HostRuntime) -> Result<(), Fail> {
     Ok(())
 }
 
+/// A write to a protected device, and two to one of which the second call of its medium fails.
 const TWO_DEVICES: &str = "\
 device d0 tcm-user/0/d0/ro/mem/64 ring=4096 blocks=16 flags=ooo timeout=30\n\
 device d1 tcm-user/1/d1/fail/2/mem/64 ring=4096 blocks=16 flags=ooo timeout=30\n\

@@ -1,9 +1,8 @@
 //! The lines of devices, each in its one spelling.
-ghost use Rattle.std.specs.Prelude.{◌≡◌, ◌==◌, ℕ, [], ◌∷◌, ◌++◌, length, OnOk, if◌then◌else◌, codes};
-ghost use Rattle.std.specs.List.{flat_map};
+ghost use Rattle.std.specs.Prelude.{◌≡◌, ◌==◌, [], ◌++◌, OnOk, if◌then◌else◌};
 ghost use Rattle.std.specs.Fmt.{decimal};
 ghost use Rattle.device_config.specs.Views.{medium_data};
-ghost use Rattle.tcmu_model.specs.Text.{spaced, line, medium_text, kind_text, config_text, last_text, settings_text, device_spelling, device_text};
+ghost use Rattle.tcmu_model.specs.Text.{medium_text, kind_text, config_text, last_text, settings_text, device_spelling, device_text};
 
 use crate::pieces::{push_all, push_field, push_flags, push_named, push_numbers};
 use device_config::{Config, MediumKind};
@@ -51,7 +50,7 @@ fn push_config(alloc: Global, out: &mut Vec<u8>, config: &Config) -> Result<(), 
     push_medium(alloc, out, &config.kind)
 }
 
-// A word and a number, unless the number is the usual one.
+/// Appends a word and a number, unless the number is the usual one.
 fn push_unless(
     alloc: Global,
     out: &mut Vec<u8>,

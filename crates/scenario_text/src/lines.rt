@@ -1,8 +1,8 @@
 //! Lines, cut into fields.
-ghost use Rattle.std.specs.Prelude.{◌≡◌, ◌==◌, ◌||◌, ◌&&◌, not, ℕ, ◌+◌, ◌≤◌, nat_le, List, [], ◌∷◌, length, Some, None, IfSome, IfNone, bytes_eq};
+ghost use Rattle.std.specs.Prelude.{◌≡◌, ◌==◌, ◌||◌, ◌&&◌, not, ◌+◌, [], ◌∷◌, length, Some, None, IfSome, IfNone};
 ghost use Rattle.std.specs.List.{list_all, position};
 ghost use Rattle.std.specs.Option.{option_map};
-ghost use Rattle.tcmu_model.specs.Lines.{is_blank, is_allowed, before_hash, fields_of, one_field, two_fields, three_fields, SubmitFields, submit_fields, PayloadField, payload_field, payload_fields, NoPayload, InBytes, OutRuns, DeviceFields, device_fields, LastFields, last_field, last_fields};
+ghost use Rattle.tcmu_model.specs.Lines.{is_blank, is_allowed, before_hash, fields_of, one_field, two_fields, three_fields, submit_fields, payload_field, payload_fields, InBytes, OutRuns, device_fields, last_field, last_fields};
 ghost use Rattle.tcmu_model.specs.Words.{verb_of};
 ghost use Rattle.scenario_text.specs.LineViews.{payload_data, submit_data, last_data, device_data};
 
@@ -97,12 +97,6 @@ pub fn verb_of(word: &[u8]) -> Option<Verb>
         w if is_text(w, b"drain") => Some(Verb::Drain),
         _ => None,
     }
-}
-
-fn is_over(text: &[u8]) -> bool
-    ensures { result ≡ (length (fields_of text.now) == 0) }
-{
-    next_field(text).is_none()
 }
 
 /// The only field; None where there is none or a second.

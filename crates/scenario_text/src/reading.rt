@@ -1,5 +1,5 @@
 //! Reading a whole text, line by line.
-ghost use Rattle.std.specs.Prelude.{◌≡◌, ◌<◌, ◌||◌, length, IfOk};
+ghost use Rattle.std.specs.Prelude.{◌≡◌, ◌<◌, IfOk};
 ghost use Rattle.tcmu_model.specs.Lines.{fields_of};
 ghost use Rattle.tcmu_model.specs.Scenario.{is_not_yet, with_rules, with_said, with_fields, with_text, scenario_of};
 ghost use Rattle.tcmu_model.specs.ScenarioRules.{IsScenario};

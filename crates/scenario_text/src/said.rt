@@ -1,15 +1,12 @@
 //! What a line says, by its fields from left to right.
-ghost use Rattle.std.specs.Prelude.{◌≡◌, ◌==◌, ◌%◌, ◌*◌, ℕ, ◌≤◌, ◌<◌, Some, None, IfOk, IfSome, IfNone, not, bytes_eq, length};
-ghost use Rattle.std.specs.List.{list_any};
+ghost use Rattle.std.specs.Prelude.{◌≡◌, ◌%◌, ◌*◌, ◌≤◌, ◌<◌, Some, None, IfOk, IfSome, length};
 ghost use Rattle.std.specs.Option.{option_map};
 ghost use Rattle.tcmu_types.specs.Views.{event_data};
-ghost use Rattle.tcmu_types.specs.Data.{CommandData};
 ghost use Rattle.tcmu_types.specs.Rules.{is_directed};
 ghost use Rattle.tcmu_types.specs.Events as ev;
-ghost use Rattle.tcmu_model.specs.Config.{ConfigData};
-ghost use Rattle.tcmu_model.specs.Lines.{PayloadField, fields_of};
+ghost use Rattle.tcmu_model.specs.Lines.{fields_of};
 ghost use Rattle.tcmu_model.specs.Fields.{number_of, only_if};
-ghost use Rattle.tcmu_model.specs.ScenarioData.{Makes, ScenarioData};
+ghost use Rattle.tcmu_model.specs.ScenarioData.{Makes};
 ghost use Rattle.tcmu_model.specs.Said.{Adds, new_name, is_own, device_config, ring_of, qfull_of, pages_of, settings_of, payload_of, device_line, submit_line, plain_line, number_at, number_line, tmr_line, said_by};
 ghost use Rattle.scenario_text.specs.Giving.{LineGives, said_data};
 ghost use Rattle.scenario_text.specs.LineViews.{payload_data, device_data};

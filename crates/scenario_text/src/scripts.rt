@@ -1,12 +1,12 @@
 //! The script of a device.
-ghost use Rattle.std.specs.Prelude.{◌≡◌, ◌==◌, ℕ, List, [], ◌∷◌, ◌++◌, map, IfOk, OnOk, Some, None, if◌then◌else◌};
+ghost use Rattle.std.specs.Prelude.{◌≡◌, [], ◌∷◌, map, IfOk, OnOk, Some, None, if◌then◌else◌};
 ghost use Rattle.std.specs.List.{flat_map};
 ghost use Rattle.std.specs.Option.{option_map};
 ghost use Rattle.tcmu_types.specs.Views.{event_data};
 ghost use Rattle.tcmu_model.specs.Scenario.{with_initiator, initiators};
 ghost use Rattle.tcmu_model.specs.ScenarioRules.{IsScenario, IsScript};
-ghost use Rattle.tcmu_model.specs.Script.{sent_by, is_admin, admin_in, admin_of, init_line, script_of};
-ghost use Rattle.scenario_text.specs.Views.{kind_data, as_list};
+ghost use Rattle.tcmu_model.specs.Script.{sent_by, is_admin, admin_of, init_line, script_of};
+ghost use Rattle.scenario_text.specs.Views.{as_list};
 
 use crate::kinds::{Commands, Events, InitLine, InitLines, Line, LineKind, Scenario, Script};
 use crate::names::Names;

@@ -1,5 +1,5 @@
 //! A scenario while its lines are read, with what its limits count.
-ghost use Rattle.std.specs.Prelude.{◌≡◌, ℕ, ◌≤◌, ◌<◌, List, [], length, IfOk, Some, None};
+ghost use Rattle.std.specs.Prelude.{◌≡◌, ◌≤◌, ◌<◌, length, Some, None};
 ghost use Rattle.std.specs.List.{list_any};
 ghost use Rattle.tcmu_model.specs.Said.{has_name, device_at, same_file};
 ghost use Rattle.tcmu_model.specs.Scenario.{with_line, with_device, nothing_yet};
