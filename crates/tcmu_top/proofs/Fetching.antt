@@ -185,7 +185,7 @@ own_at ls i l e h = by l.config.kind refl
         files_free ls i name (λ j x f lt. subst (λ (m : MediumData). same_file x.config.kind m ≡ false) kind (pair_at DifferentFiles ls j i x l h f e lt))
 
 pub own_files : (ls : List DeviceLineData) → AllPairs (λ d e. same_file d.config.kind e.config.kind ≡ false) ls → OwnFiles ls
-own_files ls h i j l k a b e f p q ne =
+own_files ls h i l a e p j k b f q ne =
     ⊎_elim
     (λ (lt : i < j). first i j l k a b e f p q lt)
     (λ (le : j ≤ i). bytes_turned b a (first j i k l b a f e q p (omega (arith, le, ne))))

@@ -44,7 +44,7 @@ opens_told f l d name o kind =
     (ap (λ (m : MediumState). m.below.layer) medium_is, ap (λ (m : MediumState). is_some m.below.bytes) medium_is ∙ ap (λ (o : Option (List ℕ)). is_some o) bytes_are)
 
 pub tell_files : (f : FilesState) (ls : List DeviceLineData) (ds ends : List Device) (js : List Journaled) → OpenEach (Some f) ls ds → IsLegalEach Serves ds js ends → TellFiles ls ends
-tell_files f ls ds ends js opens legal at l d' name e g kind =
+tell_files f ls ds ends js opens legal at l name e kind d' g =
     let x = open_at (Some f) ls ds at l opens e in
     let first = opens_told f l x.0 name x.2 kind in
     let run = run_stays x.0 d' (filter (is_of at) js) first.0 (legal at x.0 d' x.1 g) in
@@ -157,7 +157,7 @@ same_again f g f' ls ds opens s k =
     named : (name : List ℕ) → NamedAt ls name → f'.places name ≡ f.places name
     named name at =
         let d = open_at (Some f) ls ds at.0 at.1.0 opens at.1.1 in
-        file_again f at.1.0 d.0 name (f'.places name) d.2 at.1.2 (k.named at.0 at.1.0 d.0 name at.1.1 d.1 at.1.2)
+        file_again f at.1.0 d.0 name (f'.places name) d.2 at.1.2 (k.named at.0 at.1.0 name at.1.1 at.1.2 d.0 d.1)
 
 pub as_they_were : (So : Fetches) (files mid new last : Option FilesState) (ls more : List DeviceLineData) (ds : List Device) → GoesBehind So → AreOpen files mid ls ds → OwnFiles ls → AsTheyWere So more mid new
     → KeepsEach ls ds new last → AsTheyWere So (ls ++ more) files last
@@ -227,12 +227,12 @@ unadded l d old mid new m r =
     own_none (InFile name) = refl
 
     own : OwnFiles (l ∷ [])
-    own i j x y a b e h p q ne = absurd (ne (omega (arith, slice_get_within (l ∷ []) i x e, slice_get_within (l ∷ []) j y h)))
+    own i x a e p j y b h q ne = absurd (ne (omega (arith, slice_get_within (l ∷ []) i x e, slice_get_within (l ∷ []) j y h)))
 
 -- ==== where it stops
 
 own_front : (ls : List DeviceLineData) (n : ℕ) → OwnFiles ls → OwnFiles (take n ls)
-own_front ls n own i j l k a b e f p q ne = own i j l k a b (get_taken ls n i l e) (get_taken ls n j k f) p q ne
+own_front ls n own i l a e p j k b f q ne = own i l a (get_taken ls n i l e) p j k b (get_taken ls n j k f) q ne
 
 -- a device could not be opened, and those before it are given back
 pub unopened : (e : MakeFault) (files mid new last : Option FilesState) (faults f1 f2 : ℕ) (ls : List DeviceLineData) (i : ℕ) (l : DeviceLineData) (ds : List Device) → i < length ls → l ≡ get_or ls i l

@@ -105,9 +105,9 @@ keeping_more ls ends f g g' n l d own at_ls at_ends h k = by l.config.kind refl 
               subst (λ (v : Device). Holds v.medium ((after_keep name c g).places other)) (sym device)
               (subst (λ (v : List ℕ). Holds d.medium ((after_keep name c g).places v)) (sym same_name) (c, now_home, kept.1)))
               (λ (ne : at ≡ n → ⊥).
-              subst (Holds y.medium) (sym (elsewhere other (own at n x l other name e at_ls k kind ne))) (h.home at x y other (omega (arith, ne, le)) e z k))
+              subst (Holds y.medium) (sym (elsewhere other (own at x other e k n l name at_ls kind ne))) (h.home at x y other (omega (arith, ne, le)) e z k))
               (cases_eq at n);
-          away = λ at x other lt e k. elsewhere other (own at n x l other name e at_ls k kind (λ eq. omega (arith, eq, lt))) ∙ h.away at x other (omega (arith, lt)) e k;
+          away = λ at x other lt e k. elsewhere other (own at x other e k n l name at_ls kind (λ eq. omega (arith, eq, lt))) ∙ h.away at x other (omega (arith, lt)) e k;
           others = λ other free. elsewhere other (named_differs ls n l name other at_ls kind free) ∙ h.others other free;
           fails = h.fails;
           fetches = h.fetches;
@@ -118,7 +118,7 @@ keeping_more ls ends f g g' n l d own at_ls at_ends h k = by l.config.kind refl 
         file_same a b e = cc
 
 pub keeping_done : (ls : List DeviceLineData) (ends : List Device) (f g : FilesState) → Keeping ls ends f g 0 → Kept ls ends f.fetches f g
-keeping_done ls ends f g h = record { named = λ at l d name e z k. h.home at l d name (omega arith) e z k; others = h.others; fails = h.fails; fetches = h.fetches }
+keeping_done ls ends f g h = record { named = λ at l name e k d z. h.home at l d name (omega arith) e z k; others = h.others; fails = h.fails; fetches = h.fetches }
 
 -- ==== from what the calls say
 
@@ -168,7 +168,7 @@ kept_more ls ends old mid new n l d at_ls at_ends h r own tell f e away = by l.c
     by (InMemory blocks) kind same =
         (before.0, same ∙ before.1, keeping_more ls ends f before.0 before.0 n l d own at_ls at_ends before.2 (subst (λ (k : MediumData). KeepsKind k d.medium before.0 before.0) (sym kind) refl))
     by (InFile name) kind back =
-        let t = tell n l d name at_ls at_ends kind in
+        let t = tell n l name at_ls kind d at_ends in
         let x = back t.0 t.1 in
         let g' = after_keep name x.0 before.0 in
         (g', x.2 ∙ ap (option_map (after_keep name x.0)) before.1, keeping_more ls ends f before.0 g' n l d own at_ls at_ends before.2 (subst (λ (k : MediumData). KeepsKind k d.medium before.0 g') (sym kind) (x.0, x.1, refl)))

@@ -23,7 +23,7 @@ use Rattle.tcmu_model.specs.Text.{entry_text}
 use Rattle.tcmu_model.proofs.Draining.{work_falls}
 use Rattle.tcmu_model.proofs.GoesOn.{goes_on_first, goes_on_more, drains_run}
 use Rattle.tcmu_model.proofs.Logs.{makes_grows}
-use Rattle.tcmu_top.specs.Playing.{event_lines, run_text, MadeEvent, Told, Stopped, Wrote, RunAllButLast, WroteFront}
+use Rattle.tcmu_top.specs.Playing.{event_lines, run_text, MadeEvent, Played, Stopped, Wrote, RunAllButLast, WroteFront}
 use Rattle.tcmu_model.specs.ScenarioRules.{IsEvent}
 use Rattle.tcmu_path.specs.Tasks.{IsFit}
 use Rattle.tcmu_top.proofs.Telling.{gained_none, gained_more, gained_as, front_none, front_whole, front_behind}
@@ -120,7 +120,7 @@ pub draining_first : (R : HandlerRelation) (at : ℕ) (l : DeviceLineData) (d : 
 draining_first R at l d old sound = record { sofar = []; run = refl; goes_on = goes_on_first R at d; wrote = gained_none old; sound = sound }
 
 pub draining_more : (R : HandlerRelation) (at : ℕ) (l : DeviceLineData) (start d d' : Device) (event : EventData) (old mid now : Option (List ℕ))
-    → Draining R at l start d old mid → drain_event d.state ≡ Some event → Told R at l event d d' mid now → Draining R at l start d' old now
+    → Draining R at l start d old mid → drain_event d.state ≡ Some event → Played R at l event d d' mid now → Draining R at l start d' old now
 draining_more R at l start d d' event old mid now so picked told =
     let m = told.made in
     let one = run_one R d d' m.entry m.step in
@@ -211,7 +211,7 @@ draining_stopped R at l start d d' event old mid now outcomes so picked (inr tol
     }
 
 -- each event of a drain leaves less to do
-pub falls_told : (R : HandlerRelation) (at : ℕ) (l : DeviceLineData) (d d' : Device) (event : EventData) (old now : Option (List ℕ)) → IsSound d.state → drain_event d.state ≡ Some event → Told R at l event d d' old now → work d'.state < work d.state
+pub falls_told : (R : HandlerRelation) (at : ℕ) (l : DeviceLineData) (d d' : Device) (event : EventData) (old now : Option (List ℕ)) → IsSound d.state → drain_event d.state ≡ Some event → Played R at l event d d' old now → work d'.state < work d.state
 falls_told R at l d d' event old now sound picked told =
     work_falls R d d' told.made.entry sound (picked ∙ ap (λ (x : EventData). Some x) (sym told.made.is)) told.made.step
 
@@ -250,7 +250,7 @@ one_text R at l d d' event a logged h is =
 
 pub told_of : (R : HandlerRelation) (at : ℕ) (l : DeviceLineData) (d d' : Device) (event : EventData) (a : AnswerData) (logged before after : List DoneData) (old now : Option (List ℕ)) → Makes R d event a d'
     → before ≡ d.state.log → after ≡ d'.state.log → logged ≡ drop (length before) after
-    → Gained old (event_lines l event a logged) now → Told R at l event d d' old now
+    → Gained old (event_lines l event a logged) now → Played R at l event d d' old now
 told_of R at l d d' event a logged before after old now h b c is w =
     let dropped : logged ≡ drop (length d.state.log) d'.state.log = is ∙ ap (λ (x : List DoneData). drop (length x) after) b ∙ ap (drop (length d.state.log)) c in
     record { made = made_of R at d d' event a logged h dropped; wrote = gained_as old now _ _ (one_text R at l d d' event a logged h dropped) w }
@@ -270,7 +270,7 @@ nothing_came R at l d d' event old e = inl (record { device = e; wrote = refl })
 
 -- ==== one task
 
-pub told_wrote : (R : HandlerRelation) (at : ℕ) (l : DeviceLineData) (d d' : Device) (event : EventData) (old now : Option (List ℕ)) → Told R at l event d d' old now
+pub told_wrote : (R : HandlerRelation) (at : ℕ) (l : DeviceLineData) (d d' : Device) (event : EventData) (old now : Option (List ℕ)) → Played R at l event d d' old now
     → Wrote R l (λ es. Plays R at d (line.Makes event) es d') d d' old now
 told_wrote R at l d d' event old now told =
     record {
@@ -311,7 +311,7 @@ stopped_front R at l d d' event old now outcomes sound fit (inr told) =
 
 -- ==== from what the code finds
 
-pub told_task : (R : HandlerRelation) (at : ℕ) (l : DeviceLineData) (d d' : Device) (event : EventData) (task : LineWhat) (old now : Option (List ℕ)) → task ≡ line.Makes event → Told R at l event d d' old now
+pub told_task : (R : HandlerRelation) (at : ℕ) (l : DeviceLineData) (d d' : Device) (event : EventData) (task : LineWhat) (old now : Option (List ℕ)) → task ≡ line.Makes event → Played R at l event d d' old now
     → Wrote R l (λ es. Plays R at d task es d') d d' old now
 told_task R at l d d' event task old now is told =
     subst (λ (t : LineWhat). Wrote R l (λ es. Plays R at d t es d') d d' old now) (sym is) (told_wrote R at l d d' event old now told)

@@ -16,8 +16,8 @@ use Rattle.tcmu_top.specs.declared.status.Status.{Status}
 use Rattle.tcmu_top.specs.declared.status.Status.TheVariants as status
 use Rattle.tcmu_top.specs.Calls.{TookFront, outside}
 use Rattle.tcmu_top.specs.Playing.{AreOpened}
-use Rattle.tcmu_top.specs.Opened.{OpenEach, file_names, NoneFailed, AsTheyWere, KeptFiles, after_fetches, AreOpen, AFileLacks, KeepsEach}
-use Rattle.tcmu_top.specs.Top.{Replayed, ReplayedInPart, TextWritten, CutShort, Wanting, LacksFile, too_long, ScenarioEnds, Ends}
+use Rattle.tcmu_top.specs.Opened.{OpenEach, file_names, NoneFailed, AsTheyWere, KeptFiles, after_fetches, AreOpen, OpenFailed, KeepsEach}
+use Rattle.tcmu_top.specs.Top.{Replayed, ReplayedInPart, TextWritten, CutShort, StoppedByMemory, NotOpened, too_long, ScenarioEnds, Ends}
 use Rattle.tcmu_top.proofs.Fetching.{place_free, fetches_fails, own_files}
 use Rattle.tcmu_top.proofs.Keeping.{fetched_out}
 use Rattle.tcmu_top.proofs.GivenBack.{tell_files}
@@ -65,11 +65,11 @@ cut_short s files mid files' ds ends old new rules h count r k =
     let each : length ends ≡ length s.devices = count ∙ sym (opened_count s.devices ds (open_opened files s.devices ds h.opens)) in
     record { opened = ds; opens = h.opens; ends = ends; count = each; replay = r; fetched = h.fetched.none; kept = kept_files files mid files' s.devices ds ends r.made rules.files h r.legal k }
 
-pub wanting_early : (s : ScenarioData) (files files' : Option FilesState) (old : Option (List ℕ)) → AsTheyWere NoneFailed s.devices files files' → Wanting files files' s old old
+pub wanting_early : (s : ScenarioData) (files files' : Option FilesState) (old : Option (List ℕ)) → AsTheyWere NoneFailed s.devices files files' → StoppedByMemory files files' s old old
 wanting_early s files files' old same = inl (record { nothing = refl; same = same })
 
-pub lacks_file : (s : ScenarioData) (files files' : Option FilesState) (faults faults' : ℕ) (old : Option (List ℕ)) → AFileLacks s.devices files files' faults faults' → Rose faults faults' × LacksFile files files' s old old
-lacks_file s files files' faults faults' old h = (h.rose, record { fails = h.fails; nothing = refl; same = h.same })
+pub not_opened : (s : ScenarioData) (files files' : Option FilesState) (faults faults' : ℕ) (old : Option (List ℕ)) → OpenFailed s.devices files files' faults faults' → Rose faults faults' × NotOpened files files' s old old
+not_opened s files files' faults faults' old h = (h.rose, record { fails = h.fails; nothing = refl; same = h.same })
 
 -- ==== a fault
 
@@ -121,12 +121,12 @@ pub scenario_cut : (s : ScenarioData) (files files' : Option FilesState) (opened
 scenario_cut s files files' opened opened' old new wrote wrote' calm rose h =
     record { ok = λ e. absurd (cc); write_fault = λ e. (rose, h); no_memory = λ e. absurd (cc); open_fault = λ e. absurd (cc); reads = λ e. absurd (cc); scenario = λ line reason e. absurd (cc); words = λ e. absurd (cc); calm_files = λ ne. calm; calm_sink = λ ne. absurd (ne refl) }
 
-pub scenario_wanting : (s : ScenarioData) (files files' : Option FilesState) (opened opened' : ℕ) (old new : Option (List ℕ)) (wrote wrote' : ℕ) → opened' ≡ opened → wrote' ≡ wrote → Wanting files files' s old new
+pub scenario_wanting : (s : ScenarioData) (files files' : Option FilesState) (opened opened' : ℕ) (old new : Option (List ℕ)) (wrote wrote' : ℕ) → opened' ≡ opened → wrote' ≡ wrote → StoppedByMemory files files' s old new
     → ScenarioEnds s files files' opened opened' old new wrote wrote' status.NoMemory
 scenario_wanting s files files' opened opened' old new wrote wrote' calm still h =
     record { ok = λ e. absurd (cc); write_fault = λ e. absurd (cc); no_memory = λ e. h; open_fault = λ e. absurd (cc); reads = λ e. absurd (cc); scenario = λ line reason e. absurd (cc); words = λ e. absurd (cc); calm_files = λ ne. calm; calm_sink = λ ne. still }
 
-pub scenario_lacks : (s : ScenarioData) (files files' : Option FilesState) (opened opened' : ℕ) (old new : Option (List ℕ)) (wrote wrote' : ℕ) → wrote' ≡ wrote → Rose opened opened' × LacksFile files files' s old new
+pub scenario_not_opened : (s : ScenarioData) (files files' : Option FilesState) (opened opened' : ℕ) (old new : Option (List ℕ)) (wrote wrote' : ℕ) → wrote' ≡ wrote → Rose opened opened' × NotOpened files files' s old new
     → ScenarioEnds s files files' opened opened' old new wrote wrote' status.OpenFault
-scenario_lacks s files files' opened opened' old new wrote wrote' still h =
+scenario_not_opened s files files' opened opened' old new wrote wrote' still h =
     record { ok = λ e. absurd (cc); write_fault = λ e. absurd (cc); no_memory = λ e. absurd (cc); open_fault = λ e. h; reads = λ e. absurd (cc); scenario = λ line reason e. absurd (cc); words = λ e. absurd (cc); calm_files = λ ne. absurd (ne refl); calm_sink = λ ne. still }

@@ -1,5 +1,5 @@
 -- The devices of a scenario as they open over files, and the files as the devices leave them.
-use Rattle.std.specs.Prelude.{◌≡◌, ℕ, ◌/◌, ◌%◌, ◌^◌, ◌≤◌, Bool, true, false, ◌||◌, List, [], ◌∷◌, ◌++◌, ◌*◌, length, Option, Some, IfSome, is_some, slice_get, bytes_eq}
+use Rattle.std.specs.Prelude.{◌≡◌, ◌≢◌, ℕ, ◌/◌, ◌%◌, ◌^◌, ◌≤◌, Bool, true, false, ◌||◌, List, [], ◌∷◌, ◌++◌, ◌*◌, length, Option, Some, IfSome, is_some, slice_get, bytes_eq}
 use Rattle.std.specs.List.{list_any}
 use Rattle.std.specs.Option.{option_map}
 use Rattle.tcmu_types.specs.Numbered.{Rose, next_call}
@@ -68,6 +68,10 @@ after_fetches (name ∷ names) f = after_fetches names (after_fetch name f)
 abbrev pub is_named : List DeviceLineData → List ℕ → Bool
 is_named ls name = list_any (bytes_eq name) (file_names ls)
 
+-- this holds of each file that a device line names, by the line's number and the name
+abbrev pub EachFile : List DeviceLineData → (ℕ → List ℕ → Type 0) → Type 0
+EachFile ls P = (at : ℕ) (l : DeviceLineData) (name : List ℕ) → slice_get ls at ≡ Some l → l.config.kind ≡ InFile name → P at name
+
 -- A file holds what a medium left in it: as many bytes as before, the medium's but for the lost range, and the calls that its store has made.
 pub record IsLeftOf (m : MediumState) (content : Content) : Type 0 where
   pub size : length content.bytes ≡ 512 * m.blocks
@@ -84,8 +88,7 @@ SameOthers ls f f' = (name : List ℕ) → is_named ls name ≡ false → f'.pla
 
 -- The file of each device line holds what its device left in it, and each other file is as it was. So many fetches were made.
 pub record Kept (ls : List DeviceLineData) (ends : List Device) (count : ℕ) (f f' : FilesState) : Type 0 where
-  pub named : (at : ℕ) (l : DeviceLineData) (d : Device) (name : List ℕ) → slice_get ls at ≡ Some l → slice_get ends at ≡ Some d → l.config.kind ≡ InFile name
-      → Holds d.medium (f'.places name)
+  pub named : EachFile ls (λ at name. (d : Device) → slice_get ends at ≡ Some d → Holds d.medium (f'.places name))
   pub others : SameOthers ls f f'
   pub fails : f'.fails ≡ f.fails
   pub fetches : f'.fetches ≡ count
@@ -145,14 +148,14 @@ pub record AreOpen (files files' : Option FilesState) (ls : List DeviceLineData)
   pub fetched : Fetched (file_names ls) files files'
 
 -- A file could not be fetched: its fetch is the last that was made, and the first that failed. Each file is as it was.
-pub record AFileLacks (ls : List DeviceLineData) (files files' : Option FilesState) (faults faults' : ℕ) : Type 0 where
+pub record OpenFailed (ls : List DeviceLineData) (files files' : Option FilesState) (faults faults' : ℕ) : Type 0 where
   pub fails : IfSome files (λ f. a_fetch_fails (file_names ls) f ≡ true)
   pub same : AsTheyWere NextFailed ls files files'
   pub rose : Rose faults faults'
 
 -- why the devices of these device lines could not be opened
 abbrev pub Unopened : MakeFault → List DeviceLineData → Option FilesState → Option FilesState → ℕ → ℕ → Type 0
-Unopened fault.Open ls files files' faults faults' = AFileLacks ls files files' faults faults'
+Unopened fault.Open ls files files' faults faults' = OpenFailed ls files files' faults faults'
 Unopened fault.NoMemory ls files files' faults faults' = AsTheyWere NoneFailed ls files files'
 
 -- What is given back of a device: nothing of one in memory. The file of another, where it tells its bytes, is what the medium left.
@@ -163,18 +166,15 @@ Returns (InFile name) m old new =
 
 -- no two device lines name one file
 abbrev pub OwnFiles : List DeviceLineData → Type 0
-OwnFiles ls =
-    (i j : ℕ) (l k : DeviceLineData) (a b : List ℕ) → slice_get ls i ≡ Some l → slice_get ls j ≡ Some k → l.config.kind ≡ InFile a → k.config.kind ≡ InFile b → (i ≡ j → ⊥) → bytes_eq a b ≡ false
+OwnFiles ls = EachFile ls (λ i a. EachFile ls (λ j b. i ≢ j → bytes_eq a b ≡ false))
 
 -- each device over a file tells its bytes
 abbrev pub TellFiles : List DeviceLineData → List Device → Type 0
-TellFiles ls ends =
-    (at : ℕ) (l : DeviceLineData) (d : Device) (name : List ℕ) → slice_get ls at ≡ Some l → slice_get ends at ≡ Some d → l.config.kind ≡ InFile name
-    → (d.medium.below.layer ≡ file) × (is_some d.medium.below.bytes ≡ true)
+TellFiles ls ends = EachFile ls (λ at name. (d : Device) → slice_get ends at ≡ Some d → (d.medium.below.layer ≡ file) × (is_some d.medium.below.bytes ≡ true))
 
 -- the file of each device line is out
 abbrev pub AreOut : List DeviceLineData → FilesState → Type 0
-AreOut ls f = (at : ℕ) (l : DeviceLineData) (name : List ℕ) → slice_get ls at ≡ Some l → l.config.kind ≡ InFile name → f.places name ≡ out
+AreOut ls f = EachFile ls (λ at name. f.places name ≡ out)
 
 -- the files of these device lines, which are out, are given back, and no fetch is made
 abbrev pub KeepsEach : List DeviceLineData → List Device → Option FilesState → Option FilesState → Type 0

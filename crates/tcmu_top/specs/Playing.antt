@@ -28,12 +28,12 @@ pub record MadeEvent (R : HandlerRelation) (at : ℕ) (event : EventData) (d d' 
   pub step : Step R d entry d'
 
 -- an event was made on the device of this number, and its text written
-pub record Told (R : HandlerRelation) (at : ℕ) (l : DeviceLineData) (event : EventData) (d d' : Device) (old new : Option (List ℕ)) : Type 0 where
+pub record Played (R : HandlerRelation) (at : ℕ) (l : DeviceLineData) (event : EventData) (d d' : Device) (old new : Option (List ℕ)) : Type 0 where
   pub made : MadeEvent R at event d d'
   pub wrote : Gained old (run_text l d (made.entry ∷ []) d') new
 
 -- it was made, and a front of its text written
-pub record ToldFront (R : HandlerRelation) (at : ℕ) (l : DeviceLineData) (event : EventData) (d d' : Device) (old new : Option (List ℕ)) : Type 0 where
+pub record PlayedInPart (R : HandlerRelation) (at : ℕ) (l : DeviceLineData) (event : EventData) (d d' : Device) (old new : Option (List ℕ)) : Type 0 where
   pub made : MadeEvent R at event d d'
   pub wrote : GainedFront old (run_text l d (made.entry ∷ []) d') new
 
@@ -44,7 +44,7 @@ pub record NothingCame (d d' : Device) (old new : Option (List ℕ)) : Type 0 wh
 
 -- nothing came of an event, or it was made and told in part
 abbrev pub Stopped : HandlerRelation → ℕ → DeviceLineData → EventData → Device → Device → Option (List ℕ) → Option (List ℕ) → Type 0
-Stopped R at l event d d' old new = NothingCame d d' old new ⊎ ToldFront R at l event d d' old new
+Stopped R at l event d d' old new = NothingCame d d' old new ⊎ PlayedInPart R at l event d d' old new
 
 -- entries that are so were made and written
 pub record Wrote (R : HandlerRelation) (l : DeviceLineData) (so : List EntryData → Type 0) (d d' : Device) (old new : Option (List ℕ)) : Type 0 where

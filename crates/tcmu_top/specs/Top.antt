@@ -81,12 +81,12 @@ pub record NotBegun (files files' : Option FilesState) (s : ScenarioData) (old n
   pub same : AsTheyWere NoneFailed s.devices files files'
 
 -- want of memory stopped it, before it began or on the way
-abbrev pub Wanting : Option FilesState → Option FilesState → ScenarioData → Option (List ℕ) → Option (List ℕ) → Type 0
-Wanting files files' s old new = NotBegun files files' s old new ⊎ CutShort files files' s old new
+abbrev pub StoppedByMemory : Option FilesState → Option FilesState → ScenarioData → Option (List ℕ) → Option (List ℕ) → Type 0
+StoppedByMemory files files' s old new = NotBegun files files' s old new ⊎ CutShort files files' s old new
 
 -- A file could not be fetched: its fetch is the last that was made, and the first that failed. Nothing was written, and each file is as
 -- it was.
-pub record LacksFile (files files' : Option FilesState) (s : ScenarioData) (old new : Option (List ℕ)) : Type 0 where
+pub record NotOpened (files files' : Option FilesState) (s : ScenarioData) (old new : Option (List ℕ)) : Type 0 where
   pub fails : IfSome files (λ f. a_fetch_fails (file_names s.devices) f ≡ true)
   pub nothing : new ≡ old
   pub same : AsTheyWere NextFailed s.devices files files'
@@ -141,11 +141,11 @@ pub record Ends (before after : Outside) (ended : Status) : Type 0 where
   -- the sink failed
   pub write_fault : ended ≡ status.WriteFault → Rose before.sink_faults after.sink_faults × Had CutShort before after
   -- memory was wanting: before the scenario was read, or later
-  pub no_memory : ended ≡ status.NoMemory → NothingDone before after ⊎ Had Wanting before after
+  pub no_memory : ended ≡ status.NoMemory → NothingDone before after ⊎ Had StoppedByMemory before after
   -- what the source had is no scenario, and nothing was written
   pub bad_scenario : (line : ℕ) (reason : Why) → ended ≡ status.BadScenario line reason → IsNoScenario before.left after.left (record { line = line; why = reason }) × NothingDone before after
   -- a file could not be fetched, and nothing was written
-  pub open_fault : ended ≡ status.OpenFault → Rose before.files_faults after.files_faults × Had LacksFile before after
+  pub open_fault : ended ≡ status.OpenFault → Rose before.files_faults after.files_faults × Had NotOpened before after
   pub words : ended ≢ status.BadWords
   -- however it ends, nothing but a front was taken of what the source had
   pub taken : TookFront before.left after.left
@@ -158,8 +158,8 @@ pub record Ends (before after : Outside) (ended : Status) : Type 0 where
 pub record ScenarioEnds (s : ScenarioData) (files files' : Option FilesState) (opened opened' : ℕ) (old new : Option (List ℕ)) (wrote wrote' : ℕ) (ended : Status) : Type 0 where
   pub ok : ended ≡ status.Ok → TextWritten files files' s old new
   pub write_fault : ended ≡ status.WriteFault → Rose wrote wrote' × CutShort files files' s old new
-  pub no_memory : ended ≡ status.NoMemory → Wanting files files' s old new
-  pub open_fault : ended ≡ status.OpenFault → Rose opened opened' × LacksFile files files' s old new
+  pub no_memory : ended ≡ status.NoMemory → StoppedByMemory files files' s old new
+  pub open_fault : ended ≡ status.OpenFault → Rose opened opened' × NotOpened files files' s old new
   pub reads : ended ≢ status.ReadFault
   pub scenario : (line : ℕ) (reason : Why) → ended ≢ status.BadScenario line reason
   pub words : ended ≢ status.BadWords
@@ -174,9 +174,9 @@ Spells bytes So = (s : ScenarioData) × (scenario_of bytes ≡ Ok s) × So s
 pub record BytesEnd (bytes : List ℕ) (files files' : Option FilesState) (opened opened' : ℕ) (old new : Option (List ℕ)) (wrote wrote' : ℕ) (ended : Status) : Type 0 where
   pub ok : ended ≡ status.Ok → Spells bytes (λ s. TextWritten files files' s old new)
   pub write_fault : ended ≡ status.WriteFault → Rose wrote wrote' × Spells bytes (λ s. CutShort files files' s old new)
-  pub no_memory : ended ≡ status.NoMemory → Untouched files files' old new ⊎ Spells bytes (λ s. Wanting files files' s old new)
+  pub no_memory : ended ≡ status.NoMemory → Untouched files files' old new ⊎ Spells bytes (λ s. StoppedByMemory files files' s old new)
   pub bad_scenario : (line : ℕ) (reason : Why) → ended ≡ status.BadScenario line reason → (scenario_of bytes ≡ Err (record { line = line; why = reason })) × Untouched files files' old new
-  pub open_fault : ended ≡ status.OpenFault → Rose opened opened' × Spells bytes (λ s. LacksFile files files' s old new)
+  pub open_fault : ended ≡ status.OpenFault → Rose opened opened' × Spells bytes (λ s. NotOpened files files' s old new)
   pub words : ended ≢ status.BadWords
   pub reads : ended ≢ status.ReadFault
   pub calm_files : Calm status.OpenFault ended opened opened'

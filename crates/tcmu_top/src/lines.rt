@@ -10,7 +10,7 @@ ghost use Rattle.tcmu_model.specs.Replay.{Plays};
 ghost use Rattle.tcmu_path.specs.Calls.{Accepts};
 ghost use Rattle.tcmu_path.specs.Tasks.{CanBeMade, IsFit};
 ghost use Rattle.tcmu_top.specs.Calls.{SinkFaults};
-ghost use Rattle.tcmu_top.specs.Playing.{Told, Stopped, Wrote, WroteFront};
+ghost use Rattle.tcmu_top.specs.Playing.{Played, Stopped, Wrote, WroteFront};
 
 use crate::writing::{Stop, write_entry};
 use edge::Sink;
@@ -37,7 +37,7 @@ fn play<P: Path, K: Sink>(
 ) -> Result<(), Stop>
     requires few { (P.device path.old).state.accepted < 2 ^ 63 }
     requires can { CanBeMade (event_data event.now) }
-    ensures ok { OnOk result ((at : ℕ) → Told P.relation at device.now (event_data event.now) (P.device path.old) (P.device path.new) (K.written out.old) (K.written out.new)) }
+    ensures ok { OnOk result ((at : ℕ) → Played P.relation at device.now (event_data event.now) (P.device path.old) (P.device path.new) (K.written out.old) (K.written out.new)) }
     ensures err { OnErr result ((at : ℕ) → Stopped P.relation at device.now (event_data event.now) (P.device path.old) (P.device path.new) (K.written out.old) (K.written out.new)) }
     ensures faults { SinkFaults (K.faults out.old) (K.faults out.new) result }
     ensures accepts { Accepts (accepted_by (event_data event.now)) (P.device path.old) (P.device path.new) }

@@ -4,7 +4,7 @@ use Rattle.media.specs.declared.make.MakeFault.{MakeFault}
 use Rattle.media.specs.declared.make.MakeFault.TheVariants as fault
 use Rattle.tcmu_top.specs.Opened.{AreOpen, Unopened}
 use Rattle.tcmu_top.specs.Playing.{states_of}
-use Rattle.tcmu_top.proofs.Scenarios.{open_opened, scenario_wanting, scenario_lacks, wanting_early, lacks_file}
+use Rattle.tcmu_top.proofs.Scenarios.{open_opened, scenario_wanting, scenario_not_opened, wanting_early, not_opened}
 use Rattle.tcmu_top.proofs.top.replay_scenario.Goals as goal
 
 pub replay_opened-requires-clause-opened : goal.replay_opened-requires-clause-opened
@@ -29,7 +29,7 @@ returns-in-Err-Open-clause-ends g c =
     let after = g.F.Files.faults c.open_devices.new.files in
     let same = c.as_slice-devices.ensures ∙ ap (λ (x : ScenarioData). x.devices) c.scenario.view_is in
     let refused = subst (λ (e : MakeFault). Unopened e c.as_slice-devices.result.now files last before after) c.in-Err-Open.field-0-is c.in-Err-Open.ensures.refused in
-    scenario_lacks s files last before after _ _ _ _ refl (lacks_file s files last before after _ (subst (λ (l : List DeviceLineData). Unopened fault.Open l files last before after) same refused))
+    scenario_not_opened s files last before after _ _ _ _ refl (not_opened s files last before after _ (subst (λ (l : List DeviceLineData). Unopened fault.Open l files last before after) same refused))
 
 pub returns-in-Err-NoMemory-clause-ends : goal.returns-in-Err-NoMemory-clause-ends
 returns-in-Err-NoMemory-clause-ends g c =
