@@ -1,4 +1,4 @@
--- What a run does to the outside: what it sees of it, what it takes of a source, and that it lets no fault be.
+-- What a run does to the outside: what it sees of it, what it takes of a source, and that it passes no fault over.
 use Rattle.std.specs.Prelude.{◌≡◌, ◌≢◌, ℕ, ◌+◌, ◌≤◌, List, length, Option, Result, OnOk, IsErrOf}
 use Rattle.tcmu_types.specs.Numbered.{Rose}
 use Rattle.edge.specs.Outside.{Gave}

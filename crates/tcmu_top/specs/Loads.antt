@@ -30,5 +30,5 @@ pub record LoadEnds (seed count : ℕ) (old new : Option (List ℕ)) (wrote wrot
   pub scenario : (line : ℕ) (reason : Why) → ended ≢ status.BadScenario line reason
   pub words : ended ≢ status.BadWords
   pub opens : ended ≢ status.OpenFault
-  -- no fault of the sink is let be
+  -- no fault of the sink is passed over
   pub calm : Calm status.WriteFault ended wrote wrote'

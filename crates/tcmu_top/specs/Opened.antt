@@ -28,6 +28,7 @@ pub record OpensFile (name : List ℕ) (files : Option FilesState) (c : ConfigDa
   pub told : IfSome files (λ f. (content : Content) × (f.places name ≡ at_home content) × (store ≡ store_of content))
   pub medium : m ≡ opened_medium (store.size / 512) c.protected c.fails (file_below store.bytes store.calls)
 
+-- by what bears the medium: memory, or a file
 abbrev pub OpensKind : MediumData → Option FilesState → ConfigData → MediumState → Type 0
 OpensKind (InMemory blocks) files = OpensMemory blocks
 OpensKind (InFile name) files = OpensFile name files
@@ -44,6 +45,7 @@ OpenEach files _ _ = ⊥
 
 -- ==== fetches
 
+-- with the name of a file in front, where it is one
 abbrev pub name_in : MediumData → List (List ℕ) → List (List ℕ)
 name_in (InFile name) names = name ∷ names
 name_in (InMemory blocks) names = names
@@ -65,6 +67,7 @@ after_fetches (name ∷ names) f = after_fetches names (after_fetch name f)
 
 -- ==== as they are left
 
+-- a device line names this file
 abbrev pub is_named : List DeviceLineData → List ℕ → Bool
 is_named ls name = list_any (bytes_eq name) (file_names ls)
 

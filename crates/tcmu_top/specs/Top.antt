@@ -115,6 +115,7 @@ IsNoScenario left left' bad =
 
 -- ==== the statuses
 
+-- the exit status of the program
 abbrev pub code_of : Status → ℕ
 code_of status.Ok = 0
 code_of status.ReadFault = 1
@@ -129,6 +130,7 @@ pub record Untouched (files files' : Option FilesState) (old new : Option (List 
   pub wrote : new ≡ old
   pub same : files' ≡ files
 
+-- the same, between two moments
 abbrev pub NothingDone : Outside → Outside → Type 0
 NothingDone before after = Untouched before.files after.files before.written after.written
 
@@ -146,10 +148,11 @@ pub record Ends (before after : Outside) (ended : Status) : Type 0 where
   pub bad_scenario : (line : ℕ) (reason : Why) → ended ≡ status.BadScenario line reason → IsNoScenario before.left after.left (record { line = line; why = reason }) × NothingDone before after
   -- a file could not be fetched, and nothing was written
   pub open_fault : ended ≡ status.OpenFault → Rose before.files_faults after.files_faults × Had NotOpened before after
+  -- the words are not its own
   pub words : ended ≢ status.BadWords
   -- however it ends, nothing but a front was taken of what the source had
   pub taken : TookFront before.left after.left
-  -- no fault of the source, of the files or of the sink is let be
+  -- no fault of the source, of the files or of the sink is passed over
   pub calm_source : Calm status.ReadFault ended before.source_faults after.source_faults
   pub calm_files : Calm status.OpenFault ended before.files_faults after.files_faults
   pub calm_sink : Calm status.WriteFault ended before.sink_faults after.sink_faults

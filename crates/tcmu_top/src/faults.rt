@@ -39,7 +39,7 @@ fn fault_line(status: Status) -> Line
     text
 }
 
-/// Hands the line of a fault to the error stream by one call, and makes none where there is no line. A failure there is let be.
+/// Hands the line of a fault to the error stream by one call, and makes none where there is no line. A failure there is ignored.
 pub fn report<E: Sink>(err: &mut E, status: Status)
     ensures line { Reported status (E.written err.old) (E.written err.new) (Rose (E.faults err.old) (E.faults err.new)) }
     ensures silent { fault_text status ≡ [] → E.faults err.new ≡ E.faults err.old }
