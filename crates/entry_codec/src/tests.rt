@@ -132,38 +132,41 @@ fn writes_a_command_with_merged_blocks(rt: HostRuntime) -> Result<(), Fail> {
     Ok(())
 }
 
+/// A word that is written at a byte of a good entry, and the rule that the entry breaks then.
+const WORDS: [(u32, u32, Option<EntryFault>); 17] = [
+    (0, 0x81, None),
+    (0, 0x01, Some(EntryFault::BadLength(0))),
+    (0, 0x69, Some(EntryFault::BadLength(104))),
+    (
+        0,
+        0x89,
+        Some(EntryFault::PastEnd {
+            len: 136,
+            limit: 128,
+        }),
+    ),
+    (0, 0x1a, Some(EntryFault::BadLength(24))),
+    (0, 0x22, Some(EntryFault::BadCount(8192))),
+    (0, 0x0f, None),
+    (0, 0x07, Some(EntryFault::BadLength(0))),
+    (8, 4, None),
+    (8, 5, Some(EntryFault::BadCount(5))),
+    (12, 3, Some(EntryFault::BadCount(3))),
+    (16, 4, Some(EntryFault::BadCount(4))),
+    (24, 191, Some(EntryFault::CdbOutside(191))),
+    (24, 192, None),
+    (24, 250, None),
+    (24, 251, Some(EntryFault::CdbOutside(251))),
+    (24, 256, Some(EntryFault::CdbOutside(256))),
+];
+
 #[test]
 fn names_the_first_broken_rule(rt: HostRuntime) -> Result<(), Fail> {
     let iov = Iov {
         base: DATA_OFF,
         len: 512,
     };
-    for (at, word, want) in [
-        (0, 0x81u32, None),
-        (0, 0x01, Some(EntryFault::BadLength(0))),
-        (0, 0x69, Some(EntryFault::BadLength(104))),
-        (
-            0,
-            0x89,
-            Some(EntryFault::PastEnd {
-                len: 136,
-                limit: 128,
-            }),
-        ),
-        (0, 0x1a, Some(EntryFault::BadLength(24))),
-        (0, 0x22, Some(EntryFault::BadCount(8192))),
-        (0, 0x0f, None),
-        (0, 0x07, Some(EntryFault::BadLength(0))),
-        (8, 4, None),
-        (8, 5, Some(EntryFault::BadCount(5))),
-        (12, 3, Some(EntryFault::BadCount(3))),
-        (16, 4, Some(EntryFault::BadCount(4))),
-        (24, 191, Some(EntryFault::CdbOutside(191))),
-        (24, 192, None),
-        (24, 250, None),
-        (24, 251, Some(EntryFault::CdbOutside(251))),
-        (24, 256, Some(EntryFault::CdbOutside(256))),
-    ] {
+    for (at, word, want) in WORDS {
         let mut front = request(rt.alloc(), iov)?;
         if at == 0 && word == 0x22 {
             set_u32(&mut front, 12, 8192);
@@ -196,6 +199,34 @@ fn an_iovec_lies_inside_up_to_the_end(rt: HostRuntime) -> Result<(), Fail> {
     Ok(())
 }
 
+/// Runs of bytes of an entry behind its response: each byte, and how often it stands there.
+const RESPONSE: [(u8, usize); 24] = [
+    (0x81, 1),
+    (0, 3),
+    (0x34, 1),
+    (0x12, 1),
+    (0x66, 1),
+    (2, 1),
+    (2, 1),
+    (0, 3),
+    (7, 1),
+    (0, 3),
+    (0x70, 1),
+    (0, 1),
+    (5, 1),
+    (0, 4),
+    (10, 1),
+    (0, 4),
+    (0x20, 1),
+    (1, 1),
+    (0, 82),
+    (0x28, 1),
+    (0, 7),
+    (1, 1),
+    (0, 7),
+    (0xaa, 1),
+];
+
 #[test]
 fn a_response_changes_its_bytes_alone(rt: HostRuntime) -> Result<(), Fail> {
     let mut front = request(
@@ -218,37 +249,7 @@ fn a_response_changes_its_bytes_alone(rt: HostRuntime) -> Result<(), Fail> {
     };
     assert!(rt; front.len() == 8192);
     write_response(&mut front, 0, 0x1234, &reply, Some(7));
-    assert!(rt;
-        is_runs(
-            front.get(128..257).unwrap_or(&[]),
-            &[
-                (0x81, 1),
-                (0, 3),
-                (0x34, 1),
-                (0x12, 1),
-                (0x66, 1),
-                (2, 1),
-                (2, 1),
-                (0, 3),
-                (7, 1),
-                (0, 3),
-                (0x70, 1),
-                (0, 1),
-                (5, 1),
-                (0, 4),
-                (10, 1),
-                (0, 4),
-                (0x20, 1),
-                (1, 1),
-                (0, 82),
-                (0x28, 1),
-                (0, 7),
-                (1, 1),
-                (0, 7),
-                (0xaa, 1),
-            ]
-        )
-    );
+    assert!(rt; is_runs(front.get(128..257).unwrap_or(&[]), &RESPONSE));
     assert!(rt; front.len() == 8192);
     let response = read_response(&front, 0);
     assert_eq!(rt; response.id, 0x1234);

@@ -94,27 +94,29 @@ fn entries_and_dumps(rt: HostRuntime) -> Result<(), Fail> {
     Ok(())
 }
 
+/// Numbers of a device, each another.
+const STAT: Stat = Stat {
+    now: 9,
+    blocked: true,
+    attached: false,
+    head: 128,
+    used: 256,
+    waiting: 1,
+    out: 2,
+    handled: 3,
+    parked: 4,
+    placed: 5,
+    lost: 6,
+    expired: 7,
+    held: 8,
+    delayed: 10,
+};
+
 /// A device on which commands may wait shows how many do.
 #[test]
 fn numbers(rt: HostRuntime) -> Result<(), Fail> {
     let alloc = rt.alloc();
     let name = name().ok_or("name")?;
-    let stat = Stat {
-        now: 9,
-        blocked: true,
-        attached: false,
-        head: 128,
-        used: 256,
-        waiting: 1,
-        out: 2,
-        handled: 3,
-        parked: 4,
-        placed: 5,
-        lost: 6,
-        expired: 7,
-        held: 8,
-        delayed: 10,
-    };
     let moved = Publish::Moved {
         items: 2,
         commands: 1,
@@ -125,7 +127,7 @@ fn numbers(rt: HostRuntime) -> Result<(), Fail> {
         &name,
         4,
         &Event::Stat,
-        &Answer::Stat(stat),
+        &Answer::Stat(STAT),
         &mut text,
     )?;
     event_line(

@@ -15,132 +15,135 @@ fn fault_of(alloc: Global, text: &[u8]) -> Option<(u32, Why)> {
     }
 }
 
+/// What stands behind `device d0 `, and the fault.
+const DEVICE_LINES: [(&str, Option<Why>); 30] = [
+    (
+        "tcm-user/0/d0/mem/64 ring=4096 blocks=16 flags=none timeout=30",
+        None,
+    ),
+    (
+        "tcm-user/65535/d0/mem/32768 ring=4194304 blocks=4096 flags=tmr,ooo,len timeout=1000000 qfull=1000000",
+        None,
+    ),
+    (
+        "tcm-user/0/d0/mem/1 ring=4096 blocks=256 flags=ooo timeout=0 qfull=0 pages=16 # more",
+        None,
+    ),
+    (
+        "tcm-user/0/d0/mem/1 ring=4096 blocks=16 flags=ooo timeout=0 pages=1",
+        None,
+    ),
+    (
+        "tcm-user/0/d0/mem/1 ring=4096 blocks=16 flags=ooo",
+        Some(Why::Fields),
+    ),
+    (
+        "tcm-user/0/d0/mem/1 ring=4096 blocks=16 flags=ooo timeout=0 qfull=0 pages=1 x",
+        Some(Why::Fields),
+    ),
+    (
+        "tcm-user/0/d0/mem/1 ring=4096 blocks=16 flags=ooo timeout=0 pages=1 qfull=0",
+        Some(Why::Fields),
+    ),
+    (
+        "tcm-user/0/d0/mem/1 ring=4096 blocks=16 flags=ooo timeout=0 pages=1 pages=1",
+        Some(Why::Fields),
+    ),
+    (
+        "tcm-user/0/d0/mem/1 4096 blocks=16 flags=ooo timeout=0",
+        Some(Why::Fields),
+    ),
+    (
+        "tcm-user/0/d0/mem/1 ring=4096 16 flags=ooo timeout=0",
+        Some(Why::Fields),
+    ),
+    (
+        "tcm-user/0/d0/mem/1 ring=4096 blocks=16 ooo timeout=0",
+        Some(Why::Fields),
+    ),
+    (
+        "tcm-user/0/d0/mem/1 ring=4096 blocks=16 flags=ooo 0",
+        Some(Why::Fields),
+    ),
+    (
+        "tcm-user/0/d1/mem/64 ring=0 blocks=16 flags=ooo timeout=30",
+        Some(Why::Config),
+    ),
+    (
+        "tcm-user/0/d0/mem/064 ring=4096 blocks=16 flags=ooo timeout=30",
+        Some(Why::Config),
+    ),
+    (
+        "tcm-user/0/d0/fail/1+1/mem/64 ring=4096 blocks=16 flags=ooo timeout=30",
+        Some(Why::Config),
+    ),
+    (
+        "tcm-user/0/d0/mem/1 ring=4097 blocks=16 flags=x timeout=30",
+        Some(Why::Number),
+    ),
+    (
+        "tcm-user/0/d0/mem/1 ring=4198400 blocks=16 flags=ooo timeout=30",
+        Some(Why::Number),
+    ),
+    (
+        "tcm-user/0/d0/mem/1 ring= blocks=16 flags=ooo timeout=30",
+        Some(Why::Number),
+    ),
+    (
+        "tcm-user/0/d0/mem/1 ring=4096 blocks=0 flags=x timeout=30",
+        Some(Why::Number),
+    ),
+    (
+        "tcm-user/0/d0/mem/1 ring=4096 blocks=4097 flags=ooo timeout=30",
+        Some(Why::Number),
+    ),
+    (
+        "tcm-user/0/d0/mem/1 ring=4096 blocks=16 flags= timeout=x",
+        Some(Why::Flags),
+    ),
+    (
+        "tcm-user/0/d0/mem/1 ring=4096 blocks=16 flags=len,len timeout=30",
+        Some(Why::Flags),
+    ),
+    (
+        "tcm-user/0/d0/mem/1 ring=4096 blocks=16 flags=none,len timeout=30",
+        Some(Why::Flags),
+    ),
+    (
+        "tcm-user/0/d0/mem/1 ring=4096 blocks=16 flags=ooo timeout=1000001",
+        Some(Why::Number),
+    ),
+    (
+        "tcm-user/0/d0/mem/1 ring=4096 blocks=16 flags=ooo timeout=30 qfull=1000001",
+        Some(Why::Number),
+    ),
+    (
+        "tcm-user/0/d0/mem/1 ring=4096 blocks=16 flags=ooo timeout=30 pages=17",
+        Some(Why::Number),
+    ),
+    (
+        "tcm-user/0/d0/mem/1 ring=4096 blocks=257 flags=ooo timeout=30 pages=16",
+        Some(Why::Number),
+    ),
+    (
+        "tcm-user/0/d0/ro/mem/64 ring=4096 blocks=16 flags=ooo timeout=30",
+        None,
+    ),
+    (
+        "tcm-user/0/d0/fail/1+2/mem/64 ring=4096 blocks=16 flags=ooo timeout=30",
+        None,
+    ),
+    (
+        "tcm-user/0/d0/file/a/b ring=4096 blocks=16 flags=ooo timeout=30",
+        None,
+    ),
+];
+
 /// Device lines, each alone and as the last of three lines: behind `device d0 `.
 #[test]
 fn device_lines(rt: HostRuntime) -> Result<(), Fail> {
     let alloc = rt.alloc();
-    for (fields, want) in [
-        (
-            "tcm-user/0/d0/mem/64 ring=4096 blocks=16 flags=none timeout=30",
-            None,
-        ),
-        (
-            "tcm-user/65535/d0/mem/32768 ring=4194304 blocks=4096 flags=tmr,ooo,len timeout=1000000 qfull=1000000",
-            None,
-        ),
-        (
-            "tcm-user/0/d0/mem/1 ring=4096 blocks=256 flags=ooo timeout=0 qfull=0 pages=16 # more",
-            None,
-        ),
-        (
-            "tcm-user/0/d0/mem/1 ring=4096 blocks=16 flags=ooo timeout=0 pages=1",
-            None,
-        ),
-        (
-            "tcm-user/0/d0/mem/1 ring=4096 blocks=16 flags=ooo",
-            Some(Why::Fields),
-        ),
-        (
-            "tcm-user/0/d0/mem/1 ring=4096 blocks=16 flags=ooo timeout=0 qfull=0 pages=1 x",
-            Some(Why::Fields),
-        ),
-        (
-            "tcm-user/0/d0/mem/1 ring=4096 blocks=16 flags=ooo timeout=0 pages=1 qfull=0",
-            Some(Why::Fields),
-        ),
-        (
-            "tcm-user/0/d0/mem/1 ring=4096 blocks=16 flags=ooo timeout=0 pages=1 pages=1",
-            Some(Why::Fields),
-        ),
-        (
-            "tcm-user/0/d0/mem/1 4096 blocks=16 flags=ooo timeout=0",
-            Some(Why::Fields),
-        ),
-        (
-            "tcm-user/0/d0/mem/1 ring=4096 16 flags=ooo timeout=0",
-            Some(Why::Fields),
-        ),
-        (
-            "tcm-user/0/d0/mem/1 ring=4096 blocks=16 ooo timeout=0",
-            Some(Why::Fields),
-        ),
-        (
-            "tcm-user/0/d0/mem/1 ring=4096 blocks=16 flags=ooo 0",
-            Some(Why::Fields),
-        ),
-        (
-            "tcm-user/0/d1/mem/64 ring=0 blocks=16 flags=ooo timeout=30",
-            Some(Why::Config),
-        ),
-        (
-            "tcm-user/0/d0/mem/064 ring=4096 blocks=16 flags=ooo timeout=30",
-            Some(Why::Config),
-        ),
-        (
-            "tcm-user/0/d0/fail/1+1/mem/64 ring=4096 blocks=16 flags=ooo timeout=30",
-            Some(Why::Config),
-        ),
-        (
-            "tcm-user/0/d0/mem/1 ring=4097 blocks=16 flags=x timeout=30",
-            Some(Why::Number),
-        ),
-        (
-            "tcm-user/0/d0/mem/1 ring=4198400 blocks=16 flags=ooo timeout=30",
-            Some(Why::Number),
-        ),
-        (
-            "tcm-user/0/d0/mem/1 ring= blocks=16 flags=ooo timeout=30",
-            Some(Why::Number),
-        ),
-        (
-            "tcm-user/0/d0/mem/1 ring=4096 blocks=0 flags=x timeout=30",
-            Some(Why::Number),
-        ),
-        (
-            "tcm-user/0/d0/mem/1 ring=4096 blocks=4097 flags=ooo timeout=30",
-            Some(Why::Number),
-        ),
-        (
-            "tcm-user/0/d0/mem/1 ring=4096 blocks=16 flags= timeout=x",
-            Some(Why::Flags),
-        ),
-        (
-            "tcm-user/0/d0/mem/1 ring=4096 blocks=16 flags=len,len timeout=30",
-            Some(Why::Flags),
-        ),
-        (
-            "tcm-user/0/d0/mem/1 ring=4096 blocks=16 flags=none,len timeout=30",
-            Some(Why::Flags),
-        ),
-        (
-            "tcm-user/0/d0/mem/1 ring=4096 blocks=16 flags=ooo timeout=1000001",
-            Some(Why::Number),
-        ),
-        (
-            "tcm-user/0/d0/mem/1 ring=4096 blocks=16 flags=ooo timeout=30 qfull=1000001",
-            Some(Why::Number),
-        ),
-        (
-            "tcm-user/0/d0/mem/1 ring=4096 blocks=16 flags=ooo timeout=30 pages=17",
-            Some(Why::Number),
-        ),
-        (
-            "tcm-user/0/d0/mem/1 ring=4096 blocks=257 flags=ooo timeout=30 pages=16",
-            Some(Why::Number),
-        ),
-        (
-            "tcm-user/0/d0/ro/mem/64 ring=4096 blocks=16 flags=ooo timeout=30",
-            None,
-        ),
-        (
-            "tcm-user/0/d0/fail/1+2/mem/64 ring=4096 blocks=16 flags=ooo timeout=30",
-            None,
-        ),
-        (
-            "tcm-user/0/d0/file/a/b ring=4096 blocks=16 flags=ooo timeout=30",
-            None,
-        ),
-    ] {
+    for (fields, want) in DEVICE_LINES {
         let alone = format!(in alloc; "device d0 {fields}")?;
         let last = format!(in alloc; "# \u{7}\n\t\r\ndevice d0 {fields}\n")?;
         let first = fault_of(alloc, alone.as_bytes());
@@ -155,92 +158,95 @@ fn device_lines(rt: HostRuntime) -> Result<(), Fail> {
     Ok(())
 }
 
+/// A line behind a device line, and its fault.
+const OTHER_LINES: [(&str, Option<Why>); 53] = [
+    ("", None),
+    (" # \u{7f}", None),
+    ("\u{7f}#", Some(Why::Byte)),
+    ("verb \u{b}", Some(Why::Byte)),
+    ("Stat d0", Some(Why::Verb)),
+    ("submit d0 a 1 28000000000000000100 in=512", None),
+    (
+        "submit d0 a 4294967295 2a000000000300000100 out=5a*512,00*3",
+        None,
+    ),
+    ("submit d0 a 0 2a000000000300000100 in=0", None),
+    ("submit d0 a 0 2a000000000300000100 out=00*1048576", None),
+    ("submit d0 a 0 2a000000000300000100", None),
+    ("submit d9 A x", Some(Why::Fields)),
+    ("submit d9 A x y z", Some(Why::Fields)),
+    ("submit d9 A x y in=x in=x", Some(Why::Fields)),
+    ("submit d9 A x y", Some(Why::Name)),
+    ("submit d0 A x y", Some(Why::Init)),
+    ("submit d0 a 01 y", Some(Why::Number)),
+    ("submit d0 a 4294967296 y", Some(Why::Number)),
+    ("submit d0 a 1 2800000000 in=x", Some(Why::Cdb)),
+    ("submit d0 a 1 2A000000000300000100", Some(Why::Cdb)),
+    (
+        "submit d0 a 1 28000000000000000100 in=1048577",
+        Some(Why::Number),
+    ),
+    ("submit d0 a 1 28000000000000000100 in=", Some(Why::Number)),
+    (
+        "submit d0 a 1 28000000000000000100 out=zz*3",
+        Some(Why::Runs),
+    ),
+    ("submit d0 a 1 28000000000000000100 out=", Some(Why::Runs)),
+    (
+        "submit d0 a 1 2a000000000300000100 out=00*1048576,00*1",
+        Some(Why::Runs),
+    ),
+    (
+        "submit d0 a 1 28000000000000000100 out=00*512",
+        Some(Why::Direction),
+    ),
+    (
+        "submit d0 a 1 2a000000000300000100 in=1",
+        Some(Why::Direction),
+    ),
+    ("submit d0 a 1 000000000000", None),
+    ("enter d0", None),
+    ("dispatch", Some(Why::Fields)),
+    ("drain d0 d0", Some(Why::Fields)),
+    ("publish d9", Some(Why::Name)),
+    ("handle d0 1000000000", None),
+    ("handle d0", Some(Why::Fields)),
+    ("respond d9 x", Some(Why::Name)),
+    ("respond d0 0", Some(Why::Number)),
+    ("handle d0 1000000001", Some(Why::Number)),
+    ("tick d0 1000000", None),
+    ("tick d0 1000001", Some(Why::Number)),
+    ("reset d0 2 # two", None),
+    ("reset d0 0", Some(Why::Number)),
+    ("reset d0 3", Some(Why::Number)),
+    ("tmr d0 7 none", None),
+    ("tmr d0 1 1,2#,3", None),
+    ("tmr d0 1", Some(Why::Fields)),
+    ("tmr d9 8 none", Some(Why::Name)),
+    ("tmr d0 8 none", Some(Why::Number)),
+    ("tmr d0 0 none", Some(Why::Number)),
+    ("tmr d0 1 1,1", Some(Why::Number)),
+    ("tmr d0 1 1,", Some(Why::Number)),
+    ("dump d0", Some(Why::NotYet)),
+    (
+        "device 0d x ring=0 blocks=0 flags=0 timeout=0",
+        Some(Why::Name),
+    ),
+    (
+        "device d0 tcm-user/0/d0/mem/64 ring=4096 blocks=16 flags=ooo timeout=30",
+        Some(Why::Name),
+    ),
+    (
+        "device d1 tcm-user/0/d1/ro/file/x ring=4096 blocks=16 flags=ooo timeout=30",
+        None,
+    ),
+];
+
 /// Lines after a device line, with and without the last line feed.
 #[test]
 fn other_lines(rt: HostRuntime) -> Result<(), Fail> {
     let alloc = rt.alloc();
-    for (line, want) in [
-        ("", None),
-        (" # \u{7f}", None),
-        ("\u{7f}#", Some(Why::Byte)),
-        ("verb \u{b}", Some(Why::Byte)),
-        ("Stat d0", Some(Why::Verb)),
-        ("submit d0 a 1 28000000000000000100 in=512", None),
-        (
-            "submit d0 a 4294967295 2a000000000300000100 out=5a*512,00*3",
-            None,
-        ),
-        ("submit d0 a 0 2a000000000300000100 in=0", None),
-        ("submit d0 a 0 2a000000000300000100 out=00*1048576", None),
-        ("submit d0 a 0 2a000000000300000100", None),
-        ("submit d9 A x", Some(Why::Fields)),
-        ("submit d9 A x y z", Some(Why::Fields)),
-        ("submit d9 A x y in=x in=x", Some(Why::Fields)),
-        ("submit d9 A x y", Some(Why::Name)),
-        ("submit d0 A x y", Some(Why::Init)),
-        ("submit d0 a 01 y", Some(Why::Number)),
-        ("submit d0 a 4294967296 y", Some(Why::Number)),
-        ("submit d0 a 1 2800000000 in=x", Some(Why::Cdb)),
-        ("submit d0 a 1 2A000000000300000100", Some(Why::Cdb)),
-        (
-            "submit d0 a 1 28000000000000000100 in=1048577",
-            Some(Why::Number),
-        ),
-        ("submit d0 a 1 28000000000000000100 in=", Some(Why::Number)),
-        (
-            "submit d0 a 1 28000000000000000100 out=zz*3",
-            Some(Why::Runs),
-        ),
-        ("submit d0 a 1 28000000000000000100 out=", Some(Why::Runs)),
-        (
-            "submit d0 a 1 2a000000000300000100 out=00*1048576,00*1",
-            Some(Why::Runs),
-        ),
-        (
-            "submit d0 a 1 28000000000000000100 out=00*512",
-            Some(Why::Direction),
-        ),
-        (
-            "submit d0 a 1 2a000000000300000100 in=1",
-            Some(Why::Direction),
-        ),
-        ("submit d0 a 1 000000000000", None),
-        ("enter d0", None),
-        ("dispatch", Some(Why::Fields)),
-        ("drain d0 d0", Some(Why::Fields)),
-        ("publish d9", Some(Why::Name)),
-        ("handle d0 1000000000", None),
-        ("handle d0", Some(Why::Fields)),
-        ("respond d9 x", Some(Why::Name)),
-        ("respond d0 0", Some(Why::Number)),
-        ("handle d0 1000000001", Some(Why::Number)),
-        ("tick d0 1000000", None),
-        ("tick d0 1000001", Some(Why::Number)),
-        ("reset d0 2 # two", None),
-        ("reset d0 0", Some(Why::Number)),
-        ("reset d0 3", Some(Why::Number)),
-        ("tmr d0 7 none", None),
-        ("tmr d0 1 1,2#,3", None),
-        ("tmr d0 1", Some(Why::Fields)),
-        ("tmr d9 8 none", Some(Why::Name)),
-        ("tmr d0 8 none", Some(Why::Number)),
-        ("tmr d0 0 none", Some(Why::Number)),
-        ("tmr d0 1 1,1", Some(Why::Number)),
-        ("tmr d0 1 1,", Some(Why::Number)),
-        ("dump d0", Some(Why::NotYet)),
-        (
-            "device 0d x ring=0 blocks=0 flags=0 timeout=0",
-            Some(Why::Name),
-        ),
-        (
-            "device d0 tcm-user/0/d0/mem/64 ring=4096 blocks=16 flags=ooo timeout=30",
-            Some(Why::Name),
-        ),
-        (
-            "device d1 tcm-user/0/d1/ro/file/x ring=4096 blocks=16 flags=ooo timeout=30",
-            None,
-        ),
-    ] {
+    for (line, want) in OTHER_LINES {
         let text = format!(in alloc; "{DEVICE}\n{line}")?;
         let whole = format!(in alloc; "{text}\nstat d0\n")?;
         let last = fault_of(alloc, text.as_bytes());

@@ -6,7 +6,13 @@ use std::alloc::Global;
 use std::test::Fail;
 use tcmu_types::{Flags, Iov, Iovs, NoMemory, Settings};
 
+/// The byte at which the data area begins.
 const DATA_OFF: u64 = 8192;
+
+/// `len` bytes from byte `base` of the region on.
+fn iov(base: u64, len: u64) -> Iov {
+    Iov { base, len }
+}
 
 /// A region of two blocks of 1, 2 or 16 pages.
 fn region(alloc: Global, pages: u32) -> Result<Region, NoMemory> {
@@ -97,91 +103,14 @@ fn lends_by_its_rule(rt: HostRuntime) -> Result<(), Fail> {
         let size = 4096 * pages as u64;
         let second = DATA_OFF + size;
         for (first, next, want) in [
-            (
-                Iov {
-                    base: DATA_OFF,
-                    len: size,
-                },
-                Iov {
-                    base: second,
-                    len: 512,
-                },
-                true,
-            ),
-            (
-                Iov {
-                    base: second,
-                    len: size,
-                },
-                Iov {
-                    base: DATA_OFF,
-                    len: size,
-                },
-                true,
-            ),
-            (
-                Iov {
-                    base: DATA_OFF,
-                    len: size,
-                },
-                Iov {
-                    base: DATA_OFF,
-                    len: size,
-                },
-                false,
-            ),
-            (
-                Iov {
-                    base: DATA_OFF,
-                    len: size,
-                },
-                Iov {
-                    base: second + 8,
-                    len: 512,
-                },
-                false,
-            ),
-            (
-                Iov {
-                    base: DATA_OFF,
-                    len: 512,
-                },
-                Iov {
-                    base: second,
-                    len: 512,
-                },
-                false,
-            ),
-            (
-                Iov {
-                    base: DATA_OFF,
-                    len: size,
-                },
-                Iov {
-                    base: second,
-                    len: 0,
-                },
-                false,
-            ),
-            (
-                Iov {
-                    base: DATA_OFF,
-                    len: size,
-                },
-                Iov {
-                    base: second + size,
-                    len: 8,
-                },
-                false,
-            ),
-            (
-                Iov { base: 0, len: size },
-                Iov {
-                    base: second,
-                    len: 8,
-                },
-                false,
-            ),
+            (iov(DATA_OFF, size), iov(second, 512), true),
+            (iov(second, size), iov(DATA_OFF, size), true),
+            (iov(DATA_OFF, size), iov(DATA_OFF, size), false),
+            (iov(DATA_OFF, size), iov(second + 8, 512), false),
+            (iov(DATA_OFF, 512), iov(second, 512), false),
+            (iov(DATA_OFF, size), iov(second, 0), false),
+            (iov(DATA_OFF, size), iov(second + size, 8), false),
+            (iov(0, size), iov(second, 8), false),
         ] {
             let mut region = region(rt.alloc(), pages)?;
             let (answer, parts, _) = lent(&mut region, rt.alloc(), &[first, next])?;
@@ -224,21 +153,10 @@ fn read_at(region: &Region, alloc: Global, base: u64) -> Result<[u8; 4], NoMemor
 fn a_lent_block_reads_as_zeros_and_comes_back(rt: HostRuntime) -> Result<(), Fail> {
     let mut region = region(rt.alloc(), 1)?;
     let across = DATA_OFF + 4094;
-    let done = write_at(
-        &mut region,
-        rt.alloc(),
-        Iov {
-            base: across,
-            len: 4,
-        },
-        &[1, 2, 3, 4, 5],
-    )?;
+    let done = write_at(&mut region, rt.alloc(), iov(across, 4), &[1, 2, 3, 4, 5])?;
     assert_eq!(rt; done, 4);
     assert_eq!(rt; read_at(&region, rt.alloc(), across)?, [1, 2, 3, 4]);
-    let first = Iov {
-        base: DATA_OFF,
-        len: 4096,
-    };
+    let first = iov(DATA_OFF, 4096);
     assert_eq!(rt;
         lent_and_back(&mut region, rt.alloc(), first, across)?,
         Some(([0, 0, 3, 4], [1, 2, 3, 4]))
@@ -250,15 +168,7 @@ fn a_lent_block_reads_as_zeros_and_comes_back(rt: HostRuntime) -> Result<(), Fai
         None
     );
     assert_eq!(rt;
-        write_at(
-            &mut region,
-            rt.alloc(),
-            Iov {
-                base: across,
-                len: 4
-            },
-            &[7, 7, 7]
-        )?,
+        write_at(&mut region, rt.alloc(), iov(across, 4), &[7, 7, 7])?,
         3
     );
     assert_eq!(rt; read_at(&region, rt.alloc(), across)?, [0, 0, 7, 4]);
