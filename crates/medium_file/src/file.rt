@@ -50,6 +50,18 @@ fn widened(lost: Lost, at: u64, n: u64) -> Lost
     }
 }
 
+/// What is lost after a call over `n` bytes from `at` on, by how that came out.
+fn lost_after(lost: Lost, outcome: Result<(), Failed>, at: u64, n: u64) -> Lost
+    requires { at + n < 2 ^ 64 }
+    ensures narrowed { OnOk outcome (lost_span result ≡ narrowed (lost_span lost) (span_of at n)) }
+    ensures widened { OnErr outcome (lost_span result ≡ widened (lost_span lost) (span_of at n)) }
+{
+    match outcome {
+        Ok(()) => narrowed(lost, at, n),
+        Err(Failed) => widened(lost, at, n),
+    }
+}
+
 /// A medium over a store. A read, a write and a sync make one call of it, a fill one for each block, up to the first that fails.
 /// Contracts see what it shows as a medium, and its store.
 #[derive(Drop)]
@@ -153,17 +165,9 @@ impl<S: Store + Drop> Medium for FileMedium<S> {
         ensures spoiled { OnErr result (Spoils at (length bytes.now) (S.state self.old.store).bytes (S.state self.new.store).bytes) }
     {
         self.calls = self.calls.saturating_add(1);
-        let n = bytes.len() as u64;
-        match self.store.write_at(at, bytes) {
-            Ok(()) => {
-                self.lost = narrowed(self.lost, at, n);
-                Ok(())
-            }
-            Err(failed) => {
-                self.lost = widened(self.lost, at, n);
-                Err(failed)
-            }
-        }
+        let outcome = self.store.write_at(at, bytes);
+        self.lost = lost_after(self.lost, outcome, at, bytes.len() as u64);
+        outcome
     }
 
     fn fill(&mut self, at: u64, block: &[u8; 512], count: u64) -> Result<(), Failed>
@@ -179,16 +183,9 @@ impl<S: Store + Drop> Medium for FileMedium<S> {
         ensures spoiled { OnErr result (PutsInPart at block.now count (S.state self.old.store).bytes (S.state self.new.store).bytes) }
     {
         self.calls = self.calls.saturating_add(1);
-        match fill_store(&mut self.store, at, block, count) {
-            Ok(()) => {
-                self.lost = narrowed(self.lost, at, 512 * count);
-                Ok(())
-            }
-            Err(failed) => {
-                self.lost = widened(self.lost, at, 512 * count);
-                Err(failed)
-            }
-        }
+        let outcome = fill_store(&mut self.store, at, block, count);
+        self.lost = lost_after(self.lost, outcome, at, 512 * count);
+        outcome
     }
 
     fn sync(&mut self) -> Result<(), Failed> {

@@ -27,10 +27,7 @@ pub fn fill_store<S: Store>(
     // It shows that the places fit a u64.
     let _length = store.length();
     for k in 0..count {
-        match store.write_at(at + 512 * k, block) {
-            Ok(()) => {}
-            Err(failed) => return Err(failed),
-        }
+        store.write_at(at + 512 * k, block)?;
     }
     Ok(())
 }
