@@ -8,7 +8,8 @@ ghost use Rattle.medium_file.specs.FileState.{PutsInPart};
 
 use edge::{Failed, Store};
 
-/// Writes `count` copies of a block from `at` on, one call of the store each, up to the first that fails.
+/// Writes `count` copies of a block from `at` on in order, one call of the store each, up to the first that fails. After a failure the
+/// copies before it stand, those behind it were not tried, and the 512 bytes of its own place may be anything.
 pub fn fill_store<S: Store>(
     store: &mut S,
     at: u64,
