@@ -12,3 +12,11 @@ listed_over fails None = None
 abbrev pub configured : Bool → List ℕ → ℕ → MediumState → MediumState
 configured protected fails calls m =
     record m { protected = protected; own = record { fails = listed_over fails m.own.fails; calls = calls } }
+
+-- what contracts see of it: its protected bit, its calls that fail, how many were made and how many failed, and what is below
+pub record ConfiguredData (M : Type 0) : Type 0 where
+  pub protected : Bool
+  pub fails : List ℕ
+  pub calls : ℕ
+  pub faults : ℕ
+  pub below : M

@@ -5,10 +5,12 @@ ghost use Rattle.media.specs.Configured.{configured};
 use crate::own_calls::OwnCalls;
 use edge::Failed;
 use handler_trait::Medium;
+use std::marker::Model;
 use tcmu_types::Serials;
 
-/// A medium with a protected bit of its own, of which the listed calls fail. Its calls of read, write, fill and sync are numbered
-/// together from 1. A listed call changes nothing, and does not reach what is below.
+/// A medium with a protected bit of its own, in place of that below, of which the listed calls fail. Its calls of read, write, fill and
+/// sync are numbered together from 1. A listed call changes no byte and does not reach what is below; any other is passed on, and fails
+/// where what is below fails. Contracts see the bit, the list, the calls made, the faults, and what is below.
 #[derive(Debug, Drop)]
 pub struct Configured<M: Medium + Drop> {
     below: M,
@@ -16,11 +18,20 @@ pub struct Configured<M: Medium + Drop> {
     own: OwnCalls,
 }
 
+impl<M: Medium + Drop> Model for Configured<M> {
+    ghost use Rattle.media.specs.Configured.{ConfiguredData};
+
+    ghost Value = { ConfiguredData M };
+
+    ghost view = { λ m. record { protected = m.protected; fails = m.own.fails.items; calls = m.own.made; faults = m.own.faults; below = m.below } };
+}
+
 impl<M: Medium + Drop> Configured<M> {
-    /// The medium below, with this protected bit and these calls that fail.
+    /// The medium below, with this protected bit and these calls that fail. It has made no call yet.
     pub fn new(below: M, protected: bool, fails: Serials) -> Configured<M>
         ensures state { ⟦<Configured<M> as Medium>⟧.state result ≡ configured protected fails.items 0 (M.state below) }
         ensures faults { ⟦<Configured<M> as Medium>⟧.faults result ≡ 0 }
+        ensures below { result.below ≡ below }
     {
         Configured {
             below,
@@ -43,9 +54,9 @@ impl<M: Medium + Drop> Configured<M> {
 }
 
 impl<M: Medium + Drop> Medium for Configured<M> {
-    ghost state = { λ m. configured m.protected m.own.fails.items m.own.made (M.state m.below) };
+    ghost state = { λ m. configured m.protected m.fails m.calls (M.state m.below) };
 
-    ghost faults = { λ m. m.own.faults };
+    ghost faults = { λ m. m.faults };
 
     ghost synced = { λ m n. M.synced m.below n.below };
 

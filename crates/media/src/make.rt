@@ -19,7 +19,7 @@ use thiserror::Error;
 /// Why no medium was made.
 #[derive(Clone, Copy, Debug, PartialEq, Eq, Error)]
 pub enum MakeFault {
-    /// The config's file could not be fetched.
+    /// The config's file could not be fetched: no medium can be made of what stands there, it is out, or the fetch itself failed.
     #[error("the file of a medium could not be opened")]
     Open,
     /// There was no memory for the medium, for its list of calls that fail, or for the fetch.
@@ -35,7 +35,7 @@ impl From<NoMemory> for MakeFault {
     }
 }
 
-/// Fetches the file of this name, which is out from then on.
+/// Fetches the file of this name. It is out from then on: no other fetch gets it until it is given back.
 fn fetch_file<F: Files>(alloc: Global, name: &[u8], files: &mut F) -> Result<F::File, MakeFault>
     ensures fetched { IfOk result (λ s. Opened name.now (F.File.state s) (F.state files.old) (F.state files.new)) }
     ensures refused { IfErr result (λ e. RefusesFetch e name.now (F.state files.old) (F.state files.new) (F.faults files.old) (F.faults files.new)) }
@@ -50,8 +50,9 @@ fn fetch_file<F: Files>(alloc: Global, name: &[u8], files: &mut F) -> Result<F::
     }
 }
 
-/// The medium that a config names: its file is fetched, and is out from then on; a medium in memory makes no fetch. The list of
-/// calls that fail is copied first, so that want of memory there leaves the files as they were.
+/// The medium that a config names, of which nothing is lost and no call was made. A file is fetched, and is out from then on: no other
+/// fetch gets it until it is given back. A medium in memory is of zeros, and makes no fetch. The list of calls that fail is copied before
+/// the fetch, so that want of memory leaves the files as they were.
 pub fn make_medium<F: Files>(
     alloc: Global,
     config: &Config,

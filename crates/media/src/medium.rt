@@ -19,7 +19,7 @@ pub enum Media<S: Store + Drop> {
 }
 
 impl<S: Store + Drop> Media<S> {
-    /// The store of a file, as the calls left it; none of a medium in memory.
+    /// The store of a file, as the calls left it, to be given back to the files; none of a medium in memory, whose bytes are gone then.
     pub fn into_file(self) -> Option<S>
         ensures { let m = ⟦<Media<S> as Medium>⟧.state self in MatchOption result (m.below.layer ≡ memory) (λ s. IsStoredIn (S.state s) m) }
     {

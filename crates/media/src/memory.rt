@@ -10,7 +10,7 @@ use std::alloc::Global;
 use std::marker::Model;
 use tcmu_types::{NoMemory, copy_out, overwrite};
 
-/// Logical blocks in memory. No call fails, and none takes memory.
+/// Logical blocks in memory, not protected. Its calls are counted, none fails, and none takes memory.
 #[derive(Debug, Drop)]
 pub struct MemMedium {
     bytes: Vec<u8>,
@@ -31,7 +31,7 @@ impl Model for MemMedium {
 }
 
 impl MemMedium {
-    /// So many logical blocks of zeros, which can be written.
+    /// So many logical blocks of zeros. Their memory is taken here, and none later.
     pub fn new(alloc: Global, blocks: u32) -> Result<MemMedium, NoMemory>
         requires { 1 ≤ blocks }
         ensures { IfOk result (λ m. m ≡ memory_state blocks (replicate (512 * blocks) 0) 0) }

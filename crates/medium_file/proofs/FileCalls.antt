@@ -1,5 +1,5 @@
 -- What calls of a store leave of a medium over it.
-use Rattle.std.proofs.Common.{◌∙◌, ◌≡◌, ℕ, ◌+◌, ◌*◌, ◌≤◌, Bool, true, false, List, length, drop, sym, ap, refl, Option, Some, None, inl, inr, IfSome, slice_get, Result, Ok, Err, OnOk, is_err}
+use Rattle.std.proofs.Common.{◌∙◌, ◌≡◌, ℕ, ◌+◌, ◌*◌, ◌≤◌, Bool, true, false, List, length, drop, sym, ap, refl, Option, Some, None, inl, inr, IfSome, slice_get, Result, Ok, Err, OnOk, OnErr, is_err}
 use Rattle.std.specs.Option.{option_map}
 use Rattle.tcmu_types.specs.Numbered.{Numbered, Tries, ComesOut, one_more, next_call}
 use Rattle.tcmu_types.proofs.Places.{get_take, get_drop, index_from_get}
@@ -54,7 +54,7 @@ spoiled_below at k lost s after long l fits p =
     ap (λ (bytes : Option (List ℕ)). record (below_file after (more_lost lost at k)) { bytes = bytes })
     (spoil_blanked at k s.size lost s.bytes after.bytes long l fits p)
 
-pub writes_file : (at blocks calls later : ℕ) (lost lost' : Span) (s after : StoreState) (piece : List ℕ) → later ≡ next_call calls
+writes_file : (at blocks calls later : ℕ) (lost lost' : Span) (s after : StoreState) (piece : List ℕ) → later ≡ next_call calls
     → IfSome s.bytes (λ xs. length xs ≡ s.size) → Lies lost s.size → at + length piece ≤ s.size → lost' ≡ kept_lost lost at (length piece)
     → ComesOut s.calls false → after.calls ≡ one_more s.calls → Puts at piece s.bytes after.bytes
     → Writes at piece (file_state blocks s lost calls) false (file_state blocks after lost' later)
@@ -62,7 +62,7 @@ writes_file at blocks calls later lost lost' s after piece f long l fits w o n p
     let here = record (below_file s lost) { store = after.calls } in
     rw f (rw w (inr (refl, below_file after (kept_lost lost at (length piece)), (here, (after.calls, one_try s.calls after.calls false o n, refl), put_below at lost s after piece long l fits p), refl)))
 
-pub writes_spoiled : (at blocks calls later : ℕ) (lost lost' : Span) (s after : StoreState) (piece : List ℕ) → later ≡ next_call calls
+writes_spoiled : (at blocks calls later : ℕ) (lost lost' : Span) (s after : StoreState) (piece : List ℕ) → later ≡ next_call calls
     → IfSome s.bytes (λ xs. length xs ≡ s.size) → Lies lost s.size → at + length piece ≤ s.size → lost' ≡ more_lost lost at (length piece)
     → ComesOut s.calls true → after.calls ≡ one_more s.calls → Spoils at (length piece) s.bytes after.bytes
     → Writes at piece (file_state blocks s lost calls) true (file_state blocks after lost' later)
@@ -70,7 +70,16 @@ writes_spoiled at blocks calls later lost lost' s after piece f long l fits w o 
     let here = record (below_file s lost) { store = after.calls } in
     rw f (rw w (inr (refl, below_file after (more_lost lost at (length piece)), (here, (after.calls, one_try s.calls after.calls true o n, refl), spoiled_below at (length piece) lost s after long l fits p), refl)))
 
-pub fills_file : (at count blocks calls later : ℕ) (lost lost' : Span) (s after : StoreState) (block : List ℕ) → later ≡ next_call calls
+-- a write, as its call came out
+pub written_file : {T E : Type 0} (r : Result T E) (at blocks calls later : ℕ) (lost lost' : Span) (s after : StoreState) (piece : List ℕ) → later ≡ next_call calls
+    → IfSome s.bytes (λ xs. length xs ≡ s.size) → Lies lost s.size → at + length piece ≤ s.size
+    → OnOk r (lost' ≡ kept_lost lost at (length piece)) → OnErr r (lost' ≡ more_lost lost at (length piece))
+    → ComesOut s.calls (is_err r) → after.calls ≡ one_more s.calls → OnOk r (Puts at piece s.bytes after.bytes) → OnErr r (Spoils at (length piece) s.bytes after.bytes)
+    → Writes at piece (file_state blocks s lost calls) (is_err r) (file_state blocks after lost' later)
+written_file (Ok x) at blocks calls later lost lost' s after piece f long l fits kept more o n put spoiled = writes_file at blocks calls later lost lost' s after piece f long l fits kept o n put
+written_file (Err e) at blocks calls later lost lost' s after piece f long l fits kept more o n put spoiled = writes_spoiled at blocks calls later lost lost' s after piece f long l fits more o n spoiled
+
+fills_file : (at count blocks calls later : ℕ) (lost lost' : Span) (s after : StoreState) (block : List ℕ) → later ≡ next_call calls
     → IfSome s.bytes (λ xs. length xs ≡ s.size) → Lies lost s.size → at + 512 * count ≤ s.size → length block ≡ 512 → lost' ≡ kept_lost lost at (512 * count)
     → Tries count s.calls false after.calls → Puts at (repeated count block) s.bytes after.bytes
     → Fills at block count (file_state blocks s lost calls) false (file_state blocks after lost' later)
@@ -81,13 +90,22 @@ fills_file at count blocks calls later lost lost' s after block f long l fits e 
     let w' : lost' ≡ kept_lost lost at (length piece) = w ∙ ap (kept_lost lost at) (sym n) in
     rw f (rw w' (inr (refl, below_file after (kept_lost lost at (length piece)), (here, (after.calls, t, refl), put_below at lost s after piece long l (rw n fits) p), refl)))
 
-pub fills_spoiled : (at count blocks calls later : ℕ) (lost lost' : Span) (s after : StoreState) (block : List ℕ) → later ≡ next_call calls
+fills_spoiled : (at count blocks calls later : ℕ) (lost lost' : Span) (s after : StoreState) (block : List ℕ) → later ≡ next_call calls
     → IfSome s.bytes (λ xs. length xs ≡ s.size) → Lies lost s.size → at + 512 * count ≤ s.size → lost' ≡ more_lost lost at (512 * count)
     → Tries count s.calls true after.calls → Spoils at (512 * count) s.bytes after.bytes
     → Fills at block count (file_state blocks s lost calls) true (file_state blocks after lost' later)
 fills_spoiled at count blocks calls later lost lost' s after block f long l fits w t p =
     let here = record (below_file s lost) { store = after.calls } in
     rw f (rw w (inr (refl, below_file after (more_lost lost at (512 * count)), (here, (after.calls, t, refl), spoiled_below at (512 * count) lost s after long l fits p), refl)))
+
+-- a fill, as its calls came out
+pub filled_file : {T E : Type 0} (r : Result T E) (at count blocks calls later : ℕ) (lost lost' : Span) (s after : StoreState) (block : List ℕ) → later ≡ next_call calls
+    → IfSome s.bytes (λ xs. length xs ≡ s.size) → Lies lost s.size → at + 512 * count ≤ s.size → length block ≡ 512
+    → OnOk r (lost' ≡ kept_lost lost at (512 * count)) → OnErr r (lost' ≡ more_lost lost at (512 * count))
+    → Tries count s.calls (is_err r) after.calls → OnOk r (Puts at (repeated count block) s.bytes after.bytes) → OnErr r (Spoils at (512 * count) s.bytes after.bytes)
+    → Fills at block count (file_state blocks s lost calls) (is_err r) (file_state blocks after lost' later)
+filled_file (Ok x) at count blocks calls later lost lost' s after block f long l fits e kept more t put spoiled = fills_file at count blocks calls later lost lost' s after block f long l fits e kept t put
+filled_file (Err e) at count blocks calls later lost lost' s after block f long l fits e' kept more t put spoiled = fills_spoiled at count blocks calls later lost lost' s after block f long l fits more t spoiled
 
 pub syncs_file : (blocks calls later : ℕ) (lost : Span) (s after : StoreState) (failed : Bool) → later ≡ next_call calls
     → after.bytes ≡ s.bytes → after.calls ≡ one_more s.calls → ComesOut s.calls failed → Syncs (file_state blocks s lost calls) failed (file_state blocks after lost later)

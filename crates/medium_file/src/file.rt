@@ -50,8 +50,21 @@ fn widened(lost: Lost, at: u64, n: u64) -> Lost
     }
 }
 
+/// What is lost after a call over `n` bytes from `at` on, by how that came out.
+fn lost_after(lost: Lost, outcome: Result<(), Failed>, at: u64, n: u64) -> Lost
+    requires { at + n < 2 ^ 64 }
+    ensures narrowed { OnOk outcome (lost_span result ≡ narrowed (lost_span lost) (span_of at n)) }
+    ensures widened { OnErr outcome (lost_span result ≡ widened (lost_span lost) (span_of at n)) }
+{
+    match outcome {
+        Ok(()) => narrowed(lost, at, n),
+        Err(Failed) => widened(lost, at, n),
+    }
+}
+
 /// A medium over a store. A read, a write and a sync make one call of it, a fill one for each block, up to the first that fails.
-/// Contracts see what it shows as a medium, and its store.
+/// After a write or fill that fails one range is lost, the smallest with its bytes and those that were lost before: they are not told
+/// until one write or fill that succeeds covers them all. Contracts see what it shows as a medium, and its store.
 #[derive(Drop)]
 pub struct FileMedium<S: Store + Drop> {
     store: S,
@@ -71,7 +84,7 @@ impl<S: Store + Drop> Model for FileMedium<S> {
 }
 
 impl<S: Store + Drop> FileMedium<S> {
-    /// The store holds whole logical blocks of 512 bytes, from one to 2^35 of them.
+    /// A medium over a store, of which nothing is lost. The store holds whole logical blocks of 512 bytes, from one to 2^35 of them.
     pub fn new(store: S) -> FileMedium<S>
         requires whole { (S.state store).size % 512 ≡ 0 }
         requires some { 512 ≤ (S.state store).size }
@@ -88,7 +101,7 @@ impl<S: Store + Drop> FileMedium<S> {
         }
     }
 
-    /// The store, as the calls left it. Where it tells its bytes, they are those of the medium's state outside of the lost range.
+    /// The store, as the calls left it. Where it tells its bytes, the medium's state has the same, but for zeros in the lost range.
     pub fn into_store(self) -> S
         ensures store { result ≡ self.store }
         ensures layer { self.medium.below.layer ≡ file }
@@ -130,7 +143,7 @@ impl<S: Store + Drop> Medium for FileMedium<S> {
         ensures protected { self.new.medium.protected ≡ self.old.medium.protected }
         ensures cause { HasCause (S.faults self.old.store) (S.faults self.new.store) result }
         ensures count { CountsFailed (S.faults self.old.store) (is_err result) (S.faults self.new.store) }
-        // What the store tells, in the lost range too, and no byte changes.
+        // It gives what the store tells, in the lost range too, and no byte changes.
         ensures exact { OnOk result (Shows (S.state self.old.store).bytes at into.new) }
         ensures kept { (S.state self.new.store).bytes ≡ (S.state self.old.store).bytes }
     {
@@ -153,17 +166,9 @@ impl<S: Store + Drop> Medium for FileMedium<S> {
         ensures spoiled { OnErr result (Spoils at (length bytes.now) (S.state self.old.store).bytes (S.state self.new.store).bytes) }
     {
         self.calls = self.calls.saturating_add(1);
-        let n = bytes.len() as u64;
-        match self.store.write_at(at, bytes) {
-            Ok(()) => {
-                self.lost = narrowed(self.lost, at, n);
-                Ok(())
-            }
-            Err(failed) => {
-                self.lost = widened(self.lost, at, n);
-                Err(failed)
-            }
-        }
+        let outcome = self.store.write_at(at, bytes);
+        self.lost = lost_after(self.lost, outcome, at, bytes.len() as u64);
+        outcome
     }
 
     fn fill(&mut self, at: u64, block: &[u8; 512], count: u64) -> Result<(), Failed>
@@ -175,20 +180,14 @@ impl<S: Store + Drop> Medium for FileMedium<S> {
         ensures protected { self.new.medium.protected ≡ self.old.medium.protected }
         ensures cause { HasCause (S.faults self.old.store) (S.faults self.new.store) result }
         ensures count { CountsFailed (S.faults self.old.store) (is_err result) (S.faults self.new.store) }
+        // Of the store's own bytes only those of this range change: the copies are written in order, up to the one whose call failed.
         ensures put { OnOk result (Puts at (repeated count block.now) (S.state self.old.store).bytes (S.state self.new.store).bytes) }
         ensures spoiled { OnErr result (PutsInPart at block.now count (S.state self.old.store).bytes (S.state self.new.store).bytes) }
     {
         self.calls = self.calls.saturating_add(1);
-        match fill_store(&mut self.store, at, block, count) {
-            Ok(()) => {
-                self.lost = narrowed(self.lost, at, 512 * count);
-                Ok(())
-            }
-            Err(failed) => {
-                self.lost = widened(self.lost, at, 512 * count);
-                Err(failed)
-            }
-        }
+        let outcome = fill_store(&mut self.store, at, block, count);
+        self.lost = lost_after(self.lost, outcome, at, 512 * count);
+        outcome
     }
 
     fn sync(&mut self) -> Result<(), Failed> {

@@ -8,7 +8,8 @@ ghost use Rattle.medium_file.specs.FileState.{PutsInPart};
 
 use edge::{Failed, Store};
 
-/// Writes `count` copies of a block from `at` on, one call of the store each, up to the first that fails.
+/// Writes `count` copies of a block from `at` on in order, one call of the store each, up to the first that fails. After a failure the
+/// copies before it stand, those behind it were not tried, and the 512 bytes of its own place may be anything.
 pub fn fill_store<S: Store>(
     store: &mut S,
     at: u64,
@@ -27,10 +28,7 @@ pub fn fill_store<S: Store>(
     // It shows that the places fit a u64.
     let _length = store.length();
     for k in 0..count {
-        match store.write_at(at + 512 * k, block) {
-            Ok(()) => {}
-            Err(failed) => return Err(failed),
-        }
+        store.write_at(at + 512 * k, block)?;
     }
     Ok(())
 }
