@@ -325,20 +325,62 @@ syncs_filed file b e = store_filed 1 b
 syncs_filed overlay b e = λ f a x w. no_file overlay refl (sym e ∙ w)
 syncs_filed (write_back slots dirty) b e = λ f a x w. no_file (write_back slots dirty) refl (sym e ∙ w)
 
+-- ==== a file whose store lists no failing call
+
+none_fails : (n : ℕ) (c : Numbered) (f : Bool) (a : Numbered) → c.fails ≡ Some [] → Tries n c f a → (f ≡ false) × (a.fails ≡ Some [])
+none_fails zero c f a e x = (x.0, ap (λ (k : Numbered). k.fails) x.1 ∙ e)
+none_fails (suc n) c f a e (inl x) = true_false (subst (λ (o : Option (List ℕ)). IfSome o (λ fs. true ≡ is_listed fs c.calls)) e x.0)
+none_fails (suc n) c f a e (inr x) = none_fails n (one_more c) f a e x.1
+
+-- such a file, of which nothing is lost
+pub record IsSafe (b : Below) : Type 0 where
+  pub layer : b.layer ≡ file
+  pub fails : b.store.fails ≡ Some []
+  pub lost : b.lost ≡ empty_span
+
+-- it stays so behind a call
+abbrev KeepsSafe : Call → Below → Type 0
+KeepsSafe C b = (f : Bool) (a : Below) → C b f a → IsSafe b → IsSafe a
+
+store_safe : (n : ℕ) (b : Below) → KeepsSafe (StoreCalls n) b
+store_safe n b f a x w = subst IsSafe (sym x.2) (record { layer = w.layer; fails = (none_fails n b.store f x.0 w.fails x.1).1; lost = w.lost })
+
+leaves_safe : (n at : ℕ) (piece : List ℕ) (lost : ℕ) (b : Below) → KeepsSafe (Leaves (StoreCalls n) (with_piece at piece) (with_lost at lost)) b
+leaves_safe n at piece lost b f a x w =
+    let good : f ≡ false = (none_fails n b.store f x.1.0 w.fails x.1.1).0 in
+    let made = store_safe n b f x.0 x.1 w in
+    let left : a ≡ with_piece at piece x.0 = x.2 ∙ ap (λ g. if g then with_lost at lost x.0 else with_piece at piece x.0) good in
+    subst IsSafe (sym left) (record { layer = made.layer; fails = made.fails; lost = nothing_narrowed x.0.lost (span_of at (length piece)) made.lost })
+
+reads_safe : (b : Below) → KeepsSafe (ReadsBelow b.layer) b
+reads_safe b f a x w = store_safe 1 b f a (subst (λ (l : Layer). ReadsBelow l b f a) w.layer x) w
+
+writes_safe : (at : ℕ) (piece : List ℕ) (b : Below) → KeepsSafe (WritesBelow b.layer at piece) b
+writes_safe at piece b f a x w = leaves_safe 1 at piece (length piece) b f a (subst (λ (l : Layer). WritesBelow l at piece b f a) w.layer x) w
+
+fills_safe : (at : ℕ) (block : List ℕ) (count : ℕ) (b : Below) → KeepsSafe (FillsBelow b.layer at block count) b
+fills_safe at block count b f a x w =
+    leaves_safe count at (repeated count block) (512 * count) b f a (subst (λ (l : Layer). FillsBelow l at block count b f a) w.layer x) w
+
+syncs_safe : (b : Below) → KeepsSafe (SyncsBelow b.layer) b
+syncs_safe b f a x w = store_safe 1 b f a (subst (λ (l : Layer). SyncsBelow l b f a) w.layer x) w
+
 -- ==== calls of a medium
 
--- as much is told of a medium; one in memory, of which nothing is lost, stays one, and so does one in a file
+-- As much is told of a medium. One in memory, of which nothing is lost, stays one; so does one in a file, and one in a file whose
+-- store lists no failing call, of which nothing is lost.
 pub record SameTold (m a : MediumState) : Type 0 where
   pub own : is_some a.own.fails ≡ is_some m.own.fails
   pub below : SameTelling m.below a.below
   pub whole : IsWhole m.below → IsWhole a.below
   pub filed : m.below.layer ≡ file → a.below.layer ≡ file
+  pub safe : IsSafe m.below → IsSafe a.below
 
 pub same_told : (m : MediumState) → SameTold m m
-same_told m = record { own = refl; below = same_same m.below; whole = λ w. w; filed = λ w. w }
+same_told m = record { own = refl; below = same_same m.below; whole = λ w. w; filed = λ w. w; safe = λ w. w }
 
 pub same_told_then : (m n k : MediumState) → SameTold m n → SameTold n k → SameTold m k
-same_told_then m n k x y = record { own = y.own ∙ x.own; below = same_then m.below n.below k.below x.below y.below; whole = λ w. y.whole (x.whole w); filed = λ w. y.filed (x.filed w) }
+same_told_then m n k x y = record { own = y.own ∙ x.own; below = same_then m.below n.below k.below x.below y.below; whole = λ w. y.whole (x.whole w); filed = λ w. y.filed (x.filed w); safe = λ w. y.safe (x.safe w) }
 
 -- the failing calls are told
 pub record TellsFails (m : MediumState) : Type 0 where
@@ -354,8 +396,8 @@ pub record IsSure (m : MediumState) (C : Bool → MediumState → Type 0) : Type
   pub one : (f g : Bool) (a b : MediumState) → TellsFails m → C f a → C g b → (f ≡ g) × (a ≡ b)
   pub same : (f : Bool) (a : MediumState) → C f a → SameTold m a
 
-makes_sure : (C : Call) (m : MediumState) → IsDecided C → KeepsWhole C m.below → KeepsFile C m.below → IsSure m (MakesCall C m)
-makes_sure C m d w v = record { some = some (comes_some m.own).0 (comes_some m.own).1; one = one; same = same }
+makes_sure : (C : Call) (m : MediumState) → IsDecided C → KeepsWhole C m.below → KeepsFile C m.below → KeepsSafe C m.below → IsSure m (MakesCall C m)
+makes_sure C m d w v u = record { some = some (comes_some m.own).0 (comes_some m.own).1; one = one; same = same }
   where
     some : (listed : Bool) → ComesOut m.own listed → (f : Bool) × (a : MediumState) × MakesCall C m f a
     some true h = (true, counted m, inl (h, refl, refl))
@@ -369,17 +411,17 @@ makes_sure C m d w v = record { some = some (comes_some m.own).0 (comes_some m.o
         let e = d.one m.below f g x.1 y.1 t.store x.2 y.2 in (e.0, x.3 ∙ ap (λ (k : Below). record (counted m) { below = k }) e.1 ∙ sym y.3)
 
     same : (f : Bool) (a : MediumState) → MakesCall C m f a → SameTold m a
-    same f a (inl x) = subst (SameTold m) (sym x.2) (record { own = refl; below = same_same m.below; whole = λ k. k; filed = λ k. k })
-    same f a (inr x) = subst (SameTold m) (sym x.3) (record { own = refl; below = d.same m.below f x.1 x.2; whole = w f x.1 x.2; filed = v f x.1 x.2 })
+    same f a (inl x) = subst (SameTold m) (sym x.2) (record { own = refl; below = same_same m.below; whole = λ k. k; filed = λ k. k; safe = λ k. k })
+    same f a (inr x) = subst (SameTold m) (sym x.3) (record { own = refl; below = d.same m.below f x.1 x.2; whole = w f x.1 x.2; filed = v f x.1 x.2; safe = u f x.1 x.2 })
 
 pub reads_sure : (m : MediumState) → IsSure m (MakesCall (ReadsBelow m.below.layer) m)
-reads_sure m = makes_sure (ReadsBelow m.below.layer) m (reads_below m.below.layer) (reads_whole m.below.layer m.below refl) (reads_filed m.below.layer m.below refl)
+reads_sure m = makes_sure (ReadsBelow m.below.layer) m (reads_below m.below.layer) (reads_whole m.below.layer m.below refl) (reads_filed m.below.layer m.below refl) (reads_safe m.below)
 
 pub writes_sure : (at : ℕ) (piece : List ℕ) (m : MediumState) → IsSure m (Writes at piece m)
-writes_sure at piece m = makes_sure (WritesBelow m.below.layer at piece) m (writes_below m.below.layer at piece) (writes_whole m.below.layer at piece m.below refl) (writes_filed m.below.layer at piece m.below refl)
+writes_sure at piece m = makes_sure (WritesBelow m.below.layer at piece) m (writes_below m.below.layer at piece) (writes_whole m.below.layer at piece m.below refl) (writes_filed m.below.layer at piece m.below refl) (writes_safe at piece m.below)
 
 pub fills_sure : (at : ℕ) (block : List ℕ) (count : ℕ) (m : MediumState) → IsSure m (Fills at block count m)
-fills_sure at block count m = makes_sure (FillsBelow m.below.layer at block count) m (fills_below m.below.layer at block count) (fills_whole m.below.layer at block count m.below refl) (fills_filed m.below.layer at block count m.below refl)
+fills_sure at block count m = makes_sure (FillsBelow m.below.layer at block count) m (fills_below m.below.layer at block count) (fills_whole m.below.layer at block count m.below refl) (fills_filed m.below.layer at block count m.below refl) (fills_safe at block count m.below)
 
 pub syncs_sure : (m : MediumState) → IsSure m (Syncs m)
-syncs_sure m = makes_sure (SyncsBelow m.below.layer) m (syncs_below m.below.layer) (syncs_whole m.below.layer m.below refl) (syncs_filed m.below.layer m.below refl)
+syncs_sure m = makes_sure (SyncsBelow m.below.layer) m (syncs_below m.below.layer) (syncs_whole m.below.layer m.below refl) (syncs_filed m.below.layer m.below refl) (syncs_safe m.below)

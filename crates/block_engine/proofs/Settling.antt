@@ -10,7 +10,7 @@ use Rattle.std.proofs.lemmas.Option.{slice_get_past}
 use Rattle.tcmu_types.specs.Data.{SenseData, ReplyData}
 use Rattle.tcmu_types.specs.Rules.{IsReply}
 use Rattle.tcmu_types.proofs.Places.{same_list, get_from_index}
-use Rattle.tcmu_model.specs.MediumState.{Below, MediumState}
+use Rattle.tcmu_model.specs.MediumState.{memory, file, Below, MediumState}
 use Rattle.tcmu_model.specs.Medium.{lies_in, MatchesTold, Reads, Writes, Fills, Syncs, zeros, empty_span, memory_state}
 use Rattle.tcmu_model.specs.Decoding.{decoded}
 use Rattle.tcmu_model.specs.Steps.{Asked}
@@ -20,7 +20,7 @@ use Rattle.tcmu_model.specs.declared.op.Op.{Op}
 use Rattle.tcmu_model.specs.declared.op.Op.TheVariants as op
 use Rattle.tcmu_model.specs.declared.op.CdbFault.{CdbFault}
 use Rattle.tcmu_model.specs.declared.op.CdbFault.TheVariants as fault
-use Rattle.block_engine.specs.Determined.{IsTold, SeesRange, SeesOp, Sees, SomeReply, WholeReply, OneReply, StaysTold, OneReplyInMemory, StaysInMemory, StaysInFile}
+use Rattle.block_engine.specs.Determined.{IsTold, SeesRange, SeesOp, Sees, SomeReply, WholeReply, OneReply, StaysTold, OneReplyInMemory, StaysInMemory, LosesNothing, OneReplyWithoutLoss, StaysInFile}
 use Rattle.block_engine.proofs.Deciding.{true_false, SameTold, same_told, same_told_then, TellsFails, tells_after, IsSure, reads_sure, writes_sure, fills_sure, syncs_sure}
 
 -- ==== UNMAP
@@ -411,6 +411,19 @@ stays_in_memory name m r first second one other k x y =
     let same = one_reply name m r first second one other k.told (sees_request m r k.lost) x y in
     let whole = (same_after name m r first one x).whole (record { layer = k.layer; lost = k.lost }) in
     (same.0, same.1, record { told = stays_told name m r first one k.told x; layer = whole.layer; lost = whole.lost })
+
+pub one_reply_without_loss : OneReplyWithoutLoss
+one_reply_without_loss name m r first second one other k x y =
+    let same = one_reply name m r first second one other k.told (sees_request m r k.lost) x y in
+    (same.0, same.1, by k.place)
+  where
+    by : (m.below.layer ≡ memory) ⊎ ((m.below.layer ≡ file) × (m.below.store.fails ≡ Some [])) → LosesNothing one
+    by (inl in_memory) =
+        let whole = (same_after name m r first one x).whole (record { layer = in_memory; lost = k.lost }) in
+        record { told = stays_told name m r first one k.told x; place = inl whole.layer; lost = whole.lost }
+    by (inr in_file) =
+        let safe = (same_after name m r first one x).safe (record { layer = in_file.0; fails = in_file.1; lost = k.lost }) in
+        record { told = stays_told name m r first one k.told x; place = inr (safe.layer, safe.fails); lost = safe.lost }
 
 pub stays_in_file : StaysInFile
 stays_in_file name m r reply after x filed = let s = same_after name m r reply after x in (s.filed filed, s.below.bytes)

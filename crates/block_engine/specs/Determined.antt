@@ -1,5 +1,5 @@
 -- What is determined: by a request, and the medium before it.
-use Rattle.std.specs.Prelude.{◌≡◌, ◌⊎◌, ℕ, ◌+◌, ◌*◌, ◌<◌, ◌≤◌, min, length, true, false, List, is_some, MatchResult}
+use Rattle.std.specs.Prelude.{◌≡◌, ◌⊎◌, ℕ, ◌+◌, ◌*◌, ◌<◌, ◌≤◌, min, length, true, false, List, [], Some, is_some, MatchResult}
 use Rattle.tcmu_types.specs.Data.{ReplyData}
 use Rattle.tcmu_types.specs.Rules.{IsReply}
 use Rattle.tcmu_model.specs.MediumState.{MediumState, memory, file}
@@ -58,6 +58,19 @@ abbrev pub StaysInMemory : Type 0
 StaysInMemory =
     (name : List ℕ) (m : MediumState) (r : Asked) (first second : ReplyData) (one other : MediumState) → IsInMemory m
     → Serves name m r first one → Serves name m r second other → (first ≡ second) × (one ≡ other) × IsInMemory one
+
+-- A medium that loses nothing: it tells its bytes, none of them is lost, and none ever will be. It lies in memory, or in a file
+-- whose store lists no failing call; which of its own calls fail may be listed.
+pub record LosesNothing (m : MediumState) : Type 0 where
+  pub told : IsTold m
+  pub place : (m.below.layer ≡ memory) ⊎ ((m.below.layer ≡ file) × (m.below.store.fails ≡ Some []))
+  pub lost : m.below.lost ≡ empty_span
+
+-- a request of such a medium has one reply, and leaves one medium, which is such a medium again
+abbrev pub OneReplyWithoutLoss : Type 0
+OneReplyWithoutLoss =
+    (name : List ℕ) (m : MediumState) (r : Asked) (first second : ReplyData) (one other : MediumState) → LosesNothing m
+    → Serves name m r first one → Serves name m r second other → (first ≡ second) × (one ≡ other) × LosesNothing one
 
 -- a medium in a file stays one, and tells its bytes behind a request exactly where it told them before
 abbrev pub StaysInFile : Type 0

@@ -1,5 +1,5 @@
 //! What follows from the engine's relation.
-ghost use Rattle.block_engine.specs.Determined.{SomeReply, WholeReply, OneReply, StaysTold, OneReplyInMemory, StaysInMemory, StaysInFile};
+ghost use Rattle.block_engine.specs.Determined.{SomeReply, WholeReply, OneReply, StaysTold, OneReplyInMemory, StaysInMemory, OneReplyWithoutLoss, StaysInFile};
 
 /// Every request has a reply, over every medium.
 pub fn some_reply()
@@ -31,6 +31,12 @@ pub fn one_reply_in_memory()
 /// A medium in memory of which nothing is lost stays one after each request, and the request has one reply.
 pub fn stays_in_memory()
     ensures { StaysInMemory }
+{}
+
+/// Over a medium in memory, or in a file whose store lists no failing call, the meaning of a request is a function: where nothing is
+/// lost, nothing gets lost.
+pub fn one_reply_without_loss()
+    ensures { OneReplyWithoutLoss }
 {}
 
 /// A medium in a file stays one after each request, and tells its bytes as it did before.

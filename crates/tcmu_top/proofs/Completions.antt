@@ -168,7 +168,7 @@ completes_once R l d d' js opened sound done run =
 
 -- ---- all devices
 
-open_as : (files : Option FilesState) (ls : List DeviceLineData) (ds : List Device) → OpenEach files ls ds → OpenAs ls ds
+pub open_as : (files : Option FilesState) (ls : List DeviceLineData) (ds : List Device) → OpenEach files ls ds → OpenAs ls ds
 open_as files [] [] h = tt
 open_as files [] (d ∷ ds) h = absurd h
 open_as files (l ∷ ls) [] h = absurd h

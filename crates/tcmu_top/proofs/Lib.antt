@@ -18,3 +18,4 @@ pub mod Agreed
 pub mod Settings
 pub mod Completions
 pub mod OneLine
+pub mod OverFiles

@@ -1,11 +1,11 @@
--- Laws of what a replay and a load write: the texts over media in memory, the completions of a journal, and the line of a load.
-use Rattle.std.specs.Prelude.{◌≡◌, ℕ, ◌+◌, ◌<◌, Bool, true, false, List, length, map, Option, Some, Ok, slice_get}
+-- Laws of what a replay and a load write: the texts over media in memory and over files, the completions of a journal, and the line of a load.
+use Rattle.std.specs.Prelude.{◌≡◌, ℕ, ◌+◌, ◌<◌, Bool, true, false, List, [], length, map, Option, Some, Ok, slice_get}
 use Rattle.std.specs.List.{filter, flat_map, count_by}
 use Rattle.tcmu_types.specs.Data.{CommandData, DoneData}
 use Rattle.tcmu_types.specs.Events.{AnswerData}
 use Rattle.tcmu_types.specs.Events as ev
 use Rattle.tcmu_types.specs.declared.answer.Submit.TheVariants as submit
-use Rattle.edge.specs.Stores.{FilesState}
+use Rattle.edge.specs.Stores.{Content, at_home, FilesState}
 use Rattle.load_run.specs.Loading.{IsLoadText}
 use Rattle.tcmu_model.specs.Device.{Device}
 use Rattle.tcmu_model.specs.Config.{MediumData, InMemory, InFile}
@@ -33,6 +33,22 @@ abbrev pub TextsAgree : Type 0
 TextsAgree =
     (files : Option FilesState) (s : ScenarioData) (text : List ℕ) → LieInMemory s.devices
     → (IsTextOf files s text → memory.IsTextOf s text) × (memory.IsTextOf s text → IsTextOf files s text)
+
+-- ==== texts over files whose stores list no failing call
+
+-- where the file of a device line stands, its store lists none
+abbrev pub ListsNone : FilesState → MediumData → Type 0
+ListsNone f (InMemory blocks) = Unit {0}
+ListsNone f (InFile name) = (content : Content) → f.places name ≡ at_home content → content.calls.fails ≡ Some []
+
+abbrev pub ListNone : FilesState → List DeviceLineData → Type 0
+ListNone f ls = Every (λ l. ListsNone f l.config.kind) ls
+
+-- Over such files a scenario has one text, whichever calls of their own its device lines list.
+abbrev pub HasOneTextOverFiles : Type 0
+HasOneTextOverFiles =
+    (f : FilesState) (bytes t u : List ℕ) (s : ScenarioData)
+    → scenario_of bytes ≡ Ok s → ListNone f s.devices → IsTextOf (Some f) s t → IsTextOf (Some f) s u → t ≡ u
 
 -- ==== completions
 

@@ -13,7 +13,7 @@ mod top;
 mod words;
 mod writing;
 
-pub use laws::{completions_law, load_law, memory_law, replay_law, text_law};
+pub use laws::{completions_law, files_law, load_law, memory_law, replay_law, text_law};
 pub use load::run_load;
 pub use status::Status;
 pub use tcmu_model::Why;

@@ -1,7 +1,7 @@
 //! Worked examples of the program's calls, over a source, sinks and files in memory.
 use crate::{
-    Status, Why, completions_law, load_law, memory_law, replay_law, run_load, run_replay, tcmu_top,
-    text_law,
+    Status, Why, completions_law, files_law, load_law, memory_law, replay_law, run_load,
+    run_replay, tcmu_top, text_law,
 };
 use edge::{MemFiles, MemSink, MemSource};
 use std::alloc::Global;
@@ -255,6 +255,7 @@ fn laws_hold() {
     replay_law();
     text_law();
     memory_law();
+    files_law();
     completions_law();
     load_law();
 }

@@ -1,5 +1,5 @@
 -- The law of replay over media in memory.
-use Rattle.std.proofs.Common.{◌≡◌, ℕ, List, [], ◌∷◌, length, Option, Some, None, Ok, refl, sym, ◌∙◌, subst}
+use Rattle.std.proofs.Common.{◌≡◌, inl, ℕ, List, [], ◌∷◌, length, Option, Some, None, Ok, refl, sym, ◌∙◌, subst}
 use Rattle.std.specs.Option.{option_map}
 use Rattle.tcmu_types.specs.Events.{EntryData}
 use Rattle.tcmu_model.specs.Reading.{each}
@@ -15,7 +15,7 @@ use Rattle.tcmu_model.specs.Sound.{Every}
 use Rattle.tcmu_model.proofs.Everies.{every-mapped, every-weaker}
 use Rattle.tcmu_model.proofs.Readings.{same_some, same_ok, both, mapped}
 use Rattle.tcmu_model.proofs.ScenarioLaws.{scenario_is}
-use Rattle.block_engine.specs.Determined.{IsInMemory}
+use Rattle.block_engine.specs.Determined.{LosesNothing}
 use Rattle.text_laws.specs.Replays.{entries_of, written, OpenAs, IsJournalOf}
 use Rattle.text_laws.specs.Values.{IsEventValue}
 use Rattle.text_laws.specs.InMemory.{memory_device, IsTextOf, IsOwnText, LawOfReplay, LawOfJournals, HasOneText, HasOneJournal}
@@ -31,7 +31,7 @@ use Rattle.text_laws.proofs.Settled.{one_text}
 -- a device that a line opens, over a medium in memory
 record OpensInMemory (l : DeviceLineData) (d : Device) : Type 0 where
   opens : (medium : MediumState) × (d ≡ opening l.settings l.name medium)
-  memory : IsInMemory d.medium
+  keeps : LosesNothing d.medium
 
 opens_one : (l : DeviceLineData) (d : Device) → memory_device l ≡ Some d → OpensInMemory l d
 opens_one l d e = go l.config.kind e
@@ -39,19 +39,19 @@ opens_one l d e = go l.config.kind e
     go : (kind : MediumData) → ◌≡◌ {A = Option Device} (elim kind [ InMemory blocks ↦ Some (opening l.settings l.name (opened_medium blocks l.config.protected l.config.fails (memory_below blocks))) | InFile name ↦ None ]) (Some d) → OpensInMemory l d
     go (InMemory blocks) e =
         let medium = opened_medium blocks l.config.protected l.config.fails (memory_below blocks) in
-        let told : IsInMemory medium = record { told = record { own = refl; store = refl; bytes = refl }; layer = refl; lost = refl } in
+        let keeps : LosesNothing medium = record { told = record { own = refl; store = refl; bytes = refl }; place = inl refl; lost = refl } in
         let same = same_some (opening l.settings l.name medium) d e in
-        record { opens = (medium, sym same); memory = subst (λ (x : Device). IsInMemory x.medium) same told }
+        record { opens = (medium, sym same); keeps = subst (λ (x : Device). LosesNothing x.medium) same keeps }
     go (InFile name) e = absurd (cc)
 
-all_open : (ls : List DeviceLineData) (ds : List Device) → each memory_device ls ≡ Some ds → OpenAs ls ds × Every (λ d. IsInMemory d.medium) ds
-all_open [] ds e = subst (λ (x : List Device). OpenAs [] x × Every (λ d. IsInMemory d.medium) x) (same_some [] ds e) (tt, tt)
+all_open : (ls : List DeviceLineData) (ds : List Device) → each memory_device ls ≡ Some ds → OpenAs ls ds × Every (λ d. LosesNothing d.medium) ds
+all_open [] ds e = subst (λ (x : List Device). OpenAs [] x × Every (λ d. LosesNothing d.medium) x) (same_some [] ds e) (tt, tt)
 all_open (l ∷ ls) ds e =
     let first = both (λ (y : Device). option_map (λ (ys : List Device). y ∷ ys) (each memory_device ls)) (memory_device l) ds e in
     let others = mapped (λ (ys : List Device). first.0 ∷ ys) (each memory_device ls) ds first.2 in
     let one = opens_one l first.0 first.1 in
     let rest = all_open ls others.0 others.1 in
-    subst (λ (x : List Device). OpenAs (l ∷ ls) x × Every (λ d. IsInMemory d.medium) x) (sym others.2) ((one.opens, rest.0), (one.memory, rest.1))
+    subst (λ (x : List Device). OpenAs (l ∷ ls) x × Every (λ d. LosesNothing d.medium) x) (sym others.2) ((one.opens, rest.0), (one.keeps, rest.1))
 
 -- ---- the laws
 

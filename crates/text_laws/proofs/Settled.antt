@@ -1,4 +1,4 @@
--- Over media in memory every event has one outcome, so a replay has one journal and one text.
+-- Over media that lose nothing every event has one outcome, so a replay has one journal and one text.
 use Rattle.std.proofs.Common.{◌≡◌, ℕ, ◌+◌, ◌<◌, List, [], ◌∷◌, ◌++◌, length, drop, slice_set, Some, None, refl, sym, ap, ◌∙◌, subst, arith}
 use Rattle.std.specs.List.{flat_map}
 use Rattle.tcmu_types.specs.Events.{EventData, AnswerData, EntryData}
@@ -21,8 +21,8 @@ use Rattle.tcmu_model.specs.Several.{Journaled, DrainsEach, ReplaysEach, journal
 use Rattle.tcmu_model.specs.Sound.{Every}
 use Rattle.tcmu_model.specs.Text.{device_text, answer_text}
 use Rattle.tcmu_model.proofs.Readings.{same_some}
-use Rattle.block_engine.specs.Determined.{IsInMemory}
-use Rattle.block_engine.proofs.Settling.{stays_in_memory}
+use Rattle.block_engine.specs.Determined.{LosesNothing}
+use Rattle.block_engine.proofs.Settling.{one_reply_without_loss}
 use Rattle.tcmu_model.proofs.Indexed.{every_at}
 use Rattle.tcmu_types.proofs.Places.{get_within}
 use Rattle.text_laws.specs.Replays.{entries_of}
@@ -34,7 +34,7 @@ use Rattle.text_laws.proofs.Sets.{every_set}
 
 -- ==== one event
 
-one_handle : (d d1 d2 : Device) (s : ℕ) (a b : Handle) → IsInMemory d.medium → Handles Serves d s a d1 → Handles Serves d s b d2 → (a ≡ b) × (d1 ≡ d2)
+one_handle : (d d1 d2 : Device) (s : ℕ) (a b : Handle) → LosesNothing d.medium → Handles Serves d s a d1 → Handles Serves d s b d2 → (a ≡ b) × (d1 ≡ d2)
 one_handle d d1 d2 s (handle.NotOut t) (handle.NotOut u) m h k = (ap handle.NotOut (h.0 ∙ sym k.0), h.2 ∙ sym k.2)
 one_handle d d1 d2 s (handle.NotOut t) (handle.Done reply) m h k = absurd (no_such k.0 (sym k.1.found ∙ h.1))
   where
@@ -47,7 +47,7 @@ one_handle d d1 d2 s (handle.Done reply) (handle.NotOut t) m h k = absurd (no_su
 one_handle d d1 d2 s (handle.Done p) (handle.Done q) m h k =
     let same : h.0 ≡ k.0 = some_same h.0 k.0 (sym h.1.found ∙ k.1.found) in
     let relation : Serves d.name d.medium (asked k.0.command) p d1.medium = subst (λ (u : Unfinished). Serves d.name d.medium (asked u.command) p d1.medium) same h.1.relation in
-    let one = stays_in_memory d.name d.medium (asked k.0.command) p q d1.medium d2.medium m relation k.1.relation in
+    let one = one_reply_without_loss d.name d.medium (asked k.0.command) p q d1.medium d2.medium m relation k.1.relation in
     let state_is : d1.state ≡ d2.state = h.1.state ∙ ap (after_handle d.state s) one.0 ∙ sym k.1.state in (
       ap handle.Done one.0,
       ap (λ (n : List ℕ). record { name = n; medium = d1.medium; state = d1.state }) (h.1.name ∙ sym k.1.name)
@@ -58,7 +58,7 @@ one_handle d d1 d2 s (handle.Done p) (handle.Done q) m h k =
     some_same : (v u : Unfinished) → Some v ≡ Some u → v ≡ u
     some_same v u x = cc
 
-one_event : (d d1 d2 : Device) (e : EventData) (a b : AnswerData) → IsInMemory d.medium → Makes Serves d e a d1 → Makes Serves d e b d2 → (a ≡ b) × (d1 ≡ d2)
+one_event : (d d1 d2 : Device) (e : EventData) (a b : AnswerData) → LosesNothing d.medium → Makes Serves d e a d1 → Makes Serves d e b d2 → (a ≡ b) × (d1 ≡ d2)
 one_event d d1 d2 (ev.Submit c) (ev.Submitted a) (ev.Submitted b) m h k =
     let same = h.answer ∙ sym k.answer in (ap ev.Submitted same, h.after ∙ ap (λ (x : Submit). moved d (after_submit d.state c x)) same ∙ sym k.after)
 one_event d d1 d2 ev.Dispatch (ev.Dispatched a) (ev.Dispatched b) m h k = (ap ev.Dispatched (h.answer ∙ sym k.answer), h.after ∙ sym k.after)
@@ -92,16 +92,16 @@ one_event d d1 d2 ev.Stat (ev.Told a) _ m h k = absurd k
 one_event d d1 d2 ev.Enter (ev.Entered a) _ m h k = absurd k
 one_event d d1 d2 _ _ _ m h k = absurd h
 
--- the medium stays in memory
-stays_at : (d d' : Device) (s : DeviceState) → IsInMemory d.medium → d' ≡ moved d s → IsInMemory d'.medium
-stays_at d d' s m e = subst (λ (x : Device). IsInMemory x.medium) (sym e) m
+-- the medium loses nothing behind it
+stays_at : (d d' : Device) (s : DeviceState) → LosesNothing d.medium → d' ≡ moved d s → LosesNothing d'.medium
+stays_at d d' s m e = subst (λ (x : Device). LosesNothing x.medium) (sym e) m
 
-stays : (d d' : Device) (e : EventData) (a : AnswerData) → IsInMemory d.medium → Makes Serves d e a d' → IsInMemory d'.medium
+stays : (d d' : Device) (e : EventData) (a : AnswerData) → LosesNothing d.medium → Makes Serves d e a d' → LosesNothing d'.medium
 stays d d' (ev.Submit c) (ev.Submitted a) m h = stays_at d d' _ m h.after
 stays d d' ev.Dispatch (ev.Dispatched a) m h = stays_at d d' _ m h.after
 stays d d' (ev.Handle s) (ev.Answered (handle.Done reply)) m h =
-    (stays_in_memory d.name d.medium (asked h.0.command) reply reply d'.medium d'.medium m h.1.relation h.1.relation).2
-stays d d' (ev.Handle s) (ev.Answered (handle.NotOut t)) m h = subst (λ (x : Device). IsInMemory x.medium) (sym h.2) m
+    (one_reply_without_loss d.name d.medium (asked h.0.command) reply reply d'.medium d'.medium m h.1.relation h.1.relation).2
+stays d d' (ev.Handle s) (ev.Answered (handle.NotOut t)) m h = subst (λ (x : Device). LosesNothing x.medium) (sym h.2) m
 stays d d' (ev.Respond s) (ev.Responded a) m h = stays_at d d' _ m h.after
 stays d d' ev.Publish (ev.Published a) m h = stays_at d d' _ m h.after
 stays d d' ev.Clean (ev.Logged n) m h = stays_at d d' _ m h.after
@@ -111,14 +111,14 @@ stays d d' ev.Unblock (ev.Changed b) m h = stays_at d d' _ m h.after
 stays d d' (ev.Reset level) (ev.WasReset a) m h = stays_at d d' _ m h.after
 stays d d' ev.Restart (ev.Lost n) m h = stays_at d d' _ m h.after
 stays d d' (ev.Tmr kind ss) (ev.Noted a) m h = stays_at d d' _ m h.after
-stays d d' ev.Stat (ev.Told a) m h = subst (λ (x : Device). IsInMemory x.medium) (sym h.after) m
+stays d d' ev.Stat (ev.Told a) m h = subst (λ (x : Device). LosesNothing x.medium) (sym h.after) m
 stays d d' ev.Enter (ev.Entered a) m h = stays_at d d' _ m h.after
 stays d d' _ _ m h = absurd h
 
 -- ==== entries
 
--- and leaves the medium in memory
-one_step : (d : Device) (e f : EntryData) (d1 d2 : Device) → IsInMemory d.medium → e.device ≡ f.device → e.event ≡ f.event → Step Serves d e d1 → Step Serves d f d2 → (e ≡ f) × (d1 ≡ d2) × IsInMemory d2.medium
+-- and leaves a medium that loses nothing
+one_step : (d : Device) (e f : EntryData) (d1 d2 : Device) → LosesNothing d.medium → e.device ≡ f.device → e.event ≡ f.event → Step Serves d e d1 → Step Serves d f d2 → (e ≡ f) × (d1 ≡ d2) × LosesNothing d2.medium
 one_step d e f d1 d2 m p q s t =
     let made = subst (λ (x : EventData). Makes Serves d x e.answer d1) q s.makes in
     let same = one_event d d1 d2 f.event e.answer f.answer m made t.makes in
@@ -130,12 +130,12 @@ one_step d e f d1 d2 m p q s t =
 some≢none : (e : EventData) → Some e ≡ None → ⊥
 some≢none e x = cc
 
--- entries and an end that are the same, with the medium in memory
+-- entries and an end that are the same, with a medium that loses nothing
 abbrev Same : List EntryData → List EntryData → Device → Device → Type 0
-Same es fs d1 d2 = (es ≡ fs) × (d1 ≡ d2) × IsInMemory d2.medium
+Same es fs d1 d2 = (es ≡ fs) × (d1 ≡ d2) × LosesNothing d2.medium
 
-one_drain : (at : ℕ) (d : Device) (es fs : List EntryData) (d1 d2 : Device) → IsInMemory d.medium → Drains Serves at d es d1 → Drains Serves at d fs d2 → Same es fs d1 d2
-one_drain at d [] [] d1 d2 m h k = (refl, h.1 ∙ sym k.1, subst (λ (x : Device). IsInMemory x.medium) (sym k.1) m)
+one_drain : (at : ℕ) (d : Device) (es fs : List EntryData) (d1 d2 : Device) → LosesNothing d.medium → Drains Serves at d es d1 → Drains Serves at d fs d2 → Same es fs d1 d2
+one_drain at d [] [] d1 d2 m h k = (refl, h.1 ∙ sym k.1, subst (λ (x : Device). LosesNothing x.medium) (sym k.1) m)
 one_drain at d [] (f ∷ fs) d1 d2 m h k = absurd (some≢none f.event (sym k.1 ∙ h.0))
 one_drain at d (e ∷ es) [] d1 d2 m h k = absurd (some≢none e.event (sym h.1 ∙ k.0))
 one_drain at d (e ∷ es) (f ∷ fs) d1 d2 m h k =
@@ -143,7 +143,7 @@ one_drain at d (e ∷ es) (f ∷ fs) d1 d2 m h k =
     let rest = one_drain at k.2 es fs d1 d2 same.2 (subst (λ (x : Device). Drains Serves at x es d1) same.1 h.4) k.4 in
     (ap (λ (x : EntryData). x ∷ es) same.0 ∙ ap (λ (x : List EntryData). f ∷ x) rest.0, rest.1, rest.2)
 
-one_play : (at : ℕ) (d : Device) (what : LineWhat) (es fs : List EntryData) (d1 d2 : Device) → IsInMemory d.medium → Plays Serves at d what es d1 → Plays Serves at d what fs d2 → Same es fs d1 d2
+one_play : (at : ℕ) (d : Device) (what : LineWhat) (es fs : List EntryData) (d1 d2 : Device) → LosesNothing d.medium → Plays Serves at d what es d1 → Plays Serves at d what fs d2 → Same es fs d1 d2
 one_play at d (line.Makes event) es fs d1 d2 m h k =
     let same = one_step d h.0 k.0 d1 d2 m (h.1 ∙ sym k.1) (h.2 ∙ sym k.2) h.3 k.3 in
     (h.4 ∙ ap (λ (x : EntryData). x ∷ []) same.0 ∙ sym k.4, same.1, same.2)
@@ -152,13 +152,13 @@ one_play at d line.Dumps es fs d1 d2 m h k = absurd h
 
 -- ==== replays
 
-abbrev pub AreInMemory : List Device → Type 0
-AreInMemory ds = Every (λ d. IsInMemory d.medium) ds
+abbrev pub LoseNothing : List Device → Type 0
+LoseNothing ds = Every (λ d. LosesNothing d.medium) ds
 
 joined : (a b c d : List EntryData) → a ≡ c → b ≡ d → a ++ b ≡ c ++ d
 joined a b c d p q = ap (λ (x : List EntryData). x ++ b) p ∙ ap (λ (x : List EntryData). c ++ x) q
 
-one_end : (at : ℕ) (ds : List Device) (es fs : List EntryData) (ends lasts : List Device) → AreInMemory ds → DrainsEach Serves at ds es ends → DrainsEach Serves at ds fs lasts → (es ≡ fs) × (ends ≡ lasts)
+one_end : (at : ℕ) (ds : List Device) (es fs : List EntryData) (ends lasts : List Device) → LoseNothing ds → DrainsEach Serves at ds es ends → DrainsEach Serves at ds fs lasts → (es ≡ fs) × (ends ≡ lasts)
 one_end at [] es fs ends lasts m h k = (h.0 ∙ sym k.0, h.1 ∙ sym k.1)
 one_end at (d ∷ ds) es fs ends lasts m h k =
     let first = one_drain at d h.0 k.0 h.2 k.2 m.0 h.6 k.6 in
@@ -167,15 +167,15 @@ one_end at (d ∷ ds) es fs ends lasts m h k =
       h.5 ∙ ap (λ (x : Device). x ∷ h.3) first.1 ∙ ap (λ (xs : List Device). k.2 ∷ xs) rest.1 ∙ sym k.5,
     )
 
-pub one_replay : (ds : List Device) (ls : List LineData) (es fs : List EntryData) (ends lasts : List Device) → AreInMemory ds → ReplaysEach Serves ds ls es ends → ReplaysEach Serves ds ls fs lasts → (es ≡ fs) × (ends ≡ lasts)
+pub one_replay : (ds : List Device) (ls : List LineData) (es fs : List EntryData) (ends lasts : List Device) → LoseNothing ds → ReplaysEach Serves ds ls es ends → ReplaysEach Serves ds ls fs lasts → (es ≡ fs) × (ends ≡ lasts)
 one_replay ds [] es fs ends lasts m h k = one_end 0 ds es fs ends lasts m h k
 one_replay ds (l ∷ ls) es fs ends lasts m h k =
     let d = k.2 in
     let one : h.2 ≡ d = same_some h.2 d (sym h.5 ∙ k.5) in
     let plays = subst (λ (x : Device). Plays Serves l.device x l.what h.0 h.3) one h.6 in
-    let first = one_play l.device d l.what h.0 k.0 h.3 k.3 (every_at (λ x. IsInMemory x.medium) ds l.device d m k.5) plays k.6 in
+    let first = one_play l.device d l.what h.0 k.0 h.3 k.3 (every_at (λ x. LosesNothing x.medium) ds l.device d m k.5) plays k.6 in
     let later = subst (λ (x : Device). ReplaysEach Serves (slice_set ds l.device x) ls h.1 ends) first.1 h.7 in
-    let rest = one_replay (slice_set ds l.device k.3) ls h.1 k.1 ends lasts (every_set (λ x. IsInMemory x.medium) ds l.device k.3 m first.2) later k.7 in
+    let rest = one_replay (slice_set ds l.device k.3) ls h.1 k.1 ends lasts (every_set (λ x. LosesNothing x.medium) ds l.device k.3 m first.2) later k.7 in
     (h.4 ∙ joined h.0 h.1 k.0 k.1 first.0 rest.0 ∙ sym k.4, rest.1)
 
 -- ==== texts
@@ -202,8 +202,8 @@ entries_tell ls (j ∷ js) (f ∷ fs) h e =
     )
 
 pub one_text : OneText
-one_text bytes s opened t u read opens memory h k =
-    let same = one_replay opened s.lines (entries_of h.journal) (entries_of k.journal) h.ends k.ends memory h.replays k.replays in
+one_text bytes s opened t u read opens lose h k =
+    let same = one_replay opened s.lines (entries_of h.journal) (entries_of k.journal) h.ends k.ends lose h.replays k.replays in
     let first = replay_journal Serves bytes t s opened read opens h in
     let other = replay_journal Serves bytes u s opened read opens k in
     let spelled = spelled_read bytes s read in

@@ -40,7 +40,7 @@ pub fn reading_law<H: Handler, K: Handler>()
     ensures any { HasOneReadingOfAny H.relation K.relation }
 {}
 
-/// A scenario whose devices are over media in memory has one text.
+/// A scenario whose devices are over media in memory, or in files whose stores list no failing call, has one text.
 pub fn one_text_law()
     ensures { OneText }
 {}
