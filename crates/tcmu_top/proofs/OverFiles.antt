@@ -1,19 +1,26 @@
 -- Over files whose stores list no failing call a scenario has one text.
-use Rattle.std.proofs.Common.{◌≡◌, inl, inr, ◌/◌, List, [], ◌∷◌, Some, is_some, refl, sym, ap, ◌∙◌, subst}
-use Rattle.edge.specs.Stores.{Content, StoreState, store_of, at_home, FilesState}
-use Rattle.tcmu_model.specs.MediumState.{MediumState}
-use Rattle.tcmu_model.specs.Medium.{opened_medium, file_below}
+use Rattle.std.proofs.Common.{◌≡◌, inl, inr, ℕ, suc, ◌/◌, Bool, true, false, ◌||◌, List, [], ◌∷◌, length, slice_get, bytes_eq, Some, is_some, refl, sym, ap, ◌∙◌, subst, arith}
+use Rattle.std.specs.List.{list_any}
+use Rattle.std.proofs.lemmas.Option.{slice_get_within}
+use Rattle.tcmu_types.specs.Numbered.{Numbered}
+use Rattle.edge.specs.Stores.{Content, StoreState, store_of, Place, at_home, FilesState}
+use Rattle.tcmu_model.specs.MediumState.{Span, MediumState}
+use Rattle.tcmu_model.specs.Medium.{blanked, opened_medium, file_below}
 use Rattle.tcmu_model.specs.Device.{Device, opening}
 use Rattle.tcmu_model.specs.Config.{ConfigData, MediumData, InMemory, InFile}
 use Rattle.tcmu_model.specs.ScenarioData.{DeviceLineData}
 use Rattle.tcmu_model.specs.Scsi.{Serves}
-use Rattle.tcmu_model.specs.Several.{IsReplayOf}
+use Rattle.tcmu_model.specs.Several.{IsReplayOf, ReplaysEach}
 use Rattle.tcmu_model.specs.Sound.{Every}
+use Rattle.tcmu_model.proofs.Indexed.{every_at}
+use Rattle.tcmu_model.proofs.Readings.{same_some, same_bytes}
+use Rattle.tcmu_types.proofs.Places.{get_within}
 use Rattle.block_engine.specs.Determined.{LosesNothing}
-use Rattle.text_laws.proofs.Settled.{one_text}
-use Rattle.tcmu_top.specs.Opened.{OpensKind, OpenEach}
-use Rattle.tcmu_top.specs.Laws.{ListsNone, ListNone, HasOneTextOverFiles}
-use Rattle.tcmu_top.proofs.Completions.{open_as}
+use Rattle.text_laws.specs.Replays.{entries_of}
+use Rattle.text_laws.proofs.Settled.{one_replay, one_text}
+use Rattle.tcmu_top.specs.Opened.{OpensKind, OpenEach, after_fetches, file_names, name_in, is_named, IsLeftOf, Holds, SameFiles, Kept, KeptFiles}
+use Rattle.tcmu_top.specs.Laws.{ListsNone, ListNone, HasOneTextOverFiles, LeavesTheSameFiles}
+use Rattle.tcmu_top.proofs.Completions.{open_as, devices_stay}
 
 -- ---- one medium
 
@@ -61,3 +68,67 @@ has_one_text_over_files f bytes t u s read none is it =
     let same = one_opening f s.devices it.opened is.opened it.opens is.opens in
     let other = subst (λ (x : List Device). IsReplayOf Serves s.devices x s.lines u) same it.replay in
     one_text bytes s is.opened t u read (open_as (Some f) s.devices is.opened is.opens) (lose_nothing f s.devices is.opened none is.opens) is.replay other
+
+-- ---- the files behind a replay
+
+record IsNamedAt (ls : List DeviceLineData) (name : List ℕ) : Type 0 where
+  at : ℕ
+  line : DeviceLineData
+  found : slice_get ls at ≡ Some line
+  kind : line.config.kind ≡ InFile name
+
+-- a device line names it
+named_at : (ls : List DeviceLineData) (name : List ℕ) → is_named ls name ≡ true → IsNamedAt ls name
+named_at [] name e = absurd (cc)
+named_at (l ∷ ls) name e = go l.config.kind refl e (named_at ls name)
+  where
+    later : IsNamedAt ls name → IsNamedAt (l ∷ ls) name
+    later x = record { at = suc x.at; line = x.line; found = x.found; kind = x.kind }
+
+    first : (other : List ℕ) → l.config.kind ≡ InFile other → (b : Bool) → bytes_eq name other ≡ b → (b || list_any (bytes_eq name) (file_names ls)) ≡ true
+        → (is_named ls name ≡ true → IsNamedAt ls name) → IsNamedAt (l ∷ ls) name
+    first other kind true same e rest = record { at = 0; line = l; found = refl; kind = kind ∙ ap (λ (n : List ℕ). InFile n) (sym (same_bytes name other same)) }
+    first other kind false same e rest = later (rest e)
+
+    go : (kind : MediumData) → l.config.kind ≡ kind → list_any (bytes_eq name) (name_in kind (file_names ls)) ≡ true → (is_named ls name ≡ true → IsNamedAt ls name) → IsNamedAt (l ∷ ls) name
+    go (InMemory blocks) kind e rest = later (rest e)
+    go (InFile other) kind e rest = first other kind (bytes_eq name other) refl e rest
+
+-- a medium that loses nothing leaves one content
+one_content : (m : MediumState) (a b : Content) → LosesNothing m → IsLeftOf m a → IsLeftOf m b → a ≡ b
+one_content m a b keeps p q =
+    let blanks : blanked m.below.lost a.bytes ≡ blanked m.below.lost b.bytes = same_some (blanked m.below.lost a.bytes) (blanked m.below.lost b.bytes) (sym p.bytes ∙ q.bytes) in
+    let bytes : a.bytes ≡ b.bytes = subst (λ (lost : Span). blanked lost a.bytes ≡ blanked lost b.bytes) keeps.lost blanks in
+    ap (λ (xs : List ℕ). record { bytes = xs; calls = a.calls }) bytes ∙ ap (λ (c : Numbered). record { bytes = b.bytes; calls = c }) (p.calls ∙ sym q.calls)
+
+one_place : (m : MediumState) (p q : Place) → LosesNothing m → Holds m p → Holds m q → q ≡ p
+one_place m p q keeps h k = k.1 ∙ ap (λ (c : Content). at_home c) (one_content m k.0 h.0 keeps k.2 h.2) ∙ sym h.1
+
+same_places : (ls : List DeviceLineData) (ends : List Device) (count : ℕ) (f g h : FilesState) → length ends ≡ length ls → Every (λ d. LosesNothing d.medium) ends
+    → Kept ls ends count f g → Kept ls ends count f h → (name : List ℕ) → h.places name ≡ g.places name
+same_places ls ends count f g h all keeps p q name = go (is_named ls name) refl
+  where
+    go : (b : Bool) → is_named ls name ≡ b → h.places name ≡ g.places name
+    go false e = q.others name e ∙ sym (p.others name e)
+    go true e =
+        let x = named_at ls name e in
+        let d = get_within ends x.at (omega (arith, slice_get_within ls x.at x.line x.found, all)) in
+        one_place d.0.medium (g.places name) (h.places name) (every_at (λ d. LosesNothing d.medium) ends x.at d.0 keeps d.1)
+        (p.named x.at x.line d.0 name x.found d.1 x.kind) (q.named x.at x.line d.0 name x.found d.1 x.kind)
+
+same_files : (ls : List DeviceLineData) (ends : List Device) (f g h : FilesState) → length ends ≡ length ls → Every (λ d. LosesNothing d.medium) ends
+    → KeptFiles ls ends (Some f) (Some g) → KeptFiles ls ends (Some f) (Some h) → SameFiles g h × (h.fetches ≡ g.fetches)
+same_files ls ends f g h all keeps p q =
+    let count = (after_fetches (file_names ls) f).fetches in
+    let first : Kept ls ends count f g = subst (λ (x : FilesState). Kept ls ends count f x) (sym (same_some g p.0 p.1)) p.2 in
+    let other : Kept ls ends count f h = subst (λ (x : FilesState). Kept ls ends count f x) (sym (same_some h q.0 q.1)) q.2 in
+    (record { places = same_places ls ends count f g h all keeps first other; fails = other.fails ∙ sym first.fails }, other.fetches ∙ sym first.fetches)
+
+pub leaves_the_same_files : LeavesTheSameFiles
+leaves_the_same_files f g h bytes t u s read none is it p q =
+    let opened = one_opening f s.devices is.opened it.opened is.opens it.opens in
+    let replays = subst (λ (x : List Device). ReplaysEach Serves x s.lines (entries_of is.replay.journal) is.replay.ends) opened is.replay.replays in
+    let lose = lose_nothing f s.devices it.opened none it.opens in
+    let one = one_replay it.opened s.lines (entries_of is.replay.journal) (entries_of it.replay.journal) is.replay.ends it.replay.ends lose replays it.replay.replays in
+    let kept = subst (λ (x : List Device). KeptFiles s.devices x (Some f) (Some g)) one.1 p in
+    same_files s.devices it.replay.ends f g h (devices_stay (Some f) bytes u s read it).ends one.2 kept q

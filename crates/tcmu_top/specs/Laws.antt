@@ -17,6 +17,7 @@ use Rattle.tcmu_model.specs.Journals.{WasAccepted, IsExplained}
 use Rattle.tcmu_model.specs.Sound.{Every, Differ, times_logged, times_open}
 use Rattle.text_laws.specs.InMemory as memory
 use Rattle.text_laws.specs.Replays.{entries_of}
+use Rattle.tcmu_top.specs.Opened.{SameFiles, KeptFiles}
 use Rattle.tcmu_top.specs.Top.{IsTextOf}
 
 -- ==== texts over media in memory
@@ -49,6 +50,14 @@ abbrev pub HasOneTextOverFiles : Type 0
 HasOneTextOverFiles =
     (f : FilesState) (bytes t u : List ℕ) (s : ScenarioData)
     → scenario_of bytes ≡ Ok s → ListNone f s.devices → IsTextOf (Some f) s t → IsTextOf (Some f) s u → t ≡ u
+
+-- And all its replays leave the same files.
+abbrev pub LeavesTheSameFiles : Type 0
+LeavesTheSameFiles =
+    (f g h : FilesState) (bytes t u : List ℕ) (s : ScenarioData)
+    → scenario_of bytes ≡ Ok s → ListNone f s.devices → (is : IsTextOf (Some f) s t) → (it : IsTextOf (Some f) s u)
+    → KeptFiles s.devices is.replay.ends (Some f) (Some g) → KeptFiles s.devices it.replay.ends (Some f) (Some h)
+    → SameFiles g h × (h.fetches ≡ g.fetches)
 
 -- ==== completions
 

@@ -1,6 +1,6 @@
 //! The laws of texts: what holds of the text of every scenario over media in memory and over files, of the completions in the journal of every
 //! scenario, and of the line of every load.
-ghost use Rattle.tcmu_top.specs.Laws.{TextsAgree, HasOneTextOverFiles, CommandsComplete, DevicesStay, HasOneLine};
+ghost use Rattle.tcmu_top.specs.Laws.{TextsAgree, HasOneTextOverFiles, LeavesTheSameFiles, CommandsComplete, DevicesStay, HasOneLine};
 ghost use Rattle.text_laws.specs.InMemory.{LawOfReplay, LawOfJournals, HasOneText, HasOneJournal};
 
 /// The law of replay. The text of a replay without dumps is a scenario where it has at most 4,194,304 bytes and the replay has at
@@ -27,10 +27,12 @@ pub fn memory_law()
     ensures { TextsAgree }
 {}
 
-/// Over files that tell, none of whose stores lists a failing call, the text of a scenario's replay is a function of the scenario's
-/// bytes and of the files: nothing of such a file is ever lost. A device line may be protected, or list failing calls of its own.
+/// Over files that tell, where the store of no device line's file lists a failing call, the text of a scenario's replay is a function of
+/// the scenario's bytes and of the files, and so is what the files hold behind it: nothing of such a file is ever lost. A device line may
+/// be protected, or list failing calls of its own.
 pub fn files_law()
-    ensures { HasOneTextOverFiles }
+    ensures text { HasOneTextOverFiles }
+    ensures files { LeavesTheSameFiles }
 {}
 
 /// In the journal of a replay, whatever the files, each command that a device accepted completes once, or is open as the end line

@@ -155,19 +155,24 @@ one_play at d line.Dumps es fs d1 d2 m h k = absurd h
 abbrev pub LoseNothing : List Device → Type 0
 LoseNothing ds = Every (λ d. LosesNothing d.medium) ds
 
+-- entries and ends that are the same, with media that lose nothing
+abbrev SameEach : List EntryData → List EntryData → List Device → List Device → Type 0
+SameEach es fs ends lasts = (es ≡ fs) × (ends ≡ lasts) × LoseNothing lasts
+
 joined : (a b c d : List EntryData) → a ≡ c → b ≡ d → a ++ b ≡ c ++ d
 joined a b c d p q = ap (λ (x : List EntryData). x ++ b) p ∙ ap (λ (x : List EntryData). c ++ x) q
 
-one_end : (at : ℕ) (ds : List Device) (es fs : List EntryData) (ends lasts : List Device) → LoseNothing ds → DrainsEach Serves at ds es ends → DrainsEach Serves at ds fs lasts → (es ≡ fs) × (ends ≡ lasts)
-one_end at [] es fs ends lasts m h k = (h.0 ∙ sym k.0, h.1 ∙ sym k.1)
+one_end : (at : ℕ) (ds : List Device) (es fs : List EntryData) (ends lasts : List Device) → LoseNothing ds → DrainsEach Serves at ds es ends → DrainsEach Serves at ds fs lasts → SameEach es fs ends lasts
+one_end at [] es fs ends lasts m h k = (h.0 ∙ sym k.0, h.1 ∙ sym k.1, subst (λ (xs : List Device). LoseNothing xs) (sym k.1) tt)
 one_end at (d ∷ ds) es fs ends lasts m h k =
     let first = one_drain at d h.0 k.0 h.2 k.2 m.0 h.6 k.6 in
     let rest = one_end (at + 1) ds h.1 k.1 h.3 k.3 m.1 h.7 k.7 in (
       h.4 ∙ joined h.0 h.1 k.0 k.1 first.0 rest.0 ∙ sym k.4,
       h.5 ∙ ap (λ (x : Device). x ∷ h.3) first.1 ∙ ap (λ (xs : List Device). k.2 ∷ xs) rest.1 ∙ sym k.5,
+      subst (λ (xs : List Device). LoseNothing xs) (sym k.5) (first.2, rest.2),
     )
 
-pub one_replay : (ds : List Device) (ls : List LineData) (es fs : List EntryData) (ends lasts : List Device) → LoseNothing ds → ReplaysEach Serves ds ls es ends → ReplaysEach Serves ds ls fs lasts → (es ≡ fs) × (ends ≡ lasts)
+pub one_replay : (ds : List Device) (ls : List LineData) (es fs : List EntryData) (ends lasts : List Device) → LoseNothing ds → ReplaysEach Serves ds ls es ends → ReplaysEach Serves ds ls fs lasts → SameEach es fs ends lasts
 one_replay ds [] es fs ends lasts m h k = one_end 0 ds es fs ends lasts m h k
 one_replay ds (l ∷ ls) es fs ends lasts m h k =
     let d = k.2 in
@@ -176,7 +181,7 @@ one_replay ds (l ∷ ls) es fs ends lasts m h k =
     let first = one_play l.device d l.what h.0 k.0 h.3 k.3 (every_at (λ x. LosesNothing x.medium) ds l.device d m k.5) plays k.6 in
     let later = subst (λ (x : Device). ReplaysEach Serves (slice_set ds l.device x) ls h.1 ends) first.1 h.7 in
     let rest = one_replay (slice_set ds l.device k.3) ls h.1 k.1 ends lasts (every_set (λ x. LosesNothing x.medium) ds l.device k.3 m first.2) later k.7 in
-    (h.4 ∙ joined h.0 h.1 k.0 k.1 first.0 rest.0 ∙ sym k.4, rest.1)
+    (h.4 ∙ joined h.0 h.1 k.0 k.1 first.0 rest.0 ∙ sym k.4, rest.1, rest.2)
 
 -- ==== texts
 
