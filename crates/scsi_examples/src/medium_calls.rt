@@ -1,5 +1,5 @@
-//! The calls of media by example.
-use crate::making::{fault_of, files_with, made};
+//! The calls of media that configs make: listed calls that fail, protection, and files that open.
+use crate::config_media::{fault_of, files_with, made};
 use edge::{Failed, MemStore};
 use handler_trait::Medium;
 use media::{MakeFault, Media};

@@ -1,4 +1,5 @@
 //! Files with one name, and media of them.
+use crate::fixture::filled;
 use device_config::parse_config;
 use edge::{MemFiles, MemStore};
 use media::{MakeFault, Media, make_medium};
@@ -6,16 +7,10 @@ use std::alloc::Global;
 use std::test::Fail;
 use tcmu_types::{Bytes, Serials};
 
-/// So many bytes of zeros.
-pub fn zeros(alloc: Global, count: usize) -> Result<Bytes, Fail> {
-    let mut bytes = Vec::new(alloc);
-    bytes.resize(count, 0)?;
-    Ok(Bytes::from_vec(bytes))
-}
-
 /// Files with `img` alone, of so many bytes of zeros, whose store fails at these calls.
 pub fn files_with(alloc: Global, size: usize, fails: &[u64]) -> Result<MemFiles, Fail> {
-    let store = MemStore::new(zeros(alloc, size)?, Serials::from_slice(alloc, fails)?);
+    let zeros = Bytes::from_vec(filled(alloc, 0, size)?);
+    let store = MemStore::new(zeros, Serials::from_slice(alloc, fails)?);
     let mut files = MemFiles::new(alloc, Serials::new(alloc));
     files.add(alloc, b"img", store)?;
     Ok(files)

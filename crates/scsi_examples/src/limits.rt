@@ -1,7 +1,7 @@
 //! Each form of a command at its last range, one block past it, and with a count of 0; the limits of WRITE SAME and of UNMAP's lists.
 use crate::fixture::{
-    Case, Disk, FIELD, GOOD, LIST_FIELD, LIST_LENGTH, OPERATION_CODE, Outcome, RANGE, ask, disk,
-    filled, first_wrong, outcome,
+    Case, Disk, FIELD, GOOD, LIST_FIELD, LIST_LENGTH, OPERATION_CODE, Outcome, RANGE, ask,
+    ask_each, bytes_of, disk, ended, filled, is_block_of,
 };
 use std::alloc::Global;
 use std::test::Fail;
@@ -166,30 +166,26 @@ const UNMAP_LISTS: [ListCase; 17] = [
 fn answers_at_their_limits(rt: HostRuntime) -> Result<(), Fail> {
     let alloc = rt.alloc();
     let mut disk = disk(alloc, 256)?;
-    assert_eq!(rt; first_wrong(alloc, &mut disk, &ANSWERS_AT_LIMITS)?, None);
-    Ok(())
+    ask_each(&rt, alloc, &mut disk, &ANSWERS_AT_LIMITS)
 }
 
 #[test]
 fn calls_at_their_limits(rt: HostRuntime) -> Result<(), Fail> {
     let alloc = rt.alloc();
     let mut disk = disk(alloc, 256)?;
-    assert_eq!(rt; first_wrong(alloc, &mut disk, &CALLS_AT_LIMITS)?, None);
-    Ok(())
+    ask_each(&rt, alloc, &mut disk, &CALLS_AT_LIMITS)
 }
 
 #[test]
 fn write_same_is_of_2048_blocks_at_most(rt: HostRuntime) -> Result<(), Fail> {
     let alloc = rt.alloc();
     let mut disk = disk(alloc, 2_048)?;
-    assert_eq!(rt; first_wrong(alloc, &mut disk, &COUNTS_OF_WRITE_SAME)?, None);
-    Ok(())
+    ask_each(&rt, alloc, &mut disk, &COUNTS_OF_WRITE_SAME)
 }
 
 /// How an UNMAP ends, its parameter list in hexadecimal digits.
 fn unmapped(alloc: Global, disk: &mut Disk, cdb: &str, list: &str) -> Result<Outcome, Fail> {
-    let list = hex::decode(alloc, list).ok().ok_or("hexadecimal digits")?;
-    Ok(outcome(&ask(alloc, disk, cdb, &list, 0)?))
+    ended(alloc, disk, cdb, &bytes_of(alloc, list)?, 0)
 }
 
 #[test]
@@ -209,7 +205,7 @@ fn many_unmapped(alloc: Global, cdb: &str, head: &[u8], count: u16) -> Result<Ou
     let mut list = filled(alloc, 0, 0)?;
     list.extend_from_slice(head)?;
     list.resize(8 + 16 * count as usize, 0)?;
-    Ok(outcome(&ask(alloc, &mut disk, cdb, &list, 0)?))
+    ended(alloc, &mut disk, cdb, &list, 0)
 }
 
 #[test]
@@ -225,15 +221,14 @@ fn an_unmap_list_has_256_descriptors_at_most(rt: HostRuntime) -> Result<(), Fail
 /// Writes logical block 3; whether it is then read as it was written.
 fn write_one(alloc: Global, disk: &mut Disk) -> Result<bool, Fail> {
     let sent = filled(alloc, 0x5a, 512)?;
-    let reply = ask(alloc, disk, "2a000000000300000100", &sent, 0)?;
-    Ok(outcome(&reply) == GOOD && is_written(alloc, disk)?)
+    let written = ended(alloc, disk, "2a000000000300000100", &sent, 0)?;
+    Ok(written == GOOD && is_written(alloc, disk)?)
 }
 
 /// Whether logical block 3 is as `write_one` wrote it.
 fn is_written(alloc: Global, disk: &mut Disk) -> Result<bool, Fail> {
     let reply = ask(alloc, disk, "28000000000300000100", &[], 512)?;
-    let bytes = reply.payload.as_slice();
-    Ok(bytes.len() == 512 && bytes.iter().all(|byte| *byte == 0x5a))
+    Ok(is_block_of(reply.payload.as_slice(), 0x5a))
 }
 
 #[test]

@@ -1,14 +1,16 @@
-//! What SCSI commands answer where calls of the medium fail (SPC-4, SBC-3).
-use crate::making::{files_with, made};
+//! What SCSI commands answer over media that configs make: failing calls, protection and files (SPC-4, SBC-3).
+use crate::config_media::{files_with, made};
+use crate::fixture::{
+    GOOD, Outcome, PROTECTED, READ_ERROR, WRITE_ERROR, ask, ended, filled, is_block_of,
+};
 use block_engine::Engine;
 use edge::{Files, MemFiles, MemStore};
-use handler_trait::{Handler, Request};
 use media::Media;
 use std::alloc::Global;
 use std::test::Fail;
-use tcmu_types::{Bytes, Cdb, Name, Reply};
+use tcmu_types::Name;
 
-/// What serves the commands.
+/// An engine over a medium that a config makes.
 type Disk = Engine<Media<MemStore>>;
 
 /// READ(10) of the first block.
@@ -17,55 +19,23 @@ const READ: &str = "28000000000000000100";
 /// WRITE(10) of the first block.
 const WRITE: &str = "2a000000000000000100";
 
-/// No sense.
-const GOOD: (u8, u8, u8) = (0, 0, 0);
-
-/// MEDIUM ERROR, UNRECOVERED READ ERROR.
-const READ_FAULT: (u8, u8, u8) = (2, 0x3, 0x11);
-
-/// MEDIUM ERROR, WRITE ERROR.
-const WRITE_FAULT: (u8, u8, u8) = (2, 0x3, 0x0c);
-
-/// DATA PROTECT, WRITE PROTECTED.
-const PROTECTED: (u8, u8, u8) = (2, 0x7, 0x27);
-
 /// A disk over the medium of a config text.
 fn disk(alloc: Global, config: &str, files: &mut MemFiles) -> Result<Disk, Fail> {
     let name = Name::new("d0").ok_or("a name")?;
     Ok(Engine::new(name, made(alloc, config, files)?))
 }
 
-/// The reply to a command descriptor block in hexadecimal digits, with the bytes that go with it.
-fn ask(alloc: Global, disk: &mut Disk, cdb: &str, sent: &[u8], in_len: u32) -> Result<Reply, Fail> {
-    let cdb = hex::decode(alloc, cdb).ok().ok_or("hexadecimal digits")?;
-    let cdb = Cdb::new(&cdb).ok().ok_or("a command descriptor block")?;
-    let sent = Bytes::from_slice(alloc, sent)?;
-    let request = Request { cdb, sent, in_len };
-    Ok(disk.handle(alloc, &request)?)
-}
-
-/// The status, the sense key and the additional sense code; zeros where there is no sense.
-fn outcome(reply: &Reply) -> (u8, u8, u8) {
-    let status = reply.status.0;
-    match reply.sense {
-        Some(sense) => (status, sense.key, sense.asc),
-        None => (status, 0, 0),
-    }
-}
-
 /// How a write of a block of this byte ends.
-fn write(alloc: Global, disk: &mut Disk, byte: u8) -> Result<(u8, u8, u8), Fail> {
-    let mut bytes = Vec::new(alloc);
-    bytes.resize(512, byte)?;
-    Ok(outcome(&ask(alloc, disk, WRITE, &bytes, 0)?))
+fn write(alloc: Global, disk: &mut Disk, byte: u8) -> Result<Outcome, Fail> {
+    let sent = filled(alloc, byte, 512)?;
+    ended(alloc, disk, WRITE, &sent, 0)
 }
 
 /// How a read ends, and whether it gave a block of this byte.
-fn read(alloc: Global, disk: &mut Disk, byte: u8) -> Result<((u8, u8, u8), bool), Fail> {
+fn read(alloc: Global, disk: &mut Disk, byte: u8) -> Result<(Outcome, bool), Fail> {
     let reply = ask(alloc, disk, READ, &[], 512)?;
-    let bytes = reply.payload.as_slice();
-    let whole = bytes.len() == 512 && bytes.iter().all(|b| *b == byte);
-    Ok((outcome(&reply), whole))
+    let whole = is_block_of(reply.payload.as_slice(), byte);
+    Ok((Outcome::of(&reply), whole))
 }
 
 #[test]
@@ -74,7 +44,7 @@ fn a_listed_write_leaves_what_was_there(rt: HostRuntime) -> Result<(), Fail> {
     let mut files = files_with(alloc, 512, &[])?;
     let mut disk = disk(alloc, "tcm-user/0/d0/fail/2/mem/64", &mut files)?;
     assert_eq!(rt; write(alloc, &mut disk, 0x11)?, GOOD);
-    assert_eq!(rt; write(alloc, &mut disk, 0x22)?, WRITE_FAULT);
+    assert_eq!(rt; write(alloc, &mut disk, 0x22)?, WRITE_ERROR);
     assert_eq!(rt; read(alloc, &mut disk, 0x11)?, (GOOD, true));
     Ok(())
 }
@@ -100,7 +70,7 @@ fn each_call_of_the_store_fails_in_turn(rt: HostRuntime) -> Result<(), Fail> {
             let fails = call == failing;
             assert_eq!(rt;
                 answer,
-                if fails { READ_FAULT } else { GOOD },
+                if fails { READ_ERROR } else { GOOD },
                 "{failing} {call}"
             );
             assert_eq!(rt; whole, !fails, "{failing} {call}");

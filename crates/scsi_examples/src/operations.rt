@@ -1,7 +1,7 @@
-//! The answers to requests by example, with values from SPC-4 and SBC-3.
+//! Each operation with the outcomes of its rules, and what is then read (SPC-4, SBC-3).
 use crate::fixture::{
-    Case, Disk, FIELD, GOOD, LIST_LENGTH, MISCOMPARE, OPERATION_CODE, Outcome, RANGE, ask, disk,
-    filled, first_wrong, outcome,
+    Case, Disk, FIELD, GOOD, LIST_LENGTH, MISCOMPARE, OPERATION_CODE, Outcome, RANGE, ask,
+    ask_each, bytes_of, disk, ended, filled, is_block_of,
 };
 use handler_trait::Medium;
 use std::alloc::Global;
@@ -149,7 +149,7 @@ const CUT: [(&str, u32, usize); 10] = [
 fn each_operation_at_the_edges_of_its_rules(rt: HostRuntime) -> Result<(), Fail> {
     let alloc = rt.alloc();
     let mut disk = disk(alloc, 64)?;
-    assert_eq!(rt; first_wrong(alloc, &mut disk, &OPERATIONS)?, None);
+    ask_each(&rt, alloc, &mut disk, &OPERATIONS)?;
     assert_eq!(rt; disk.into_medium().blocks(), 64);
     Ok(())
 }
@@ -158,49 +158,34 @@ fn each_operation_at_the_edges_of_its_rules(rt: HostRuntime) -> Result<(), Fail>
 fn each_form_that_answers_bytes(rt: HostRuntime) -> Result<(), Fail> {
     let alloc = rt.alloc();
     let mut disk = disk(alloc, 64)?;
-    assert_eq!(rt; first_wrong(alloc, &mut disk, &ANSWERING)?, None);
-    Ok(())
+    ask_each(&rt, alloc, &mut disk, &ANSWERING)
 }
 
 #[test]
 fn each_form_that_takes_bytes(rt: HostRuntime) -> Result<(), Fail> {
     let alloc = rt.alloc();
     let mut disk = disk(alloc, 64)?;
-    assert_eq!(rt; first_wrong(alloc, &mut disk, &TAKING)?, None);
-    Ok(())
-}
-
-/// How a command ends that sends so many copies of a byte.
-fn ended(
-    alloc: Global,
-    disk: &mut Disk,
-    cdb: &str,
-    byte: u8,
-    count: usize,
-) -> Result<Outcome, Fail> {
-    let sent = filled(alloc, byte, count)?;
-    Ok(outcome(&ask(alloc, disk, cdb, &sent, 0)?))
+    ask_each(&rt, alloc, &mut disk, &TAKING)
 }
 
 /// Whether logical block 3 has this byte throughout.
 fn reads_as(alloc: Global, disk: &mut Disk, byte: u8) -> Result<bool, Fail> {
     let reply = ask(alloc, disk, "28000000000300000100", &[], 512)?;
-    let bytes = reply.payload.as_slice();
-    Ok(bytes.len() == 512 && bytes.iter().all(|item| *item == byte))
+    Ok(is_block_of(reply.payload.as_slice(), byte))
 }
 
 /// How an UNMAP of logical block 3 ends.
 fn unmap_one(alloc: Global, disk: &mut Disk) -> Result<Outcome, Fail> {
-    let list = "001600100000000000000000000000030000000100000000";
-    let list = hex::decode(alloc, list).ok().ok_or("hexadecimal digits")?;
-    Ok(outcome(&ask(alloc, disk, "42000000000000001800", &list, 0)?))
+    let list = bytes_of(alloc, "001600100000000000000000000000030000000100000000")?;
+    ended(alloc, disk, "42000000000000001800", &list, 0)
 }
 
 #[test]
 fn what_is_written_is_read_until_it_is_unmapped(rt: HostRuntime) -> Result<(), Fail> {
     let alloc = rt.alloc();
     let mut disk = disk(alloc, 64)?;
-    let written = ended(alloc, &mut disk, "2a000000000300000100", 0x5a, 512)?;
+    let sent = filled(alloc, 0x5a, 512)?;
+    let written = ended(alloc, &mut disk, "2a000000000300000100", &sent, 0)?;
     assert_eq!(rt; written, GOOD);
     assert!(rt; reads_as(alloc, &mut disk, 0x5a)?);
     assert_eq!(rt; unmap_one(alloc, &mut disk)?, GOOD);
@@ -212,12 +197,13 @@ fn what_is_written_is_read_until_it_is_unmapped(rt: HostRuntime) -> Result<(), F
 fn other_bytes_than_those_on_the_disk_miscompare(rt: HostRuntime) -> Result<(), Fail> {
     let alloc = rt.alloc();
     let mut disk = disk(alloc, 64)?;
+    let sent = filled(alloc, 0x01, 1_024)?;
     let compared = ended(
         alloc,
         &mut disk,
         "89000000000000000003000000010000",
-        0x01,
-        1_024,
+        &sent,
+        0,
     )?;
     assert_eq!(rt; compared, MISCOMPARE);
     assert!(rt; reads_as(alloc, &mut disk, 0)?);
