@@ -114,7 +114,7 @@ same_places ls ends count f g h all keeps p q name = go (is_named ls name) refl
         let x = named_at ls name e in
         let d = get_within ends x.at (omega (arith, slice_get_within ls x.at x.line x.found, all)) in
         one_place d.0.medium (g.places name) (h.places name) (every_at (λ d. LosesNothing d.medium) ends x.at d.0 keeps d.1)
-        (p.named x.at x.line d.0 name x.found d.1 x.kind) (q.named x.at x.line d.0 name x.found d.1 x.kind)
+        (p.named x.at x.line name x.found x.kind d.0 d.1) (q.named x.at x.line name x.found x.kind d.0 d.1)
 
 same_files : (ls : List DeviceLineData) (ends : List Device) (f g h : FilesState) → length ends ≡ length ls → Every (λ d. LosesNothing d.medium) ends
     → KeptFiles ls ends (Some f) (Some g) → KeptFiles ls ends (Some f) (Some h) → SameFiles g h × (h.fetches ≡ g.fetches)
