@@ -4,10 +4,10 @@ use Rattle.std.specs.Bool.{MatchBool}
 use Rattle.tcmu_types.specs.Data.{ReplyData}
 use Rattle.tcmu_model.specs.MediumState.{MediumState}
 use Rattle.tcmu_model.specs.Steps.{Asked}
-use Rattle.tcmu_model.specs.Decoding.{decoded}
-use Rattle.tcmu_model.specs.Scsi.{Outcome, Either, Serves, ServesOp, Answers, refused, fault_sense}
-use Rattle.tcmu_model.specs.declared.op.Op.{Op}
-use Rattle.tcmu_model.specs.declared.op.CdbFault.{CdbFault}
+use Rattle.scsi_model.specs.Decoding.{decoded}
+use Rattle.scsi_model.specs.Scsi.{Outcome, Either, Serves, ServesOp, Answers, refused, fault_sense}
+use Rattle.scsi_model.specs.declared.op.Op.{Op}
+use Rattle.scsi_model.specs.declared.op.CdbFault.{CdbFault}
 use Rattle.block_engine.specs.Serving.{Served}
 
 pub served_else : {E : Type 0} (test : Bool) (First Second : Outcome) (n : ℕ) (old new : MediumState) (before after : ℕ) (result : Result ReplyData E)

@@ -5,7 +5,7 @@ use Rattle.std.specs.Bool.{MatchBool}
 use Rattle.std.specs.Option.{option_map}
 use Rattle.tcmu_types.specs.Numbered.{Numbered, ComesOut, Tries, is_listed, one_more}
 use Rattle.tcmu_model.specs.MediumState.{Span, Layer, memory, file, overlay, write_back, Below, MediumState}
-use Rattle.tcmu_model.specs.Medium.{span_of, empty_span, covers, narrowed, Call, Does, StoreCalls, Leaves, Then, Chosen, unchanged, with_piece, with_lost, with_dirty, dirty_blocks, blocks_from, joined_blocks, FlushesBlocks, Flushes, Dirties, DirtiesEach, WritesBack, ReadsBelow, WritesBelow, FillsBelow, SyncsBelow, MakesCall, counted, repeated, Writes, Fills, Syncs}
+use Rattle.scsi_model.specs.Medium.{span_of, empty_span, covers, narrowed, Call, Does, StoreCalls, Leaves, Then, Chosen, unchanged, with_piece, with_lost, with_dirty, dirty_blocks, blocks_from, joined_blocks, FlushesBlocks, Flushes, Dirties, DirtiesEach, WritesBack, ReadsBelow, WritesBelow, FillsBelow, SyncsBelow, MakesCall, counted, repeated, Writes, Fills, Syncs}
 
 pub true_false : {X : Type 0} → true ≡ false → X
 true_false e = absurd (cc)

@@ -11,15 +11,15 @@ use Rattle.tcmu_types.specs.Data.{SenseData, ReplyData}
 use Rattle.tcmu_types.specs.Rules.{IsReply}
 use Rattle.tcmu_types.proofs.Places.{same_list, get_from_index}
 use Rattle.tcmu_model.specs.MediumState.{memory, file, Below, MediumState}
-use Rattle.tcmu_model.specs.Medium.{lies_in, MatchesTold, Reads, Writes, Fills, Syncs, zeros, empty_span, memory_state}
-use Rattle.tcmu_model.specs.Decoding.{decoded}
+use Rattle.scsi_model.specs.Medium.{lies_in, MatchesTold, Reads, Writes, Fills, Syncs, zeros, empty_span, memory_state}
+use Rattle.scsi_model.specs.Decoding.{decoded}
 use Rattle.tcmu_model.specs.Steps.{Asked}
-use Rattle.tcmu_model.specs.Scsi.{Outcome, Answers, Either, Check, check, first_failed, Checked, Calls, range_checks, write_checks, list_checks, good, refused, unrecovered_read_error, write_error, miscompare, invalid_field_in_cdb, ReadsSome, ReadsBytes, WritesBytes, ComparesBytes, ComparesBlocks, Compared, UnmapsOne, Unmaps, UnmapsList, cut, extents_of, ServesOp, Serves, fault_sense}
-use Rattle.tcmu_model.specs.declared.op.Extent.{Extent}
-use Rattle.tcmu_model.specs.declared.op.Op.{Op}
-use Rattle.tcmu_model.specs.declared.op.Op.TheVariants as op
-use Rattle.tcmu_model.specs.declared.op.CdbFault.{CdbFault}
-use Rattle.tcmu_model.specs.declared.op.CdbFault.TheVariants as fault
+use Rattle.scsi_model.specs.Scsi.{Outcome, Answers, Either, Check, check, first_failed, Checked, Calls, range_checks, write_checks, list_checks, good, refused, unrecovered_read_error, write_error, miscompare, invalid_field_in_cdb, ReadsSome, ReadsBytes, WritesBytes, ComparesBytes, ComparesBlocks, Compared, UnmapsOne, Unmaps, UnmapsList, cut, extents_of, ServesOp, Serves, fault_sense}
+use Rattle.scsi_model.specs.declared.op.Extent.{Extent}
+use Rattle.scsi_model.specs.declared.op.Op.{Op}
+use Rattle.scsi_model.specs.declared.op.Op.TheVariants as op
+use Rattle.scsi_model.specs.declared.op.CdbFault.{CdbFault}
+use Rattle.scsi_model.specs.declared.op.CdbFault.TheVariants as fault
 use Rattle.block_engine.specs.Determined.{IsTold, SeesRange, SeesOp, Sees, SomeReply, WholeReply, OneReply, StaysTold, OneReplyInMemory, StaysInMemory, LosesNothing, OneReplyWithoutLoss, StaysInFile}
 use Rattle.block_engine.proofs.Deciding.{true_false, SameTold, same_told, same_told_then, TellsFails, tells_after, IsSure, reads_sure, writes_sure, fills_sure, syncs_sure}
 

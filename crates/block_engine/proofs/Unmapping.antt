@@ -1,10 +1,10 @@
 -- Block descriptors, one after the other.
 use Rattle.std.proofs.Common.{◌≡◌, ◌≢◌, ℕ, zero, suc, ◌+◌, ◌-◌, ◌*◌, ◌<◌, ◌==◌, Bool, false, List, [], ◌∷◌, ◌++◌, ap, sym, subst, ◌∙◌, arith, append_assoc}
 use Rattle.byteorder.specs.Endian.{big_from}
-use Rattle.tcmu_model.specs.declared.op.Extent.{Extent}
+use Rattle.scsi_model.specs.declared.op.Extent.{Extent}
 use Rattle.tcmu_model.specs.MediumState.{MediumState}
-use Rattle.tcmu_model.specs.Medium.{Fills, zeros}
-use Rattle.tcmu_model.specs.Scsi.{extents_from, UnmapsOne, Unmaps}
+use Rattle.scsi_model.specs.Medium.{Fills, zeros}
+use Rattle.scsi_model.specs.Scsi.{extents_from, UnmapsOne, Unmaps}
 
 abbrev pub extent_at : ℕ → List ℕ → Extent
 extent_at at bytes = record { lba = big_from at 8 bytes; count = big_from (at + 8) 4 bytes }

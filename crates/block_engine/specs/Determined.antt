@@ -3,12 +3,12 @@ use Rattle.std.specs.Prelude.{◌≡◌, ◌⊎◌, ℕ, ◌+◌, ◌*◌, ◌<�
 use Rattle.tcmu_types.specs.Data.{ReplyData}
 use Rattle.tcmu_types.specs.Rules.{IsReply}
 use Rattle.tcmu_model.specs.MediumState.{MediumState, memory, file}
-use Rattle.tcmu_model.specs.Medium.{lies_in, empty_span, memory_state}
+use Rattle.scsi_model.specs.Medium.{lies_in, empty_span, memory_state}
 use Rattle.tcmu_model.specs.Steps.{Asked}
-use Rattle.tcmu_model.specs.Decoding.{decoded}
-use Rattle.tcmu_model.specs.Scsi.{Serves}
-use Rattle.tcmu_model.specs.declared.op.Op.{Op}
-use Rattle.tcmu_model.specs.declared.op.Op.TheVariants as op
+use Rattle.scsi_model.specs.Decoding.{decoded}
+use Rattle.scsi_model.specs.Scsi.{Serves}
+use Rattle.scsi_model.specs.declared.op.Op.{Op}
+use Rattle.scsi_model.specs.declared.op.Op.TheVariants as op
 
 -- the medium tells its bytes, and which of its own calls and of its store's fail
 pub record IsTold (m : MediumState) : Type 0 where

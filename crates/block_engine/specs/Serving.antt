@@ -4,10 +4,10 @@ use Rattle.tcmu_types.specs.Data.{ReplyData}
 use Rattle.tcmu_types.specs.Numbered.{Rose}
 use Rattle.edge.specs.Outside.{CountsFailed}
 use Rattle.tcmu_model.specs.MediumState.{MediumState}
-use Rattle.tcmu_model.specs.Scsi.{Outcome, is_medium_error}
-use Rattle.tcmu_model.specs.declared.op.Op.{Op}
-use Rattle.tcmu_model.specs.declared.op.Op.TheVariants as op
-use Rattle.tcmu_model.specs.declared.op.CdbFault.{CdbFault}
+use Rattle.scsi_model.specs.Scsi.{Outcome, is_medium_error}
+use Rattle.scsi_model.specs.declared.op.Op.{Op}
+use Rattle.scsi_model.specs.declared.op.Op.TheVariants as op
+use Rattle.scsi_model.specs.declared.op.CdbFault.{CdbFault}
 
 -- The reply and the medium after it are what the meaning allows, and the payload is no longer than may be answered. Sense data say that
 -- a call of the medium failed exactly where one more is counted. After want of memory nothing changed.

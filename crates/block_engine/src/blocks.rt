@@ -2,8 +2,8 @@
 ghost use Rattle.std.specs.Prelude.{◌≡◌, ◌+◌, ◌*◌, ◌%◌, ◌≤◌, ◌<◌, length, is_err, IfOk, replicate, []};
 ghost use Rattle.tcmu_types.specs.Numbered.{HasCause};
 ghost use Rattle.edge.specs.Outside.{CountsFailed};
-ghost use Rattle.tcmu_model.specs.Medium.{Reads, Fills};
-ghost use Rattle.tcmu_model.specs.Scsi.{ReadsBytes, ServesRead, WritesBytes, ServesWrite, ServesSync, ServesWriteSame, Calls, write_error};
+ghost use Rattle.scsi_model.specs.Medium.{Reads, Fills};
+ghost use Rattle.scsi_model.specs.Scsi.{ReadsBytes, ServesRead, WritesBytes, ServesWrite, ServesSync, ServesWriteSame, Calls, write_error};
 ghost use Rattle.block_engine.specs.Serving.{Served};
 
 use crate::checks::{range_fault, write_fault};

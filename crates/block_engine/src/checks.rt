@@ -1,6 +1,6 @@
 //! The checks before the medium is touched.
 ghost use Rattle.std.specs.Prelude.{◌≡◌, ◌≢◌, ◌+◌, ◌^◌, ◌≤◌, nat_lt, length, None, IfSome};
-ghost use Rattle.tcmu_model.specs.Scsi.{first_failed, range_checks, write_checks};
+ghost use Rattle.scsi_model.specs.Scsi.{first_failed, range_checks, write_checks};
 
 use crate::senses::{INVALID_FIELD_IN_CDB, LOGICAL_BLOCK_ADDRESS_OUT_OF_RANGE, WRITE_PROTECTED};
 use handler_trait::Medium;

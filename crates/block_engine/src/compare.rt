@@ -2,7 +2,7 @@
 ghost use Rattle.std.specs.Prelude.{◌≡◌, ◌+◌, ◌*◌, ◌%◌, ◌≤◌, ◌<◌, length, true};
 ghost use Rattle.tcmu_types.specs.Numbered.{Rose};
 ghost use Rattle.edge.specs.Outside.{CountsFailed};
-ghost use Rattle.tcmu_model.specs.Scsi.{ComparesBytes, ComparesBlocks, ServesCompareWrite, Compared, is_medium_error};
+ghost use Rattle.scsi_model.specs.Scsi.{ComparesBytes, ComparesBlocks, ServesCompareWrite, Compared, is_medium_error};
 ghost use Rattle.block_engine.specs.Serving.{Served};
 
 use crate::blocks::{read_into, zeros};

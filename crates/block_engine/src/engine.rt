@@ -2,8 +2,8 @@
 ghost use Rattle.std.specs.Prelude.{◌≡◌, ◌≤◌, true, length, Ok, IfOk, OnErr};
 ghost use Rattle.tcmu_types.specs.Numbered.{Rose};
 ghost use Rattle.edge.specs.Outside.{CountsFailed};
-ghost use Rattle.tcmu_model.specs.Decoding.{IsDecoded, decoded};
-ghost use Rattle.tcmu_model.specs.Scsi.{Serves, ServesOp, is_medium_error};
+ghost use Rattle.scsi_model.specs.Decoding.{IsDecoded, decoded};
+ghost use Rattle.scsi_model.specs.Scsi.{Serves, ServesOp, is_medium_error};
 ghost use Rattle.block_engine.specs.Serving.{Served, ReachesBelow};
 
 use crate::blocks::{read, sync, write, write_same};

@@ -1,6 +1,6 @@
 //! The replies that an engine gives: GOOD with a payload, and CHECK CONDITION with sense data.
 ghost use Rattle.std.specs.Prelude.{◌≡◌, is_err, if◌then◌else◌, IfOk, take, []};
-ghost use Rattle.tcmu_model.specs.Scsi.{good, refused, cut, write_error};
+ghost use Rattle.scsi_model.specs.Scsi.{good, refused, cut, write_error};
 
 use crate::senses::WRITE_ERROR;
 use edge::Failed;

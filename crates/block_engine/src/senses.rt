@@ -1,8 +1,8 @@
 //! Sense data (SPC-4, 4.5.6).
 ghost use Rattle.std.specs.Prelude.{◌≡◌, ◌≢◌};
-ghost use Rattle.tcmu_model.specs.Scsi.{fault_sense};
+ghost use Rattle.scsi_model.specs.Scsi.{fault_sense};
 
-use tcmu_model::CdbFault;
+use scsi_model::CdbFault;
 use tcmu_types::Sense;
 
 /// NO SENSE, NO ADDITIONAL SENSE INFORMATION.

@@ -1,8 +1,8 @@
 //! Operations that show what the device is, and make no call of its medium.
 ghost use Rattle.std.specs.Prelude.{◌≡◌, ◌≤◌, IfOk, IfSome, IsTrue};
-ghost use Rattle.tcmu_model.specs.Decoding.{IsDecoded, is_vpd_page};
-ghost use Rattle.tcmu_model.specs.Pages.{inquiry_data};
-ghost use Rattle.tcmu_model.specs.Scsi.{good, cut, shown};
+ghost use Rattle.scsi_model.specs.Decoding.{IsDecoded, is_vpd_page};
+ghost use Rattle.scsi_model.specs.Pages.{inquiry_data};
+ghost use Rattle.scsi_model.specs.Scsi.{good, cut, shown};
 
 use crate::replies::{cut, done, front};
 use crate::senses::NO_SENSE;

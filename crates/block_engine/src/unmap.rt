@@ -3,7 +3,7 @@ ghost use Rattle.std.specs.Prelude.{◌≡◌, ◌≢◌, ◌+◌, ◌*◌, ◌-
 ghost use Rattle.std.specs.List.{sum_by, list_any};
 ghost use Rattle.tcmu_types.specs.Numbered.{HasCause};
 ghost use Rattle.edge.specs.Outside.{CountsFailed};
-ghost use Rattle.tcmu_model.specs.Scsi.{extents_from, extents_of, Unmaps, UnmapsOne, UnmapsList, ServesUnmap, list_checks, first_failed, is_beyond, is_bad_list, has_bad_lengths};
+ghost use Rattle.scsi_model.specs.Scsi.{extents_from, extents_of, Unmaps, UnmapsOne, UnmapsList, ServesUnmap, list_checks, first_failed, is_beyond, is_bad_list, has_bad_lengths};
 ghost use Rattle.block_engine.specs.Serving.{Served};
 
 use crate::checks::is_outside;
@@ -16,7 +16,7 @@ use cdb_decode::{be_u16_at, be_u32_at, be_u64_at};
 use edge::Failed;
 use handler_trait::Medium;
 use std::alloc::Global;
-use tcmu_model::{Extent, MAXIMUM_UNMAP_DESCRIPTOR_COUNT, MAXIMUM_UNMAP_LBA_COUNT};
+use scsi_model::{Extent, MAXIMUM_UNMAP_DESCRIPTOR_COUNT, MAXIMUM_UNMAP_LBA_COUNT};
 use tcmu_types::{NoMemory, Reply, Sense};
 
 /// The bytes of a parameter list before its first block descriptor (SBC-3, UNMAP).

@@ -9,4 +9,4 @@ mod tests;
 
 pub use fields::{be_u16_at, be_u32_at, be_u64_at};
 pub use table::decode;
-pub use tcmu_model::{CdbFault, Op};
+pub use scsi_model::{CdbFault, Op};

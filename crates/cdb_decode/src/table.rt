@@ -1,16 +1,16 @@
 //! The table of operation codes, by the length of the block.
 ghost use Rattle.std.specs.Prelude.{◌≡◌, ℕ, ◌+◌, ◌*◌, ◌%◌, ◌<◌, ◌≤◌, length, slice_index, [], ◌∷◌, not, ◌||◌, ◌==◌, nat_lt, nat_le, if◌then◌else◌, IfOk};
 ghost use Rattle.byteorder.specs.Endian.{big_from};
-ghost use Rattle.tcmu_model.specs.Decoding.{decoded, ruled, rule, asks_page, asked_page, inquiry_page, is_vpd_page, is_mode_page, no_high_bits, no_low_bit, no_low_bits, same_count, count6, IsDecoded};
-ghost use Rattle.tcmu_model.specs.declared.op.Op.TheVariants.{RequestSense, Inquiry, ModeSense, Capacity16, ReportLuns, Unmap, CompareWrite};
+ghost use Rattle.scsi_model.specs.Decoding.{decoded, ruled, rule, asks_page, asked_page, inquiry_page, is_vpd_page, is_mode_page, no_high_bits, no_low_bit, no_low_bits, same_count, count6, IsDecoded};
+ghost use Rattle.scsi_model.specs.declared.op.Op.TheVariants.{RequestSense, Inquiry, ModeSense, Capacity16, ReportLuns, Unmap, CompareWrite};
 
 use crate::{be_u16_at, be_u32_at, be_u64_at, opcode};
-use tcmu_model::{CdbFault, MAXIMUM_WRITE_SAME_LENGTH, Op};
+use scsi_model::{CdbFault, MAXIMUM_WRITE_SAME_LENGTH, Op};
 use tcmu_types::Cdb;
 
 /// What a command descriptor block asks, or why it asks nothing: `Opcode` exactly where its operation code is not in the table,
 /// and `Field` with the lowest byte of which a field breaks its rule (SPC-4 and SBC-3, by the names of the commands).
-#[tactic(auto, unfolding(tcmu_model::specs::Decoding::decoded))]
+#[tactic(auto, unfolding(scsi_model::specs::Decoding::decoded))]
 pub fn decode(cdb: &Cdb) -> Result<Op, CdbFault>
     ensures value { result ≡ decoded cdb.now }
     ensures sound { IfOk result IsDecoded }
@@ -26,7 +26,7 @@ pub fn decode(cdb: &Cdb) -> Result<Op, CdbFault>
 }
 
 /// The operations of group 0, whose blocks have 6 bytes.
-#[tactic(auto, unfolding(tcmu_model::specs::Decoding::decoded))]
+#[tactic(auto, unfolding(scsi_model::specs::Decoding::decoded))]
 fn decode_6(bytes: &[u8]) -> Result<Op, CdbFault>
     requires length { length bytes.now ≡ 6 }
     requires code { slice_index bytes.now 0 < 0x20 }
@@ -51,7 +51,7 @@ fn decode_6(bytes: &[u8]) -> Result<Op, CdbFault>
 }
 
 /// The operations of groups 1 and 2, whose blocks have 10 bytes.
-#[tactic(auto, unfolding(tcmu_model::specs::Decoding::decoded))]
+#[tactic(auto, unfolding(scsi_model::specs::Decoding::decoded))]
 fn decode_10(bytes: &[u8]) -> Result<Op, CdbFault>
     requires length { length bytes.now ≡ 10 }
     requires low { 0x20 ≤ slice_index bytes.now 0 }
@@ -73,7 +73,7 @@ fn decode_10(bytes: &[u8]) -> Result<Op, CdbFault>
 }
 
 /// The operations of group 5, whose blocks have 12 bytes.
-#[tactic(auto, unfolding(tcmu_model::specs::Decoding::decoded))]
+#[tactic(auto, unfolding(scsi_model::specs::Decoding::decoded))]
 fn decode_12(bytes: &[u8]) -> Result<Op, CdbFault>
     requires length { length bytes.now ≡ 12 }
     requires low { 0xa0 ≤ slice_index bytes.now 0 }
@@ -92,7 +92,7 @@ fn decode_12(bytes: &[u8]) -> Result<Op, CdbFault>
 }
 
 /// The operations of group 4, whose blocks have 16 bytes.
-#[tactic(auto, unfolding(tcmu_model::specs::Decoding::decoded))]
+#[tactic(auto, unfolding(scsi_model::specs::Decoding::decoded))]
 fn decode_16(bytes: &[u8]) -> Result<Op, CdbFault>
     requires length { length bytes.now ≡ 16 }
     requires low { 0x80 ≤ slice_index bytes.now 0 }

@@ -1,8 +1,7 @@
 -- The numbers of a range that pass a test, and those that do not.
 use Rattle.std.proofs.Common.{◌≡◌, ◌≢◌, ℕ, ◌+◌, ◌≤◌, ◌<◌, ⊎_elim, Bool, true, false, not, ◌||◌, ◌==◌, List, [], ◌∷◌, length, Some, None, refl, sym, ap, ◌∙◌, arith, suc, zero}
 use Rattle.std.proofs.lemmas.Bool.{cases_eq, cases_Bool, false≢true}
-use Rattle.tcmu_model.specs.Lists.{RisesAbove, IsRising, above_all}
-use Rattle.tcmu_model.specs.Events.{is_among}
+use Rattle.tcmu_types.specs.Numbers.{RisesAbove, IsRising, above_all, is_among}
 use Rattle.tcmu_model.specs.BlockLists.{free_from}
 use Rattle.data_blocks.specs.Bitmap.{chosen, first_refused}
 use Rattle.data_blocks.proofs.Bits.{eqb-same, eqb-other}

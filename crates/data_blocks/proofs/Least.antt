@@ -1,13 +1,12 @@
 -- The least free numbers: they rise, they are free, and no free number below one of them is left out.
 use Rattle.std.proofs.Common.{◌≡◌, ◌≢◌, ℕ, ◌<◌, ⊎_elim, Bool, true, false, not, List, [], ◌∷◌, take, refl, sym, ap, ◌∙◌, subst, arith, suc, zero}
 use Rattle.std.proofs.lemmas.Bool.{cases_eq, false≢true}
-use Rattle.tcmu_model.specs.Lists.{RisesAbove, IsRising}
-use Rattle.tcmu_model.specs.Events.{is_among}
+use Rattle.tcmu_types.specs.Numbers.{RisesAbove, IsRising, is_among}
 use Rattle.tcmu_model.specs.BlockLists.{least_free}
 use Rattle.data_blocks.specs.Bitmap.{chosen}
 use Rattle.data_blocks.proofs.Chosen.{among-here, among-there, chosen-below, chosen-among, chosen-rising, free-chosen}
-use Rattle.tcmu_model.proofs.Readings.{not_true}
-use Rattle.tcmu_model.proofs.Rises.{rising_rest, among-all}
+use Rattle.tcmu_types.proofs.Readings.{not_true}
+use Rattle.tcmu_types.proofs.Rises.{rising_rest, among-all}
 
 -- a number that is not held
 abbrev pub is_free : List ℕ → ℕ → Bool

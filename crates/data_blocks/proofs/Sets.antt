@@ -2,8 +2,7 @@
 use Rattle.std.proofs.Common.{◌≡◌, ◌≢◌, ℕ, ◌+◌, ◌-◌, ◌*◌, ◌≤◌, ◌<◌, ⊎_elim, Bool, true, false, not, ◌||◌, ◌&&◌, ◌==◌, max, List, [], ◌∷◌, length, replicate, Some, None, refl, sym, ap, ◌∙◌, arith, suc, zero}
 use Rattle.std.proofs.lemmas.Bool.{cases_eq, cases_lt, cases_Bool, and_parts, false≢true}
 use Rattle.std.proofs.lemmas.List.{length-replicate}
-use Rattle.tcmu_model.specs.Lists.{above_all}
-use Rattle.tcmu_model.specs.Events.{is_among}
+use Rattle.tcmu_types.specs.Numbers.{above_all, is_among}
 use Rattle.tcmu_model.specs.BlockLists.{free_from}
 use Rattle.data_blocks.specs.Bitmap.{is_set, set_below, first_clear, chosen}
 use Rattle.data_blocks.specs.Held.{Took, Gave}

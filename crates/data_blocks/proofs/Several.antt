@@ -1,12 +1,11 @@
 -- Blocks that are taken, or given back, one after another.
 use Rattle.std.proofs.Common.{◌≡◌, ◌≢◌, ℕ, ◌+◌, ◌<◌, Bool, true, false, not, ◌||◌, ◌&&◌, max, List, [], ◌∷◌, ◌++◌, length, length-append, slice_index, take, drop, drop-cons, add-one, refl, sym, ap, subst, ◌∙◌, arith, suc, zero}
-use Rattle.tcmu_model.specs.Lists.{above_all}
-use Rattle.tcmu_model.specs.Events.{is_among}
+use Rattle.tcmu_types.specs.Numbers.{above_all, is_among}
 use Rattle.tcmu_model.specs.BlockLists.{free_from}
 use Rattle.data_blocks.specs.Held.{HeldBlocks, AreHeld, Took, Gave}
 use Rattle.data_blocks.proofs.Chosen.{among-here, among-there}
 use Rattle.std.proofs.lemmas.Bool.{false≢true}
-use Rattle.tcmu_model.proofs.Rises.{among-append}
+use Rattle.tcmu_types.proofs.Rises.{among-append}
 
 above_all-append : (xs ys : List ℕ) → above_all (xs ++ ys) ≡ max (above_all xs) (above_all ys)
 above_all-append [] ys = omega arith

@@ -1,7 +1,6 @@
 -- The data blocks that are held, as a set of numbers below a limit.
 use Rattle.std.specs.Prelude.{◌≡◌, ℕ, ◌+◌, ◌-◌, ◌≤◌, ◌<◌, ◌||◌, ◌&&◌, not, max, true, false, List, [], ◌∷◌, length}
-use Rattle.tcmu_model.specs.Lists.{IsRising, above_all}
-use Rattle.tcmu_model.specs.Events.{is_among}
+use Rattle.tcmu_types.specs.Numbers.{IsRising, above_all, is_among}
 
 -- the held numbers, rising; how many blocks can still be taken without asking; and how many the data area has
 pub record HeldBlocks : Type 0 where

@@ -1,7 +1,6 @@
 //! The set of held blocks.
 ghost use Rattle.std.specs.Prelude.{◌≡◌, ◌+◌, ◌≤◌, ◌<◌, ◌||◌, ◌&&◌, ◌==◌, not, ℕ, true, max, nat_lt, [], ◌∷◌, ◌++◌, length, if◌then◌else◌, Ok, Err, IfOk};
-ghost use Rattle.tcmu_model.specs.Lists.{above_all};
-ghost use Rattle.tcmu_model.specs.Events.{is_among};
+ghost use Rattle.tcmu_types.specs.Numbers.{above_all, is_among};
 ghost use Rattle.tcmu_model.specs.BlockLists.{free_from, least_free};
 ghost use Rattle.data_blocks.specs.Held.{HeldBlocks, IsHeldBlocks, AreHeld, Took, Gave, free};
 

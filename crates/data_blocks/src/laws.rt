@@ -1,8 +1,7 @@
 //! The search for the least free number, equal to its plain definition, and what the least free numbers are.
 ghost use Rattle.std.specs.Prelude.{◌≡◌, ◌≢◌, ℕ, ◌*◌, ◌<◌, ◌≤◌, ◌==◌, true, false, List, length, slice_index, take};
 ghost use Rattle.std.specs.List.{list_all};
-ghost use Rattle.tcmu_model.specs.Lists.{IsRising};
-ghost use Rattle.tcmu_model.specs.Events.{is_among};
+ghost use Rattle.tcmu_types.specs.Numbers.{IsRising, is_among};
 ghost use Rattle.tcmu_model.specs.BlockLists.{least_free};
 ghost use Rattle.data_blocks.specs.Bitmap.{first_clear};
 

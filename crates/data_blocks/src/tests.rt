@@ -1,6 +1,6 @@
 //! The search beside the plain one, and blocks taken, given back and shrunk.
 ghost use Rattle.std.specs.Prelude.{◌≡◌, ◌||◌, ◌*◌, ◌≤◌, ℕ, length, IfOk};
-ghost use Rattle.tcmu_model.specs.Events.{is_among};
+ghost use Rattle.tcmu_types.specs.Numbers.{is_among};
 ghost use Rattle.tcmu_model.specs.BlockLists.{least_free};
 
 use crate::bitmap::{clear, is_set, set};

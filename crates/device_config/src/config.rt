@@ -2,19 +2,20 @@
 ghost use Rattle.std.specs.Prelude.{◌≡◌, ◌==◌, Some, None, IfOk, [], ◌&&◌};
 ghost use Rattle.std.specs.List.{list_all, position};
 ghost use Rattle.std.specs.Option.{option_map};
-ghost use Rattle.tcmu_model.specs.Fields.{number_of, name_of};
-ghost use Rattle.tcmu_model.specs.Words.{subtype_of};
-ghost use Rattle.tcmu_model.specs.Config.{ConfigData, is_colon, is_shown, part, is_file_name, memory_of, file_of, medium_of, path_of, parts_of, config_of};
-ghost use Rattle.tcmu_model.specs.ScenarioRules.{IsConfig};
-ghost use Rattle.tcmu_model.specs.declared.faults.ConfigFault.TheVariants as fault;
-ghost use Rattle.tcmu_model.specs.declared.words.Subtype.{Subtype};
+ghost use Rattle.text_model.specs.Fields.{name_of};
+ghost use Rattle.tcmu_types.specs.Decimals.{number_of};
+ghost use Rattle.text_model.specs.Words.{subtype_of};
+ghost use Rattle.text_model.specs.Config.{ConfigData, is_colon, is_shown, part, is_file_name, memory_of, file_of, medium_of, path_of, parts_of, config_of};
+ghost use Rattle.text_model.specs.ScenarioRules.{IsConfig};
+ghost use Rattle.text_model.specs.declared.faults.ConfigFault.TheVariants as fault;
+ghost use Rattle.text_model.specs.declared.words.Subtype.{Subtype};
 ghost use Rattle.device_config.specs.Giving.{Gives};
 ghost use Rattle.device_config.specs.Views.{medium_data};
 
 use crate::fields::{after_word, cut, is_text, name_of, number_of, rising_of};
 use std::alloc::Global;
 use std::marker::Model;
-use tcmu_model::{ConfigFault, Subtype};
+use text_model::{ConfigFault, Subtype};
 use tcmu_types::{Bytes, Name, NoMemory, Serials};
 
 /// What keeps a device's bytes: memory of so many logical blocks of 512 bytes, or the file of this name.
@@ -36,7 +37,7 @@ pub struct Config {
 }
 
 impl Model for Config {
-    ghost use Rattle.tcmu_model.specs.Config.{ConfigData};
+    ghost use Rattle.text_model.specs.Config.{ConfigData};
     ghost use Rattle.device_config.specs.Views.{medium_data};
 
     ghost Value = { ConfigData };
@@ -53,7 +54,7 @@ struct MediumPath {
 }
 
 impl Model for MediumPath {
-    ghost use Rattle.tcmu_model.specs.Config.{PathData};
+    ghost use Rattle.text_model.specs.Config.{PathData};
     ghost use Rattle.device_config.specs.Views.{medium_data};
 
     ghost Value = { PathData };
@@ -67,7 +68,7 @@ fn first_colon(text: &[u8]) -> Option<usize>
     text.iter().position(|c| *c == b':')
 }
 
-#[tactic(auto, unfolding(tcmu_model::specs::Words::subtype_of))]
+#[tactic(auto, unfolding(text_model::specs::Words::subtype_of))]
 fn subtype_of(text: &[u8]) -> Option<Subtype>
     ensures { result ≡ subtype_of text.now }
 {
@@ -109,7 +110,7 @@ fn file_of(alloc: Global, text: &[u8]) -> Result<Option<MediumKind>, NoMemory>
 }
 
 /// `mem/` or `file/` and its path.
-#[tactic(auto, unfolding(tcmu_model::specs::Config::medium_of))]
+#[tactic(auto, unfolding(text_model::specs::Config::medium_of))]
 fn medium_of(alloc: Global, text: &[u8]) -> Result<Option<MediumKind>, NoMemory>
     ensures { IfOk result (λ o. option_map medium_data o ≡ medium_of text.now) }
 {
@@ -123,7 +124,7 @@ fn medium_of(alloc: Global, text: &[u8]) -> Result<Option<MediumKind>, NoMemory>
 }
 
 /// The calls that fail, and the medium whose calls they are.
-#[tactic(auto, unfolding(tcmu_model::specs::Config::path_of))]
+#[tactic(auto, unfolding(text_model::specs::Config::path_of))]
 fn failing_path(alloc: Global, text: &[u8]) -> Result<Option<MediumPath>, NoMemory>
     ensures { IfOk result (λ o. o ≡ path_of Subtype.Fail text.now) }
 {
@@ -153,7 +154,7 @@ fn plain_path(alloc: Global, kind: Option<MediumKind>, protected: bool) -> Optio
     })
 }
 
-#[tactic(auto, unfolding(tcmu_model::specs::Config::path_of))]
+#[tactic(auto, unfolding(text_model::specs::Config::path_of))]
 fn path_of(alloc: Global, subtype: Subtype, text: &[u8]) -> Result<Option<MediumPath>, NoMemory>
     ensures { IfOk result (λ o. o ≡ path_of subtype text.now) }
 {
@@ -189,7 +190,7 @@ fn subtype_part(text: &[u8]) -> Result<(Subtype, &[u8]), ConfigFault>
     Ok((subtype, rest))
 }
 
-#[tactic(auto, unfolding(tcmu_model::specs::Config::parts_of))]
+#[tactic(auto, unfolding(text_model::specs::Config::parts_of))]
 fn parts_of(alloc: Global, text: &[u8]) -> Result<Config, ConfigFault>
     ensures { Gives (λ x. x) result (parts_of text.now) }
 {
@@ -212,7 +213,7 @@ fn parts_of(alloc: Global, text: &[u8]) -> Result<Config, ConfigFault>
 }
 
 /// As `parse_config`, of bytes that may be no text.
-#[tactic(auto, unfolding(tcmu_model::specs::Config::config_of))]
+#[tactic(auto, unfolding(text_model::specs::Config::config_of))]
 pub fn config_of_bytes(alloc: Global, text: &[u8]) -> Result<Config, ConfigFault>
     ensures reading { Gives (λ config. config) result (config_of text.now) }
     ensures limits { IfOk result IsConfig }

@@ -3,8 +3,11 @@ ghost use Rattle.std.specs.Prelude.{◌≡◌, ◌+◌, ◌*◌, ◌^◌, ◌<�
 ghost use Rattle.std.specs.List.{list_all, position};
 ghost use Rattle.std.specs.Option.{option_map};
 ghost use Rattle.tcmu_types.specs.declared.settings.Flags.{Flags};
-ghost use Rattle.tcmu_model.specs.Reading.{each};
-ghost use Rattle.tcmu_model.specs.Fields.{cut_at, pieces, name_of, is_digit, is_number, number_of, is_rising, rising_of, hex_value, hex_pair, bytes_of_hex, cdb_of, after_word, run_of, runs_of, with_flag, with_flags, no_flags, flags_of, serials_of};
+ghost use Rattle.tcmu_types.specs.Reading.{each};
+ghost use Rattle.text_model.specs.Fields.{name_of, cdb_of, run_of, runs_of, with_flag, with_flags, no_flags, flags_of, serials_of};
+ghost use Rattle.tcmu_types.specs.Hex.{hex_value, hex_pair, bytes_of_hex};
+ghost use Rattle.tcmu_types.specs.Decimals.{is_digit, is_number, number_of, is_rising, rising_of};
+ghost use Rattle.tcmu_types.specs.Fields.{cut_at, pieces, after_word};
 
 use std::alloc::Global;
 use tcmu_types::{Bytes, Cdb, Flags, MOST_PAYLOAD, Name, NoMemory, Serials};
@@ -24,7 +27,7 @@ fn place_of(bytes: &[u8], at: u8) -> Option<usize>
 }
 
 /// What stands before and behind the first such byte; None where there is none.
-#[tactic(auto, unfolding(tcmu_model::specs::Fields::cut_at))]
+#[tactic(auto, unfolding(tcmu_types::specs::Fields::cut_at))]
 pub fn cut(bytes: &[u8], at: u8) -> Option<(&[u8], &[u8])>
     ensures value { option_map (λ p. (p.0.now, p.1.now)) result ≡ cut_at at bytes.now }
     ensures found { IfSome result (λ p. pieces at bytes.now ≡ p.0.now ∷ pieces at p.1.now) }
@@ -134,7 +137,7 @@ fn is_rising(numbers: &[u64]) -> bool
 }
 
 /// 1 to 64 rising numbers from 1 to `high`, with such a byte between them; None where the text is none.
-#[tactic(auto, unfolding(tcmu_model::specs::Fields::rising_of))]
+#[tactic(auto, unfolding(tcmu_types::specs::Decimals::rising_of))]
 pub fn rising_of(alloc: Global, at: u8, high: u64, text: &[u8]) -> Result<Option<Serials>, NoMemory>
     requires { high < 2 ^ 60 }
     ensures { IfOk result (λ o. option_map (λ s. s.items) o ≡ rising_of at high text.now) }
@@ -189,7 +192,7 @@ fn bytes_of_hex(alloc: Global, text: &[u8]) -> Result<Option<Vec<u8>>, NoMemory>
 
 /// The command descriptor block that pairs of lower-case hexadecimal digits spell; None where they spell no bytes, or not as many as
 /// the group of its operation code has.
-#[tactic(auto, unfolding(tcmu_model::specs::Fields::cdb_of))]
+#[tactic(auto, unfolding(text_model::specs::Fields::cdb_of))]
 pub fn cdb_of(alloc: Global, text: &[u8]) -> Result<Option<Cdb>, NoMemory>
     ensures { IfOk result (λ o. o ≡ cdb_of text.now) }
 {
@@ -278,7 +281,7 @@ fn with_flags(text: &[u8]) -> Option<Flags>
 }
 
 /// `none`, or the flags' words with commas between them, each once; None where the text is none.
-#[tactic(auto, unfolding(tcmu_model::specs::Fields::flags_of))]
+#[tactic(auto, unfolding(text_model::specs::Fields::flags_of))]
 pub fn flags_of(text: &[u8]) -> Option<Flags>
     ensures { result ≡ flags_of text.now }
 {
@@ -289,7 +292,7 @@ pub fn flags_of(text: &[u8]) -> Option<Flags>
 }
 
 /// `none`, or rising serials with commas between them; None where the text is none.
-#[tactic(auto, unfolding(tcmu_model::specs::Fields::serials_of))]
+#[tactic(auto, unfolding(text_model::specs::Fields::serials_of))]
 pub fn serials_of(alloc: Global, text: &[u8]) -> Result<Option<Serials>, NoMemory>
     ensures { IfOk result (λ o. option_map (λ s. s.items) o ≡ serials_of text.now) }
 {

@@ -8,4 +8,4 @@ pub mod fields;
 mod tests;
 
 pub use config::{Config, MediumKind, config_of_bytes, parse_config};
-pub use tcmu_model::ConfigFault;
+pub use text_model::ConfigFault;

@@ -5,15 +5,17 @@ use Rattle.std.proofs.lemmas.List.{take_at, drop_at, append-nil}
 use Rattle.tcmu_types.specs.Data.{ReplyData}
 use Rattle.tcmu_types.specs.declared.iovec.Iov.{Iov}
 use Rattle.tcmu_model.specs.Lengths.{tmr_length}
-use Rattle.tcmu_model.specs.Layout.{le, put, zeros, padded, field, entry_header, command_bytes, command_length, pad_bytes, tmr_bytes, ids_bytes, answer_bytes, with_response, sense_buffer}
-use Rattle.tcmu_model.specs.EntryReading.{iov_at, tmr_id_at, response_at, limit_of, entry_read}
-use Rattle.tcmu_model.specs.EntryWriting.{IsRequest}
-use Rattle.tcmu_model.specs.UserNext.{iovs_in}
-use Rattle.tcmu_model.specs.declared.mailbox.Mailbox.{Mailbox}
-use Rattle.tcmu_model.specs.declared.entry.EntryRef.TheVariants.{Pad, Cmd, Tmr}
-use Rattle.tcmu_model.proofs.Written.{lengths, length-padded, length-put, length-entry_header, field-in, field-put, field-front, field-rest, field-before, drop-put}
-use Rattle.tcmu_model.proofs.PartLengths.{length-pad, length-ids_bytes, length-note, length-request, length-sense}
-use Rattle.tcmu_model.proofs.EntriesThere.{IsThere, field_there, pad_there, request_there, note_there}
+use Rattle.region_model.specs.Layout.{entry_header, command_bytes, command_length, pad_bytes, tmr_bytes, ids_bytes, answer_bytes, with_response, sense_buffer}
+use Rattle.tcmu_types.specs.ByteFields.{le, put, zeros, padded, field}
+use Rattle.region_model.specs.EntryReading.{iov_at, tmr_id_at, response_at, limit_of, entry_read}
+use Rattle.region_model.specs.EntryWriting.{IsRequest}
+use Rattle.region_model.specs.UserNext.{iovs_in}
+use Rattle.region_model.specs.declared.mailbox.Mailbox.{Mailbox}
+use Rattle.region_model.specs.declared.entry.EntryRef.TheVariants.{Pad, Cmd, Tmr}
+use Rattle.tcmu_types.proofs.ByteFields.{lengths, length-padded, length-put, field-in, field-put, field-front, field-rest, field-before, drop-put}
+use Rattle.region_model.proofs.HeaderLengths.{length-entry_header}
+use Rattle.region_model.proofs.PartLengths.{length-pad, length-ids_bytes, length-note, length-request, length-sense}
+use Rattle.region_model.proofs.EntriesThere.{IsThere, field_there, pad_there, request_there, note_there}
 use Rattle.entry_codec.specs.Again.{HoldsIovs, AreIds, HoldsIds}
 
 -- what was written stands where it was written

@@ -5,16 +5,16 @@ use Rattle.std.proofs.lemmas.Bool.{cases_lt}
 use Rattle.std.proofs.lemmas.Bool.Decides.{nat_tests}
 use Rattle.tcmu_types.specs.Rules.{group_length}
 use Rattle.tcmu_types.specs.declared.iovec.Iov.{Iov}
-use Rattle.tcmu_model.specs.Layout.{data_start}
-use Rattle.tcmu_model.specs.EntryReading.{op_at, len_at, id_at, iov_cnt_at, bidi_cnt_at, dif_cnt_at, cdb_off_at, iov_at, kind_at, id_cnt_at, lies_inside, first_outside, cdb_at, where_outside, with_cdb, command_read, tmr_read, limit_of, least_of, kind_read, sized_read, entry_read, LiesInside, CdbInside, BreaksCounts, BreaksEntry, entry_rank, IsFirstEntryFault, SaysEntry, ReadsEntry, KeepsBounds}
-use Rattle.tcmu_model.specs.declared.mailbox.Mailbox.{Mailbox}
-use Rattle.tcmu_model.specs.declared.entry.EntryRef.{EntryRef}
-use Rattle.tcmu_model.specs.declared.entry.EntryRef.TheVariants.{Pad, Cmd, Tmr, Unknown}
-use Rattle.tcmu_model.specs.declared.entry.EntryFault.{EntryFault}
-use Rattle.tcmu_model.specs.declared.entry.EntryFault.TheVariants.{BadLength, PastEnd, BadCount, CdbOutside, IovOutside}
-use Rattle.tcmu_model.proofs.Guards.{differs, is_same, is_below, not_below, is_most, not_most}
+use Rattle.region_model.specs.Layout.{data_start}
+use Rattle.region_model.specs.EntryReading.{op_at, len_at, id_at, iov_cnt_at, bidi_cnt_at, dif_cnt_at, cdb_off_at, iov_at, kind_at, id_cnt_at, lies_inside, first_outside, cdb_at, where_outside, with_cdb, command_read, tmr_read, limit_of, least_of, kind_read, sized_read, entry_read, LiesInside, CdbInside, BreaksCounts, BreaksEntry, entry_rank, IsFirstEntryFault, SaysEntry, ReadsEntry, KeepsBounds}
+use Rattle.region_model.specs.declared.mailbox.Mailbox.{Mailbox}
+use Rattle.region_model.specs.declared.entry.EntryRef.{EntryRef}
+use Rattle.region_model.specs.declared.entry.EntryRef.TheVariants.{Pad, Cmd, Tmr, Unknown}
+use Rattle.region_model.specs.declared.entry.EntryFault.{EntryFault}
+use Rattle.region_model.specs.declared.entry.EntryFault.TheVariants.{BadLength, PastEnd, BadCount, CdbOutside, IovOutside}
+use Rattle.tcmu_types.proofs.Guards.{differs, is_same, is_below, not_below, is_most, not_most}
 use Rattle.mailbox_bytes.proofs.Exact.{kept, past}
-use Rattle.tcmu_model.proofs.EntriesThere.{least_eight}
+use Rattle.region_model.proofs.EntriesThere.{least_eight}
 
 -- ==== the search for an iovec that lies outside
 

@@ -3,10 +3,10 @@ use Rattle.std.proofs.Common.{◌≡◌, ℕ, ◌+◌, ◌-◌, ◌*◌, ◌<◌
 use Rattle.std.proofs.Math.Seq.{drop-cons}
 use Rattle.std.proofs.lemmas.List.{length-drop, drop_all}
 use Rattle.tcmu_types.specs.declared.iovec.Iov.{Iov}
-use Rattle.tcmu_model.specs.Layout.{le, put}
-use Rattle.tcmu_model.proofs.Written.{lengths, then_put, put-put, put-nothing}
-use Rattle.tcmu_model.specs.Layout.{iovs_bytes, ids_bytes}
-use Rattle.tcmu_model.proofs.PartLengths.{length-iovs_bytes, length-ids_bytes}
+use Rattle.tcmu_types.specs.ByteFields.{le, put}
+use Rattle.tcmu_types.proofs.ByteFields.{lengths, then_put, put-put, put-nothing}
+use Rattle.region_model.specs.Layout.{iovs_bytes, ids_bytes}
+use Rattle.region_model.proofs.PartLengths.{length-iovs_bytes, length-ids_bytes}
 
 -- one iovec more
 pub iovs_step : (items : List Iov) (i : ℕ) (d : Iov) (f f1 f2 : List ℕ) (at at8 at16 : ℕ) → i < length items

@@ -1,7 +1,7 @@
 -- Steps of the search for an iovec that lies outside.
 use Rattle.std.proofs.Common.{◌≡◌, ℕ, suc, ◌+◌, ◌-◌, ◌<◌, ◌≤◌, List, Some, None, cond, refl, ap, ◌∙◌, sym, arith, true, false}
 use Rattle.tcmu_types.specs.declared.iovec.Iov.{Iov}
-use Rattle.tcmu_model.specs.EntryReading.{iov_at, lies_inside, first_outside}
+use Rattle.region_model.specs.EntryReading.{iov_at, lies_inside, first_outside}
 
 -- one step of the search
 outside_step : (front : List ℕ) (b low high i n : ℕ) → i < n

@@ -2,9 +2,11 @@
 use Rattle.std.proofs.Common.{◌≡◌, ℕ, ◌+◌, ◌-◌, ◌*◌, ◌≤◌, List, ◌++◌, length, refl, ap, ◌∙◌, arith}
 use Rattle.tcmu_types.specs.declared.iovec.Iov.{Iov}
 use Rattle.tcmu_model.specs.Lengths.{round_up, tmr_length}
-use Rattle.tcmu_model.specs.Layout.{le, put, zeros, padded, entry_header, command_head, command_bytes, command_length, cdb_place, tmr_bytes, iovs_bytes, ids_bytes}
-use Rattle.tcmu_model.proofs.Written.{lengths, then_put, length-entry_header, length-command_head, padded-is, length-padded}
-use Rattle.tcmu_model.proofs.PartLengths.{length-iovs_bytes, length-ids_bytes}
+use Rattle.region_model.specs.Layout.{entry_header, command_head, command_bytes, command_length, cdb_place, tmr_bytes, iovs_bytes, ids_bytes}
+use Rattle.tcmu_types.specs.ByteFields.{le, put, zeros, padded}
+use Rattle.tcmu_types.proofs.ByteFields.{lengths, then_put, padded-is, length-padded}
+use Rattle.region_model.proofs.HeaderLengths.{length-entry_header, length-command_head}
+use Rattle.region_model.proofs.PartLengths.{length-iovs_bytes, length-ids_bytes}
 
 ruleset sizes = (lengths, length-entry_header, length-command_head)
 

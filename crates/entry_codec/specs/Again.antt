@@ -3,11 +3,12 @@ use Rattle.std.specs.Prelude.{◌≡◌, ℕ, ◌+◌, ◌^◌, ◌%◌, ◌≤�
 use Rattle.tcmu_types.specs.Data.{ReplyData}
 use Rattle.tcmu_types.specs.declared.iovec.Iov.{Iov}
 use Rattle.tcmu_model.specs.Lengths.{tmr_length}
-use Rattle.tcmu_model.specs.Layout.{put, padded, ring_start, pad_bytes, command_length, command_bytes, tmr_bytes, length_flag, sense_buffer, with_response}
-use Rattle.tcmu_model.specs.EntryReading.{entry_read, limit_of, iov_at, tmr_id_at, response_at}
-use Rattle.tcmu_model.specs.declared.mailbox.Mailbox.{Mailbox}
-use Rattle.tcmu_model.specs.declared.entry.EntryRef.TheVariants.{Pad, Cmd, Tmr}
-use Rattle.tcmu_model.specs.EntryWriting.{IsRequest}
+use Rattle.region_model.specs.Layout.{ring_start, pad_bytes, command_length, command_bytes, tmr_bytes, length_flag, sense_buffer, with_response}
+use Rattle.tcmu_types.specs.ByteFields.{put, padded}
+use Rattle.region_model.specs.EntryReading.{entry_read, limit_of, iov_at, tmr_id_at, response_at}
+use Rattle.region_model.specs.declared.mailbox.Mailbox.{Mailbox}
+use Rattle.region_model.specs.declared.entry.EntryRef.TheVariants.{Pad, Cmd, Tmr}
+use Rattle.region_model.specs.EntryWriting.{IsRequest}
 
 -- the slots from an index on hold these iovecs
 abbrev pub HoldsIovs : List ℕ → ℕ → ℕ → List Iov → Type 0

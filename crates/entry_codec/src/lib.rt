@@ -11,5 +11,5 @@ mod writing;
 
 pub use laws::{pads_again, requests_again, responses_again, tmrs_again};
 pub use reading::{read_entry, read_iov, read_response, read_tmr_id};
-pub use tcmu_model::{EntryFault, EntryRef, Response};
+pub use region_model::{EntryFault, EntryRef, Response};
 pub use writing::{write_pad, write_request, write_response, write_tmr};

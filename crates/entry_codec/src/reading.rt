@@ -1,8 +1,8 @@
 //! Reading entries that anyone may have written. Every `at` is a byte offset in the ring, which begins at byte 128 of the front.
 ghost use Rattle.std.specs.Prelude.{◌≡◌, ◌+◌, ◌-◌, ◌*◌, ◌%◌, ◌≤◌, ◌<◌, length, IfOk};
-ghost use Rattle.tcmu_model.specs.Layout.{ring_start, data_start};
-ghost use Rattle.tcmu_model.specs.MailboxReading.{IsMailbox};
-ghost use Rattle.tcmu_model.specs.EntryReading.{iov_at, lies_inside, tmr_id_at, first_outside, cdb_at, command_read, tmr_read, limit_of, least_of, kind_read, sized_read, entry_read, response_at, ReadsEntry, KeepsBounds};
+ghost use Rattle.region_model.specs.Layout.{ring_start, data_start};
+ghost use Rattle.region_model.specs.MailboxReading.{IsMailbox};
+ghost use Rattle.region_model.specs.EntryReading.{iov_at, lies_inside, tmr_id_at, first_outside, cdb_at, command_read, tmr_read, limit_of, least_of, kind_read, sized_read, entry_read, response_at, ReadsEntry, KeepsBounds};
 
 use crate::fields::{
     BIDI_COUNT, CDB_OFFSET, COMMAND, HEADER_LEN, ID, ID_COUNT, IDS, IOV_COUNT, IOV_LEN, IOVECS,
@@ -10,11 +10,11 @@ use crate::fields::{
 };
 use mailbox_bytes::MAILBOX_LEN;
 use mailbox_bytes::fields::{le_u16_at, le_u32_at, le_u64_at, u8_at};
-use tcmu_model::{EntryFault, EntryRef, Mailbox, Response};
+use region_model::{EntryFault, EntryRef, Mailbox, Response};
 use tcmu_types::{Cdb, Iov, PAGE, group_length};
 
 /// The iovec of this number, from 0, of the command's entry at ring offset `at`, which lies in `front`, whatever its bytes say.
-#[tactic(auto, unfolding(tcmu_model::specs::EntryReading::iov_at))]
+#[tactic(auto, unfolding(region_model::specs::EntryReading::iov_at))]
 pub fn read_iov(front: &[u8], at: u32, index: u32) -> Iov
     requires { ring_start + at + 64 + 16 * index ≤ length front.now }
     ensures { result ≡ iov_at front.now (ring_start + at) index }
@@ -28,7 +28,7 @@ pub fn read_iov(front: &[u8], at: u32, index: u32) -> Iov
 
 /// The id of this number, from 0, in the task management entry at ring offset `at` (from byte 32 on, two bytes each), which lies in
 /// `front`.
-#[tactic(auto, unfolding(tcmu_model::specs::EntryReading::tmr_id_at))]
+#[tactic(auto, unfolding(region_model::specs::EntryReading::tmr_id_at))]
 pub fn read_tmr_id(front: &[u8], at: u32, index: u32) -> u16
     requires { ring_start + at + 34 + 2 * index ≤ length front.now }
     ensures { result ≡ tmr_id_at front.now (ring_start + at) index }
@@ -62,7 +62,7 @@ fn first_outside(front: &[u8], at: u32, count: u32, low: u64, area: u64) -> Opti
 }
 
 /// The CDB at a byte, if it lies in a range of bytes.
-#[tactic(auto, unfolding(tcmu_model::specs::EntryReading::cdb_at))]
+#[tactic(auto, unfolding(region_model::specs::EntryReading::cdb_at))]
 fn cdb_at(front: &[u8], low: u64, high: u64, off: u64) -> Option<Cdb>
     requires { high ≤ length front.now }
     ensures { result ≡ cdb_at front.now low high off }
@@ -78,7 +78,7 @@ fn cdb_at(front: &[u8], low: u64, high: u64, off: u64) -> Option<Cdb>
 }
 
 /// The command's entry at ring offset `at`, of `len` bytes, or the first rule that it breaks.
-#[tactic(auto, unfolding(tcmu_model::specs::EntryReading::command_read))]
+#[tactic(auto, unfolding(region_model::specs::EntryReading::command_read))]
 fn read_cmd(
     front: &[u8],
     area: u64,
@@ -122,7 +122,7 @@ fn read_cmd(
 }
 
 /// The task management entry at ring offset `at`, of `len` bytes, or the rule that it breaks.
-#[tactic(auto, unfolding(tcmu_model::specs::EntryReading::tmr_read))]
+#[tactic(auto, unfolding(region_model::specs::EntryReading::tmr_read))]
 fn read_tmr(front: &[u8], at: u32, len: u32) -> Result<EntryRef, EntryFault>
     requires least { 32 ≤ len }
     requires inside { ring_start + at + len ≤ length front.now }
@@ -141,7 +141,7 @@ fn read_tmr(front: &[u8], at: u32, len: u32) -> Result<EntryRef, EntryFault>
 }
 
 /// How many bytes an entry at this place may have: up to the head where that is behind it, else up to the ring's end.
-#[tactic(auto, unfolding(tcmu_model::specs::EntryReading::limit_of))]
+#[tactic(auto, unfolding(region_model::specs::EntryReading::limit_of))]
 fn limit_of(mailbox: &Mailbox, at: u32) -> u32
     requires ring { at < mailbox.now.cmdr_size }
     requires head { mailbox.now.head < mailbox.now.cmdr_size }
@@ -156,7 +156,7 @@ fn limit_of(mailbox: &Mailbox, at: u32) -> u32
 }
 
 /// The least bytes of an entry of this opcode.
-#[tactic(auto, unfolding(tcmu_model::specs::EntryReading::least_of))]
+#[tactic(auto, unfolding(region_model::specs::EntryReading::least_of))]
 fn least_of(op: u8) -> u32
     ensures { result ≡ least_of op }
 {
@@ -168,7 +168,7 @@ fn least_of(op: u8) -> u32
 }
 
 /// The entry of this opcode, long enough for it and inside the ring.
-#[tactic(auto, unfolding(tcmu_model::specs::EntryReading::kind_read, tcmu_model::specs::EntryReading::least_of))]
+#[tactic(auto, unfolding(region_model::specs::EntryReading::kind_read, region_model::specs::EntryReading::least_of))]
 fn read_kind(
     front: &[u8],
     area: u64,
@@ -190,7 +190,7 @@ fn read_kind(
 }
 
 /// The entry of this opcode and length, where the length is one that it may have.
-#[tactic(auto, unfolding(tcmu_model::specs::EntryReading::sized_read))]
+#[tactic(auto, unfolding(region_model::specs::EntryReading::sized_read))]
 fn read_sized(
     front: &[u8],
     area: u64,
@@ -217,7 +217,7 @@ fn read_sized(
 /// The entry at ring offset `at`, or the first rule of `EntryFault` that it breaks. `front` is the region before the data area, `area` how
 /// many bytes the data area has. Any bytes may stand there. `at` is a multiple of 8 below the ring's size, `mailbox` is one that
 /// `mailbox_bytes::read` accepted, and `front` has all of the region before the data area.
-#[tactic(auto, unfolding(tcmu_model::specs::EntryReading::entry_read))]
+#[tactic(auto, unfolding(region_model::specs::EntryReading::entry_read))]
 pub fn read_entry(
     front: &[u8],
     area: u64,
@@ -237,7 +237,7 @@ pub fn read_entry(
 }
 
 /// The response in the command's entry at ring offset `at` (its bytes 4 to 111), which lies in `front`, whatever these bytes say.
-#[tactic(auto, unfolding(tcmu_model::specs::EntryReading::response_at))]
+#[tactic(auto, unfolding(region_model::specs::EntryReading::response_at))]
 pub fn read_response(front: &[u8], at: u32) -> Response
     requires { ring_start + at + 112 ≤ length front.now }
     ensures { result ≡ response_at front.now (ring_start + at) }

@@ -2,7 +2,8 @@
 //! is a byte offset in the ring, which begins at byte 128 of the front.
 ghost use Rattle.std.specs.Prelude.{◌≡◌, ◌+◌, ◌-◌, ◌*◌, ◌%◌, ◌^◌, ◌≤◌, ◌<◌, length};
 ghost use Rattle.tcmu_model.specs.Lengths.{round_up, tmr_length};
-ghost use Rattle.tcmu_model.specs.Layout.{ring_start, put, padded, entry_header, pad_bytes, tmr_bytes, command_bytes, command_head, command_length, answer_bytes, iovs_bytes, ids_bytes, with_response};
+ghost use Rattle.region_model.specs.Layout.{ring_start, entry_header, pad_bytes, tmr_bytes, command_bytes, command_head, command_length, answer_bytes, iovs_bytes, ids_bytes, with_response};
+ghost use Rattle.tcmu_types.specs.ByteFields.{put, padded};
 
 use crate::fields::{
     BIDI_COUNT, CDB_OFFSET, COMMAND, ID, ID_COUNT, IDS, IOV_COUNT, IOV_LEN, IOVECS, LEAST_COMMAND,

@@ -3,7 +3,7 @@ use Rattle.std.proofs.Common.{◌∙◌, ◌≡◌, ℕ, zero, suc, ◌+◌, ◌
 use Rattle.std.proofs.lemmas.List.{length-append}
 use Rattle.tcmu_types.specs.Overwriting.{overwritten}
 use Rattle.tcmu_types.proofs.Overwriting.{overwritten_more}
-use Rattle.tcmu_model.specs.Medium.{repeated}
+use Rattle.scsi_model.specs.Medium.{repeated}
 
 pub length_repeated : (n : ℕ) (block : List ℕ) → length block ≡ 512 → length (repeated n block) ≡ 512 * n
 length_repeated zero block l = refl

@@ -3,7 +3,7 @@ ghost use Rattle.std.specs.Prelude.{◌≡◌, ℕ, ◌+◌, ◌*◌, ◌%◌, �
 ghost use Rattle.tcmu_types.specs.Numbered.{HasCause};
 ghost use Rattle.edge.specs.Outside.{CountsFailed};
 ghost use Rattle.tcmu_model.specs.MediumState.{MediumState};
-ghost use Rattle.tcmu_model.specs.Medium.{Reads, Writes, Fills, Syncs};
+ghost use Rattle.scsi_model.specs.Medium.{Reads, Writes, Fills, Syncs};
 
 use edge::Failed;
 

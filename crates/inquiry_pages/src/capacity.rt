@@ -1,6 +1,6 @@
 //! Capacities, in logical blocks of 512 bytes.
 ghost use Rattle.std.specs.Prelude.{◌≡◌, ◌-◌, ◌≤◌, nat_lt, if◌then◌else◌};
-ghost use Rattle.tcmu_model.specs.Pages.{capacity10, capacity16};
+ghost use Rattle.scsi_model.specs.Pages.{capacity10, capacity16};
 
 use byteorder::{BigEndian, ByteOrder};
 use tcmu_types::LOGICAL_BLOCK;
@@ -18,7 +18,7 @@ fn last_address(blocks: u64) -> u32
 }
 
 /// READ CAPACITY(10) data (SBC-3) of a medium of so many blocks.
-#[tactic(auto, unfolding(tcmu_model::specs::Pages::capacity10))]
+#[tactic(auto, unfolding(scsi_model::specs::Pages::capacity10))]
 pub fn capacity10(blocks: u64) -> [u8; 8]
     requires { 1 ≤ blocks }
     ensures { result ≡ capacity10 blocks }
@@ -30,7 +30,7 @@ pub fn capacity10(blocks: u64) -> [u8; 8]
 }
 
 /// READ CAPACITY(16) data (SBC-3) of a medium of so many blocks; it reports no provisioning.
-#[tactic(auto, unfolding(tcmu_model::specs::Pages::capacity16))]
+#[tactic(auto, unfolding(scsi_model::specs::Pages::capacity16))]
 pub fn capacity16(blocks: u64) -> [u8; 32]
     requires { 1 ≤ blocks }
     ensures { result ≡ capacity16 blocks }

@@ -1,17 +1,15 @@
 //! INQUIRY data: the standard data, and the pages of vital product data.
 ghost use Rattle.std.specs.Prelude.{◌≡◌, ◌≤◌, ◌<◌, ◌++◌, length, IsTrue, IfOk};
-ghost use Rattle.tcmu_model.specs.Pages.{standard_inquiry, vpd_page, vital_page, designator, vendor, block_limits};
-ghost use Rattle.tcmu_model.specs.Decoding.{is_vpd_page};
+ghost use Rattle.scsi_model.specs.Pages.{standard_inquiry, vpd_page, vital_page, designator, vendor, block_limits};
+ghost use Rattle.scsi_model.specs.Decoding.{is_vpd_page};
 
 use byteorder::{BigEndian, ByteOrder};
 use std::alloc::Global;
-use tcmu_model::{
-    MAXIMUM_UNMAP_DESCRIPTOR_COUNT, MAXIMUM_UNMAP_LBA_COUNT, MAXIMUM_WRITE_SAME_LENGTH,
-};
+use scsi_model::{MAXIMUM_UNMAP_DESCRIPTOR_COUNT, MAXIMUM_UNMAP_LBA_COUNT, MAXIMUM_WRITE_SAME_LENGTH};
 use tcmu_types::{Bytes, Name, NoMemory};
 
 /// Standard INQUIRY data, 36 bytes (SPC-4): a direct access block device, with VERSION 05h (SPC-3).
-#[tactic(auto, unfolding(tcmu_model::specs::Pages::standard_inquiry))]
+#[tactic(auto, unfolding(scsi_model::specs::Pages::standard_inquiry))]
 pub fn standard_inquiry() -> [u8; 36]
     ensures { result ≡ standard_inquiry }
 {
@@ -62,7 +60,7 @@ fn block_limits() -> [u8; 60]
 
 /// The page of vital product data of the device of this name, with its header: 00h Supported VPD Pages, 80h Unit Serial Number or 83h
 /// Device Identification (SPC-4), or B0h Block Limits (SBC-3).
-#[tactic(auto, unfolding(tcmu_model::specs::Pages::vpd_page))]
+#[tactic(auto, unfolding(scsi_model::specs::Pages::vpd_page))]
 pub fn vpd_page(alloc: Global, name: &Name, page: u8) -> Result<Bytes, NoMemory>
     requires { IsTrue (is_vpd_page page) }
     ensures { IfOk result (λ bytes. bytes.items ≡ vpd_page name.now page) }

@@ -1,7 +1,7 @@
 //! MODE SENSE(6) data: the header, and the caching and control pages.
 ghost use Rattle.std.specs.Prelude.{◌≡◌, ◌≤◌, ◌+◌, ◌++◌, [], ◌∷◌, length, IsTrue, IfOk, if◌then◌else◌};
-ghost use Rattle.tcmu_model.specs.Pages.{mode_sense, mode_pages};
-ghost use Rattle.tcmu_model.specs.Decoding.{is_mode_page};
+ghost use Rattle.scsi_model.specs.Pages.{mode_sense, mode_pages};
+ghost use Rattle.scsi_model.specs.Decoding.{is_mode_page};
 
 use std::alloc::Global;
 use tcmu_types::{Bytes, NoMemory};
@@ -34,7 +34,7 @@ fn with_header(
 
 /// MODE SENSE(6) data (SPC-4) of the Caching (08h, SBC-3) or the Control mode page (0Ah, SPC-4), or of both (3Fh), with WP where the
 /// medium is protected.
-#[tactic(auto, unfolding(tcmu_model::specs::Pages::mode_sense))]
+#[tactic(auto, unfolding(scsi_model::specs::Pages::mode_sense))]
 pub fn mode_sense(alloc: Global, page: u8, protected: bool) -> Result<Bytes, NoMemory>
     requires { IsTrue (is_mode_page page) }
     ensures { IfOk result (λ bytes. bytes.items ≡ mode_sense page protected) }

@@ -7,9 +7,9 @@ use Rattle.iovec_scatter.proofs.Steps.{rest_of}
 use Rattle.std.proofs.lemmas.Bool.Decides.{nat_tests}
 use Rattle.tcmu_types.specs.declared.iovec.Iov.{Iov}
 use Rattle.iovec_scatter.specs.Ends.{EndsAlong}
-use Rattle.tcmu_model.specs.Iovecs.{piece, joined, merged, iovs_along, EndBelow, total_of, along, payload_along, AreApart, Covers}
+use Rattle.region_model.specs.Iovecs.{piece, joined, merged, iovs_along, EndBelow, total_of, along, payload_along, AreApart, Covers}
 use Rattle.iovec_scatter.specs.Growing.{grown, Ends, before}
-use Rattle.tcmu_model.proofs.Iovecs.{total_merged}
+use Rattle.region_model.proofs.Iovecs.{total_merged}
 
 touches : (a b : ℕ) → a == b ≡ true → a ≡ b
 touches a b test = grind (arith, nat_tests)

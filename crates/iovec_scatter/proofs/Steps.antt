@@ -1,13 +1,11 @@
 -- One step along blocks.
-use Rattle.std.proofs.Common.{◌≡◌, ℕ, ◌+◌, ◌-◌, ◌<◌, ◌≤◌, List, ◌∷◌, ◌++◌, length, drop, take, get_or, min, ap, ◌∙◌, sym, arith, add-one, append_assoc, [], refl}
+use Rattle.std.proofs.Common.{◌≡◌, ℕ, ◌+◌, ◌-◌, ◌<◌, ◌≤◌, List, ◌∷◌, ◌++◌, length, drop, take, get_or, min, ap, ◌∙◌, sym, arith, add-one, append_assoc, [], refl, ⊎_elim}
 use Rattle.std.proofs.Math.Seq.{drop-cons, take-append-add}
-use Rattle.std.proofs.lemmas.List.{length-take, take_all, take-append-le}
+use Rattle.std.proofs.lemmas.List.{length-take, take_all, take-append-le, append-nil}
 use Rattle.std.proofs.lemmas.Bool.{cases_lt}
-use Rattle.std.proofs.Common.{⊎_elim}
-use Rattle.tcmu_model.specs.Layout.{put}
-use Rattle.tcmu_model.proofs.Written.{take-put, length-put}
-use Rattle.std.proofs.lemmas.List.{append-nil}
-use Rattle.tcmu_model.specs.Iovecs.{scattered, gathered, room_of}
+use Rattle.tcmu_types.specs.ByteFields.{put}
+use Rattle.tcmu_types.proofs.ByteFields.{take-put, length-put}
+use Rattle.region_model.specs.Iovecs.{scattered, gathered, room_of}
 
 -- what is left of a list, one item on
 pub rest_of : {X : Type 0} (items : List X) (i : ℕ) (d : X) → i < length items → drop i items ≡ get_or items i d ∷ drop (i + 1) items

@@ -1,6 +1,6 @@
 -- Where the iovecs along blocks end.
 use Rattle.std.specs.Prelude.{ℕ, ◌+◌, ◌*◌, ◌^◌, ◌<◌, List, [], ◌∷◌}
-use Rattle.tcmu_model.specs.Iovecs.{iovs_along, EndBelow}
+use Rattle.region_model.specs.Iovecs.{iovs_along, EndBelow}
 
 -- each number is below a limit
 abbrev pub EachBelow : ℕ → List ℕ → Type 0

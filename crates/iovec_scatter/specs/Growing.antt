@@ -1,7 +1,7 @@
 -- An iovec that may still grow.
 use Rattle.std.specs.Prelude.{ℕ, ◌+◌, ◌^◌, ◌<◌, ◌==◌, List, [], ◌∷◌, Option, Some, None, IfSome, if◌then◌else◌}
 use Rattle.tcmu_types.specs.declared.iovec.Iov.{Iov}
-use Rattle.tcmu_model.specs.Iovecs.{joined, merged}
+use Rattle.region_model.specs.Iovecs.{joined, merged}
 
 -- how many of them there are
 abbrev pub growing : Option Iov → ℕ

@@ -1,7 +1,7 @@
 //! Data blocks as values.
 ghost use Rattle.std.specs.Prelude.{◌≡◌, ℕ, ◌+◌, ◌-◌, ◌≤◌, ◌<◌, min, [], ◌∷◌, ◌++◌, List, length, take, IfOk, OnOk, IsSome, option_to_list, ◌↔◌};
-ghost use Rattle.tcmu_model.specs.Layout.{zeros, put};
-ghost use Rattle.tcmu_model.specs.Iovecs.{scattered, gathered, room_of};
+ghost use Rattle.tcmu_types.specs.ByteFields.{zeros, put};
+ghost use Rattle.region_model.specs.Iovecs.{scattered, gathered, room_of};
 
 use mailbox_bytes::fields::put_bytes;
 use std::alloc::Global;
@@ -9,7 +9,7 @@ use std::marker::Model;
 use tcmu_types::NoMemory;
 
 /// Makes bytes zero.
-#[tactic(auto, unfolding(tcmu_model::specs::Layout::zeros))]
+#[tactic(auto, unfolding(tcmu_types::specs::ByteFields::zeros))]
 fn clear_bytes(bytes: &mut [u8], count: usize)
     requires { count ≡ length bytes.old }
     ensures { bytes.new ≡ zeros count }
@@ -36,7 +36,7 @@ impl Block {
     ghost use Rattle.iovec_scatter.specs.Lends.{LendsBytes};
 
     /// A block of `len` bytes, all zero.
-    #[tactic(auto, unfolding(tcmu_model::specs::Layout::zeros))]
+    #[tactic(auto, unfolding(tcmu_types::specs::ByteFields::zeros))]
     pub fn zeros(alloc: Global, len: usize) -> Result<Block, NoMemory>
         ensures { IfOk result (λ b. b ≡ zeros len) }
     {

@@ -1,5 +1,5 @@
 //! Laws of scatter and gather.
-ghost use Rattle.tcmu_model.specs.Iovecs.{GathersAgain};
+ghost use Rattle.region_model.specs.Iovecs.{GathersAgain};
 ghost use Rattle.iovec_scatter.specs.Ends.{EndsAlong};
 
 /// What gather reads of what scatter wrote is what was written.

@@ -1,7 +1,7 @@
 //! The iovecs of a payload.
 ghost use Rattle.std.specs.Prelude.{◌≡◌, ◌+◌, ◌*◌, ◌^◌, ◌<◌, ◌≤◌, [], ◌++◌, length, min};
 ghost use Rattle.tcmu_model.specs.Lengths.{blocks_for, block_size};
-ghost use Rattle.tcmu_model.specs.Iovecs.{piece, iovs_along, EndBelow, Covers};
+ghost use Rattle.region_model.specs.Iovecs.{piece, iovs_along, EndBelow, Covers};
 ghost use Rattle.iovec_scatter.specs.Growing.{grown, growing, Ends};
 
 use tcmu_types::{BlockList, Iov, Iovs, PAGE};

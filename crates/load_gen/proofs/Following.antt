@@ -1,6 +1,6 @@
 -- The numbers and the lines that follow.
 use Rattle.std.proofs.Common.{◌≡◌, ℕ, ◌+◌, [], ◌++◌, refl, add-one}
-use Rattle.tcmu_model.specs.Load.{next_random, random_of, load_lines, load_step}
+use Rattle.text_model.specs.Load.{next_random, random_of, load_lines, load_step}
 
 pub random_first : (seed : ℕ) → random_of seed 0 ≡ seed
 unfolding random_of

@@ -4,13 +4,13 @@ use Rattle.std.specs.List.{All, sum_by}
 use Rattle.std.proofs.lemmas.List.Sums.{sum_by-append, sum_by-cons}
 use Rattle.std.proofs.lemmas.List.Elements.{All-append, All-cons}
 use Rattle.tcmu_types.specs.Events as ev
-use Rattle.tcmu_model.specs.ScenarioData.{DeviceLineData, LineData, ScenarioData, command_of}
-use Rattle.tcmu_model.specs.ScenarioData as line
-use Rattle.tcmu_model.specs.Scenario.{with_name, is_dump, bytes_in, bytes_out, initiators, initiators_from}
-use Rattle.tcmu_model.specs.ScenarioRules.{IsScenario, IsDeviceLine, IsLine}
-use Rattle.tcmu_model.specs.Load.{load_command, load_writes, load_lba, load_count, load_fill, load_line, load_step, load_lines, load_device, load_config, load_settings, load_scenario_data, random_of}
+use Rattle.text_model.specs.ScenarioData.{DeviceLineData, LineData, ScenarioData, command_of}
+use Rattle.text_model.specs.ScenarioData as line
+use Rattle.text_model.specs.Scenario.{with_name, is_dump, bytes_in, bytes_out, initiators, initiators_from}
+use Rattle.text_model.specs.ScenarioRules.{IsScenario, IsDeviceLine, IsLine}
+use Rattle.text_model.specs.Load.{load_command, load_writes, load_lba, load_count, load_fill, load_line, load_step, load_lines, load_device, load_config, load_settings, load_scenario_data, random_of}
 use Rattle.load_gen.proofs.Sendable.{IsLoad, write_is, read_is}
-use Rattle.tcmu_model.proofs.ScenarioLaws.{initiators_append}
+use Rattle.text_model.proofs.ScenarioLaws.{initiators_append}
 
 -- ==== commands
 

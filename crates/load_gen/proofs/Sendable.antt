@@ -4,7 +4,7 @@ use Rattle.std.proofs.lemmas.List.{length-replicate}
 use Rattle.std.proofs.lemmas.Bool.{le-leb}
 use Rattle.tcmu_types.specs.Data.{CommandData}
 use Rattle.tcmu_types.specs.Rules.{is_sendable, IsCommand, IsCdb}
-use Rattle.tcmu_model.specs.Load.{load_cdb}
+use Rattle.text_model.specs.Load.{load_cdb}
 
 pub write_sendable : (tag place count fill : ℕ) → count ≤ 8
     → is_sendable (record { init = codes "a"; tag = tag; cdb = load_cdb 0x2a place count; sent = replicate (count * 512) fill; in_len = 0 }) ≡ true

@@ -2,7 +2,7 @@
 ghost use Rattle.std.specs.Prelude.{◌≡◌, ◌⊎◌, ◌*◌, replicate, IfOk, codes, true};
 ghost use Rattle.tcmu_types.specs.Data.{CommandData};
 ghost use Rattle.tcmu_types.specs.Rules.{is_sendable};
-ghost use Rattle.tcmu_model.specs.Load.{load_cdb, load_command, load_fill, load_count};
+ghost use Rattle.text_model.specs.Load.{load_cdb, load_command, load_fill, load_count};
 
 use crate::numbers::{load_count, load_fill, load_lba, load_writes};
 use std::alloc::Global;
@@ -15,7 +15,7 @@ const READ_10: u8 = 0x28;
 const WRITE_10: u8 = 0x2a;
 
 /// READ(10) or WRITE(10), by its operation code.
-#[tactic(auto, unfolding(tcmu_model::specs::Load::load_cdb))]
+#[tactic(auto, unfolding(text_model::specs::Load::load_cdb))]
 fn cdb_of(code: u8, place: u32, count: u16) -> Cdb
     requires { (code ≡ 0x28) ⊎ (code ≡ 0x2a) }
     ensures { result ≡ load_cdb code place count }
@@ -55,7 +55,7 @@ fn command_of(tag: u32, cdb: Cdb, sent: Bytes, in_len: u32) -> Command
 }
 
 /// The command of this task tag that a number asks for.
-#[tactic(auto, unfolding(tcmu_model::specs::Load::load_command))]
+#[tactic(auto, unfolding(text_model::specs::Load::load_command))]
 pub fn load_command(alloc: Global, tag: u32, x: u64) -> Result<Command, NoMemory>
     ensures { IfOk result (λ c. c ≡ load_command tag x) }
 {

@@ -1,7 +1,7 @@
 //! The scenario of a load.
 ghost use Rattle.std.specs.Prelude.{◌≡◌, ◌≤◌, ◌<◌, ◌++◌, OnOk, IfOk, codes};
-ghost use Rattle.tcmu_model.specs.Load.{load_config, load_settings, load_device, load_step, load_lines, load_scenario_data};
-ghost use Rattle.tcmu_model.specs.ScenarioRules.{IsScenario};
+ghost use Rattle.text_model.specs.Load.{load_config, load_settings, load_device, load_step, load_lines, load_scenario_data};
+ghost use Rattle.text_model.specs.ScenarioRules.{IsScenario};
 
 use crate::commands::load_command;
 use crate::numbers::next_random;
@@ -17,7 +17,7 @@ fn device_name() -> Name
     Name::new("d0").unwrap()
 }
 
-#[tactic(auto, unfolding(tcmu_model::specs::Load::load_config))]
+#[tactic(auto, unfolding(text_model::specs::Load::load_config))]
 fn load_config(alloc: Global) -> Config
     ensures { result ≡ load_config }
 {
@@ -30,7 +30,7 @@ fn load_config(alloc: Global) -> Config
     }
 }
 
-#[tactic(auto, unfolding(tcmu_model::specs::Load::load_settings))]
+#[tactic(auto, unfolding(text_model::specs::Load::load_settings))]
 fn load_settings() -> Settings
     ensures { result ≡ load_settings }
 {
@@ -50,7 +50,7 @@ fn load_settings() -> Settings
 
 /// The device of every load: `d0` over 4096 logical blocks of memory, with a ring of 65,536 bytes and 1024 data blocks of a page, the
 /// flags `ooo` and `len`, and no timeout.
-#[tactic(auto, unfolding(tcmu_model::specs::Load::load_device))]
+#[tactic(auto, unfolding(text_model::specs::Load::load_device))]
 pub fn load_device(alloc: Global) -> DeviceLine
     ensures { result ≡ load_device }
 {
@@ -62,7 +62,7 @@ pub fn load_device(alloc: Global) -> DeviceLine
 }
 
 /// Appends the i-th command, and after each sixteenth a drain.
-#[tactic(auto, unfolding(tcmu_model::specs::Load::load_step))]
+#[tactic(auto, unfolding(text_model::specs::Load::load_step))]
 fn push_step(alloc: Global, lines: &mut Vec<Line>, i: u32, x: u64) -> Result<(), NoMemory>
     ensures { OnOk result (lines.new.items ≡ lines.old.items ++ load_step i x) }
 {
@@ -97,7 +97,7 @@ pub fn load_lines(alloc: Global, seed: u64, count: u32) -> Result<Lines, NoMemor
 
 /// A scenario of so many reads and writes on one device over 4096 logical blocks of memory, all of them sent by one initiator, with a
 /// drain after each sixteenth. They follow from the seed.
-#[tactic(auto, using(crate::proofs::Limits::scenario_is), unfolding(tcmu_model::specs::Load::load_scenario_data))]
+#[tactic(auto, using(crate::proofs::Limits::scenario_is), unfolding(text_model::specs::Load::load_scenario_data))]
 pub fn load_scenario(alloc: Global, seed: u64, count: u32) -> Result<Scenario, NoMemory>
     requires { count ≤ 10000 }
     ensures data { IfOk result (λ s. s ≡ load_scenario_data seed count) }

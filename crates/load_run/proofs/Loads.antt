@@ -1,11 +1,12 @@
 -- The replay of a load, from what was played of its lines.
 use Rattle.std.proofs.Common.{◌≡◌, ℕ, zero, suc, ◌%◌, nat_eq, Bool, true, false, List, [], ◌∷◌, Option, None, refl, sym, ap, ◌∙◌, subst, arith}
-use Rattle.tcmu_model.specs.Scsi.{Serves}
+use Rattle.scsi_model.specs.Scsi.{Serves}
 use Rattle.tcmu_model.specs.Device.{Device}
-use Rattle.tcmu_model.specs.Sound.{IsSound, Every}
-use Rattle.tcmu_model.specs.ScenarioData.{LineData}
-use Rattle.tcmu_model.specs.Several.{ReplaysEach}
-use Rattle.tcmu_model.specs.Load.{load_device, load_lines, random_of, LoadNumbers, summary_text}
+use Rattle.tcmu_model.specs.Sound.{IsSound}
+use Rattle.tcmu_types.specs.Lists.{Every}
+use Rattle.text_model.specs.ScenarioData.{LineData}
+use Rattle.text_model.specs.Several.{ReplaysEach}
+use Rattle.text_model.specs.Load.{load_device, load_lines, random_of, LoadNumbers, summary_text}
 use Rattle.tcmu_model.proofs.SoundEvents.{sound_opening}
 use Rattle.tcmu_model.proofs.Runs.{sound_run}
 use Rattle.load_gen.proofs.Limits.{lines_none, lines_more, submit_line, drain_if, command_is, device_is}
@@ -14,7 +15,7 @@ use Rattle.load_run.specs.Tallies.{Played, numbers_in}
 use Rattle.load_run.specs.Loading.{opened_over, opened_load, IsLoadText}
 use Rattle.load_run.proofs.Tallying.{run_of}
 use Rattle.load_run.proofs.Summing.{numbers_are}
-use Rattle.tcmu_model.proofs.Everies.{every-append}
+use Rattle.tcmu_types.proofs.Everies.{every-append}
 
 -- ==== the device
 

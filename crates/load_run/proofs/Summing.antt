@@ -7,7 +7,7 @@ use Rattle.tcmu_types.specs.Data.{CommandData, DoneData}
 use Rattle.tcmu_types.specs.Events.{EntryData}
 use Rattle.tcmu_model.specs.Device.{Device}
 use Rattle.tcmu_model.specs.Steps.{HandlerRelation}
-use Rattle.tcmu_model.specs.Load.{accepted_as, moved_by, LoadNumbers, load_numbers}
+use Rattle.text_model.specs.Load.{accepted_as, moved_by, LoadNumbers, load_numbers}
 use Rattle.load_run.specs.Tallies.{sizes_of, RunNumbers, is_good, moved_size, good_bytes, numbers_in}
 use Rattle.load_run.proofs.Tallying.{known, none_before, size_at, counted}
 

@@ -1,5 +1,5 @@
 -- Entries that are played, and the sizes that are noted of them, as far as a replay has come.
-use Rattle.std.proofs.Common.{◌≡◌, ◌⊎◌, inl, inr, ⊎_elim, ℕ, zero, suc, ◌+◌, ◌<◌, ◌≤◌, Bool, true, false, cond, nat_eq, List, [], ◌∷◌, ◌++◌, length, get_or, drop, Option, Some, None, refl, sym, ap, ◌∙◌, subst, arith, append_assoc, length-append}
+use Rattle.std.proofs.Common.{◌≡◌, ◌⊎◌, inl, inr, ⊎_elim, ℕ, zero, suc, ◌+◌, ◌<◌, ◌≤◌, Bool, true, false, cond, nat_eq, List, [], ◌∷◌, ◌++◌, length, get_or, drop, Option, Some, None, refl, sym, ap, ◌∙◌, subst, arith, append_assoc, length-append, ◌&&◌, not, nat_lt, ◌*◌, ◌/◌}
 use Rattle.std.specs.Prelude.{slice_get, slice_set}
 use Rattle.std.proofs.lemmas.List.{append-nil, drop_more, drop_all}
 use Rattle.std.proofs.lemmas.List.Concat.{flat_map-append}
@@ -16,17 +16,16 @@ use Rattle.tcmu_model.specs.Steps.{HandlerRelation, Step, Run, Makes, accepted_b
 use Rattle.tcmu_model.specs.Drain.{Drains, drain_event}
 use Rattle.tcmu_model.specs.Sound.{IsSound}
 use Rattle.tcmu_model.specs.Work.{GoesOn, work}
-use Rattle.tcmu_model.specs.ScenarioData.{LineWhat, LineData}
-use Rattle.tcmu_model.specs.ScenarioData as line
-use Rattle.tcmu_model.specs.Replay.{Plays}
-use Rattle.tcmu_model.specs.Several.{ReplaysEach}
-use Rattle.tcmu_model.specs.Load as load
+use Rattle.text_model.specs.ScenarioData.{LineWhat, LineData}
+use Rattle.text_model.specs.ScenarioData as line
+use Rattle.text_model.specs.Replay.{Plays}
+use Rattle.text_model.specs.Several.{ReplaysEach}
+use Rattle.text_model.specs.Load as load
 use Rattle.tcmu_model.proofs.Draining.{work_falls}
 use Rattle.tcmu_model.proofs.GoesOn.{goes_on_first, goes_on_more}
 use Rattle.tcmu_model.proofs.Logs.{makes_grows}
 use Rattle.tcmu_model.proofs.Runs.{sound_step, sound_run}
 use Rattle.tcmu_path.specs.Calls.{Accepts}
-use Rattle.std.proofs.Common.{◌&&◌, not, nat_lt, ◌*◌, ◌/◌}
 use Rattle.load_run.specs.Tallies.{size_of, size_in, sizes_of, GivesNext, Numbers, RunNumbers, IsOf, Played}
 
 -- ==== one event

@@ -1,13 +1,13 @@
 -- What a load's replay writes.
 use Rattle.std.specs.Prelude.{◌≡◌, ℕ, ◌*◌, List, [], ◌∷◌, replicate}
 use Rattle.tcmu_types.specs.Events.{EntryData}
-use Rattle.tcmu_model.specs.Medium.{memory_state}
-use Rattle.tcmu_model.specs.Scsi.{Serves}
+use Rattle.scsi_model.specs.Medium.{memory_state}
+use Rattle.scsi_model.specs.Scsi.{Serves}
 use Rattle.tcmu_model.specs.Device.{Device, opening}
 use Rattle.tcmu_model.specs.Steps.{Run}
-use Rattle.tcmu_model.specs.ScenarioData.{DeviceLineData}
-use Rattle.tcmu_model.specs.Several.{ReplaysEach}
-use Rattle.tcmu_model.specs.Load.{load_device, load_lines, load_numbers, summary_text}
+use Rattle.text_model.specs.ScenarioData.{DeviceLineData}
+use Rattle.text_model.specs.Several.{ReplaysEach}
+use Rattle.text_model.specs.Load.{load_device, load_lines, load_numbers, summary_text}
 
 -- the device of a device line, as it opens over so many logical blocks of zeros
 unfoldable pub opened_over : ℕ → DeviceLineData → Device

@@ -8,8 +8,8 @@ use Rattle.tcmu_types.specs.Events as ev
 use Rattle.tcmu_types.specs.declared.answer.Submit.TheVariants as submit
 use Rattle.tcmu_model.specs.Device.{Device, DeviceState}
 use Rattle.tcmu_model.specs.Steps.{HandlerRelation, Step}
-use Rattle.tcmu_model.specs.Replay.{open_count}
-use Rattle.tcmu_model.specs.Load.{LoadNumbers}
+use Rattle.tcmu_model.specs.Sound.{open_count}
+use Rattle.text_model.specs.Load.{LoadNumbers}
 
 -- ==== sizes
 

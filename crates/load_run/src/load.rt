@@ -1,6 +1,6 @@
 //! The line of a load.
 ghost use Rattle.std.specs.Prelude.{◌≡◌, ◌≤◌, IfOk};
-ghost use Rattle.tcmu_model.specs.Load.{load_device};
+ghost use Rattle.text_model.specs.Load.{load_device};
 ghost use Rattle.load_run.specs.Loading.{opened_over, IsLoadText};
 
 use crate::summary::{numbers_of, summary};

@@ -2,9 +2,8 @@
 ghost use Rattle.std.specs.Prelude.{◌≡◌, ◌≤◌, ◌<◌, ◌-◌, ◌^◌, ◌++◌, length, IfOk, OnOk, codes};
 ghost use Rattle.std.specs.List.{count_by, sum_by};
 ghost use Rattle.std.specs.Fmt.{decimal};
-ghost use Rattle.tcmu_model.specs.Sound.{IsSound};
-ghost use Rattle.tcmu_model.specs.Replay.{open_count};
-ghost use Rattle.tcmu_model.specs.Load.{LoadNumbers, summary_text};
+ghost use Rattle.tcmu_model.specs.Sound.{IsSound, open_count};
+ghost use Rattle.text_model.specs.Load.{LoadNumbers, summary_text};
 ghost use Rattle.load_run.specs.Tallies.{is_good, good_bytes, numbers_in};
 
 use std::alloc::Global;
@@ -22,7 +21,7 @@ pub struct Numbers {
 }
 
 impl Model for Numbers {
-    ghost use Rattle.tcmu_model.specs.Load.{LoadNumbers};
+    ghost use Rattle.text_model.specs.Load.{LoadNumbers};
 
     ghost Value = { LoadNumbers };
 
@@ -107,7 +106,7 @@ fn push_numbers(alloc: Global, text: &mut Vec<u8>, numbers: &Numbers) -> Result<
 }
 
 /// The line of a load, with its line feed.
-#[tactic(auto, unfolding(tcmu_model::specs::Load::summary_text))]
+#[tactic(auto, unfolding(text_model::specs::Load::summary_text))]
 pub fn summary(alloc: Global, seed: u64, count: u32, numbers: &Numbers) -> Result<Vec<u8>, NoMemory>
     ensures { IfOk result (λ text. text.items ≡ summary_text seed count numbers.now) }
 {

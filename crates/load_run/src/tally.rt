@@ -2,9 +2,10 @@
 ghost use Rattle.std.specs.Prelude.{◌≡◌, ◌+◌, ◌^◌, ◌<◌, ◌++◌, [], ◌∷◌, length, OnOk};
 ghost use Rattle.tcmu_types.specs.Views.{event_data, answer_data};
 ghost use Rattle.tcmu_model.specs.Drain.{Drains};
-ghost use Rattle.tcmu_model.specs.Sound.{IsSound, Every};
-ghost use Rattle.tcmu_model.specs.Replay.{Plays};
-ghost use Rattle.tcmu_model.specs.Several.{ReplaysEach};
+ghost use Rattle.tcmu_model.specs.Sound.{IsSound};
+ghost use Rattle.tcmu_types.specs.Lists.{Every};
+ghost use Rattle.text_model.specs.Replay.{Plays};
+ghost use Rattle.text_model.specs.Several.{ReplaysEach};
 ghost use Rattle.tcmu_path.specs.Calls.{Accepts};
 ghost use Rattle.tcmu_model.specs.Steps.{accepted_by};
 ghost use Rattle.tcmu_path.specs.Tasks.{CanBeMade, IsFit, IsFitFor};

@@ -3,11 +3,12 @@ use Rattle.std.proofs.Common.{◌≡◌, inl, inr, ⊎_elim, ℕ, ◌%◌, ◌�
 use Rattle.std.specs.Prelude.{IfOk}
 use Rattle.std.proofs.lemmas.Bool.{cases_lt}
 use Rattle.std.proofs.lemmas.Bool.Decides.{nat_tests}
-use Rattle.tcmu_model.proofs.Guards.{guard_ok, differs, is_same, is_below, not_below, is_most, not_most, is_ring_sized}
-use Rattle.tcmu_model.specs.declared.mailbox.Mailbox.{Mailbox}
-use Rattle.tcmu_model.specs.declared.mailbox.MailboxFault.{MailboxFault}
-use Rattle.tcmu_model.specs.declared.mailbox.MailboxFault.TheVariants.{Short, Version, Offset, Size, Unaligned, OutOfRing}
-use Rattle.tcmu_model.specs.MailboxReading.{mailbox_in, mailbox_read, judged, is_ring_size, IsRingSize, HeadElseTail, BreaksMailbox, mailbox_rank, IsFirstMailboxFault, ReadsMailbox, IsMailbox}
+use Rattle.tcmu_types.proofs.Guards.{guard_ok, differs, is_same, is_below, not_below, is_most, not_most}
+use Rattle.region_model.proofs.RingSizes.{is_ring_sized}
+use Rattle.region_model.specs.declared.mailbox.Mailbox.{Mailbox}
+use Rattle.region_model.specs.declared.mailbox.MailboxFault.{MailboxFault}
+use Rattle.region_model.specs.declared.mailbox.MailboxFault.TheVariants.{Short, Version, Offset, Size, Unaligned, OutOfRing}
+use Rattle.region_model.specs.MailboxReading.{mailbox_in, mailbox_read, judged, is_ring_size, IsRingSize, HeadElseTail, BreaksMailbox, mailbox_rank, IsFirstMailboxFault, ReadsMailbox, IsMailbox}
 
 -- a rule that is kept, where it stands before place n, is not the one broken
 pub kept : (k n : ℕ) → (k < n → ⊥) → n ≤ k

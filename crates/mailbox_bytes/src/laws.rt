@@ -1,5 +1,5 @@
 //! Laws of the mailbox's bytes.
-ghost use Rattle.tcmu_model.specs.MailboxReading.{MailboxReadsAgain};
+ghost use Rattle.region_model.specs.MailboxReading.{MailboxReadsAgain};
 
 /// What was written over any bytes has the fields that were to be written, and reads as them or as their first fault.
 pub fn mailbox_reads_again()

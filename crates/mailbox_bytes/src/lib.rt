@@ -9,4 +9,4 @@ mod tests;
 
 pub use laws::mailbox_reads_again;
 pub use mailbox::{HEAD, MAILBOX_LEN, TAIL, read, write};
-pub use tcmu_model::{Mailbox, MailboxFault};
+pub use region_model::{Mailbox, MailboxFault};

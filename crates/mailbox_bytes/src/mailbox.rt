@@ -1,10 +1,11 @@
 //! The mailbox written and read.
 ghost use Rattle.std.specs.Prelude.{◌≡◌, ◌≤◌, length, IfOk};
-ghost use Rattle.tcmu_model.specs.Layout.{put, mailbox_bytes};
-ghost use Rattle.tcmu_model.specs.MailboxReading.{judged, mailbox_read, is_ring_size, ReadsMailbox, IsMailbox};
+ghost use Rattle.region_model.specs.Layout.{mailbox_bytes};
+ghost use Rattle.tcmu_types.specs.ByteFields.{put};
+ghost use Rattle.region_model.specs.MailboxReading.{judged, mailbox_read, is_ring_size, ReadsMailbox, IsMailbox};
 
 use crate::fields::{le_u16_at, le_u32_at, put_u16, put_u32, put_zeros};
-use tcmu_model::{Mailbox, MailboxFault};
+use region_model::{Mailbox, MailboxFault};
 use tcmu_types::{MOST_RING, PAGE};
 
 /// How many bytes a mailbox has; the command ring begins behind them.
@@ -38,7 +39,7 @@ fn is_ring_size(size: u32) -> bool
 }
 
 /// The mailbox, or its first fault.
-#[tactic(auto, unfolding(tcmu_model::specs::MailboxReading::judged))]
+#[tactic(auto, unfolding(region_model::specs::MailboxReading::judged))]
 fn judged(mailbox: Mailbox) -> Result<Mailbox, MailboxFault>
     ensures { result ≡ judged mailbox }
 {
@@ -68,7 +69,7 @@ fn judged(mailbox: Mailbox) -> Result<Mailbox, MailboxFault>
 
 /// Reads the first 128 bytes as a mailbox: the mailbox exactly where no rule is broken, else the first fault in the order of
 /// `MailboxFault`. Flag bits above the third and spare bytes are not looked at.
-#[tactic(auto, unfolding(tcmu_model::specs::MailboxReading::mailbox_read, tcmu_model::specs::MailboxReading::mailbox_in))]
+#[tactic(auto, unfolding(region_model::specs::MailboxReading::mailbox_read, region_model::specs::MailboxReading::mailbox_in))]
 pub fn read(bytes: &[u8]) -> Result<Mailbox, MailboxFault>
     ensures value { result ≡ mailbox_read bytes.now }
     ensures exact { ReadsMailbox bytes.now result }

@@ -5,7 +5,7 @@ use Rattle.tcmu_types.specs.Overwriting.{overwritten}
 use Rattle.tcmu_types.specs.Numbered.{next_call}
 use Rattle.tcmu_types.proofs.Places.{get_take, get_drop, index_from_get}
 use Rattle.tcmu_model.specs.MediumState.{Span, Below, MediumState, memory}
-use Rattle.tcmu_model.specs.Medium.{memory_state, empty_span, span_of, narrowed, covers, blanked, repeated, with_piece, Reads, Writes, Fills, Syncs}
+use Rattle.scsi_model.specs.Medium.{memory_state, empty_span, span_of, narrowed, covers, blanked, repeated, with_piece, Reads, Writes, Fills, Syncs}
 
 -- what is below a medium in memory
 abbrev below_memory : List ℕ → Below

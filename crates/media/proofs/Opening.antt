@@ -1,9 +1,9 @@
 -- How a medium opens.
 use Rattle.std.proofs.Common.{◌∙◌, ◌≡◌, ℕ, ◌*◌, ◌/◌, Bool, List, replicate, Option, Some, None, subst, sym, ap, refl}
 use Rattle.std.specs.Option.{option_map}
-use Rattle.tcmu_model.specs.Config.{ConfigData, InMemory, InFile}
+use Rattle.text_model.specs.Config.{ConfigData, InMemory, InFile}
 use Rattle.tcmu_model.specs.MediumState.{MediumState}
-use Rattle.tcmu_model.specs.Medium.{blanked, empty_span, memory_state, opened_medium, memory_below, file_below}
+use Rattle.scsi_model.specs.Medium.{blanked, empty_span, memory_state, opened_medium, memory_below, file_below}
 use Rattle.edge.specs.Stores.{StoreState, FilesState, Opened}
 use Rattle.medium_file.specs.FileState.{file_state}
 use Rattle.media.specs.Configured.{configured}

@@ -2,9 +2,9 @@
 use Rattle.std.specs.Prelude.{◌≡◌, ℕ, ◌/◌, true, List, Option, IfSome}
 use Rattle.std.specs.Option.{option_map}
 use Rattle.tcmu_types.specs.Numbered.{Rose}
-use Rattle.tcmu_model.specs.Config.{ConfigData, MediumData, InMemory, InFile}
+use Rattle.text_model.specs.Config.{ConfigData, MediumData, InMemory, InFile}
 use Rattle.tcmu_model.specs.MediumState.{MediumState}
-use Rattle.tcmu_model.specs.Medium.{opened_medium, memory_below, file_below}
+use Rattle.scsi_model.specs.Medium.{opened_medium, memory_below, file_below}
 use Rattle.edge.specs.Stores.{StoreState, FilesState, Opened, fetch_fails, one_more_fetch}
 use Rattle.media.specs.declared.make.MakeFault.{MakeFault}
 use Rattle.media.specs.declared.make.MakeFault.TheVariants.{Open, NoMemory}

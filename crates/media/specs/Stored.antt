@@ -2,7 +2,7 @@
 use Rattle.std.specs.Prelude.{◌≡◌, ◌*◌}
 use Rattle.std.specs.Option.{option_map}
 use Rattle.tcmu_model.specs.MediumState.{MediumState, file}
-use Rattle.tcmu_model.specs.Medium.{blanked}
+use Rattle.scsi_model.specs.Medium.{blanked}
 use Rattle.edge.specs.Stores.{StoreState}
 
 -- The medium is a file in this store: the store holds the medium's bytes, but for the lost range, and has made its calls.

@@ -2,7 +2,7 @@
 ghost use Rattle.std.specs.Prelude.{◌≡◌, ◌≤◌, IfOk, IfErr, OnOk, IsErrOf, IfSome, true};
 ghost use Rattle.std.specs.Option.{option_map};
 ghost use Rattle.tcmu_types.specs.Numbered.{Rose};
-ghost use Rattle.tcmu_model.specs.ScenarioRules.{IsConfig};
+ghost use Rattle.text_model.specs.ScenarioRules.{IsConfig};
 ghost use Rattle.edge.specs.Stores.{Opened, fetch_fails, one_more_fetch};
 ghost use Rattle.media.specs.Opening.{Opens, Refuses, RefusesFetch};
 ghost use Rattle.media.specs.declared.make.MakeFault.TheVariants as fault;

@@ -2,7 +2,7 @@
 ghost use Rattle.std.specs.Prelude.{◌≡◌, ◌+◌, ◌*◌, ◌≤◌, length, replicate, IfOk};
 ghost use Rattle.tcmu_types.specs.Overwriting.{overwritten};
 ghost use Rattle.tcmu_model.specs.MediumState.{memory};
-ghost use Rattle.tcmu_model.specs.Medium.{memory_state};
+ghost use Rattle.scsi_model.specs.Medium.{memory_state};
 
 use edge::Failed;
 use handler_trait::Medium;
@@ -21,7 +21,7 @@ pub struct MemMedium {
 impl Model for MemMedium {
     ghost use Rattle.std.specs.Prelude.{◌≡◌, ◌*◌, ◌^◌, ◌≤◌, length};
     ghost use Rattle.tcmu_model.specs.MediumState.{MediumState};
-    ghost use Rattle.tcmu_model.specs.Medium.{memory_state};
+    ghost use Rattle.scsi_model.specs.Medium.{memory_state};
 
     ghost Value = { MediumState };
 

@@ -4,7 +4,7 @@ use Rattle.std.specs.Option.{option_map}
 use Rattle.tcmu_types.specs.Numbered.{Numbered, Tries, ComesOut, one_more, next_call}
 use Rattle.tcmu_types.proofs.Places.{get_take, get_drop, index_from_get}
 use Rattle.tcmu_model.specs.MediumState.{Span}
-use Rattle.tcmu_model.specs.Medium.{blanked, repeated, MatchesTold, Reads, Writes, Fills, Syncs, StoreCalls, with_piece, with_lost}
+use Rattle.scsi_model.specs.Medium.{blanked, repeated, MatchesTold, Reads, Writes, Fills, Syncs, StoreCalls, with_piece, with_lost}
 use Rattle.edge.specs.Stores.{StoreState, Puts, Spoils, Shows}
 use Rattle.handler_trait.proofs.Repeating.{length_repeated}
 use Rattle.medium_file.specs.FileState.{below_file, file_state}

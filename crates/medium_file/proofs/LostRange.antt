@@ -7,7 +7,7 @@ use Rattle.tcmu_types.specs.Overwriting.{overwritten}
 use Rattle.tcmu_types.proofs.Places.{same_list}
 use Rattle.tcmu_types.proofs.Overwriting.{within, get_overwritten, put_in, put_before, put_behind, length_overwritten, inside, before, behind}
 use Rattle.tcmu_model.specs.MediumState.{Span}
-use Rattle.tcmu_model.specs.Medium.{blanked, zeros, narrowed, widened, span_of, empty_span}
+use Rattle.scsi_model.specs.Medium.{blanked, zeros, narrowed, widened, span_of, empty_span}
 use Rattle.edge.specs.Stores.{Puts, Spoils}
 
 -- the lost range behind a success and behind a failure over n bytes from a place on

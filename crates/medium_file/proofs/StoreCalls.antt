@@ -4,7 +4,7 @@ use Rattle.std.specs.Option.{option_map}
 use Rattle.std.proofs.lemmas.List.{length-append, take-append-drop, length-replicate}
 use Rattle.tcmu_types.specs.Overwriting.{overwritten}
 use Rattle.tcmu_types.specs.Numbered.{Numbered, Tries, ComesOut, one_more}
-use Rattle.tcmu_model.specs.Medium.{repeated}
+use Rattle.scsi_model.specs.Medium.{repeated}
 use Rattle.edge.specs.Stores.{Puts, Spoils}
 use Rattle.tcmu_types.proofs.Overwriting.{length_piece, overwritten_same, overwritten_more, length_overwritten}
 use Rattle.handler_trait.proofs.Repeating.{length_repeated, fill_more}

@@ -2,7 +2,7 @@
 use Rattle.std.specs.Prelude.{◌≡◌, ℕ, ◌+◌, ◌*◌, ◌^◌, ◌<◌, ◌≤◌, false, List, Option, Some, []}
 use Rattle.std.specs.Option.{option_map}
 use Rattle.tcmu_model.specs.MediumState.{Span, Below, MediumState, file}
-use Rattle.tcmu_model.specs.Medium.{blanked, repeated}
+use Rattle.scsi_model.specs.Medium.{blanked, repeated}
 use Rattle.edge.specs.Stores.{StoreState, Puts, Spoils}
 use Rattle.medium_file.specs.declared.file.Lost.{Lost}
 

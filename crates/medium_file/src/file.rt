@@ -3,7 +3,7 @@ ghost use Rattle.std.specs.Prelude.{◌≡◌, ◌+◌, ◌*◌, ◌/◌, ◌%�
 ghost use Rattle.std.specs.Option.{option_map};
 ghost use Rattle.tcmu_types.specs.Numbered.{HasCause, next_call};
 ghost use Rattle.tcmu_model.specs.MediumState.{file};
-ghost use Rattle.tcmu_model.specs.Medium.{Reads, Writes, Fills, repeated, narrowed, widened, span_of, empty_span, blanked};
+ghost use Rattle.scsi_model.specs.Medium.{Reads, Writes, Fills, repeated, narrowed, widened, span_of, empty_span, blanked};
 ghost use Rattle.edge.specs.Outside.{CountsFailed};
 ghost use Rattle.edge.specs.Stores.{Shows, Puts, Spoils};
 ghost use Rattle.medium_file.specs.FileState.{file_state, lost_span, PutsInPart};

@@ -1,7 +1,7 @@
 //! Blocks that are written to a store one after the other.
 ghost use Rattle.std.specs.Prelude.{◌≡◌, ◌+◌, ◌*◌, ◌≤◌, is_err, OnOk, OnErr};
 ghost use Rattle.tcmu_types.specs.Numbered.{Tries, HasCause};
-ghost use Rattle.tcmu_model.specs.Medium.{repeated};
+ghost use Rattle.scsi_model.specs.Medium.{repeated};
 ghost use Rattle.edge.specs.Outside.{CountsFailed};
 ghost use Rattle.edge.specs.Stores.{Puts, Spoils};
 ghost use Rattle.medium_file.specs.FileState.{PutsInPart};

@@ -2,7 +2,7 @@
 ghost use Rattle.std.specs.Prelude.{◌≡◌, ◌==◌, [], ◌++◌, OnOk, if◌then◌else◌};
 ghost use Rattle.std.specs.Fmt.{decimal};
 ghost use Rattle.device_config.specs.Views.{medium_data};
-ghost use Rattle.tcmu_model.specs.Text.{medium_text, kind_text, config_text, last_text, settings_text, device_spelling, device_text};
+ghost use Rattle.text_model.specs.Text.{medium_text, kind_text, config_text, last_text, settings_text, device_spelling, device_text};
 
 use crate::pieces::{push_all, push_field, push_flags, push_named, push_numbers};
 use device_config::{Config, MediumKind};
@@ -10,7 +10,7 @@ use scenario_text::DeviceLine;
 use std::alloc::Global;
 use tcmu_types::{NoMemory, Settings};
 
-#[tactic(auto, unfolding(tcmu_model::specs::Text::medium_text))]
+#[tactic(auto, unfolding(text_model::specs::Text::medium_text))]
 fn push_medium(alloc: Global, out: &mut Vec<u8>, kind: &MediumKind) -> Result<(), NoMemory>
     ensures { OnOk result (out.new.items ≡ out.old.items ++ medium_text (medium_data kind.now)) }
 {
@@ -23,7 +23,7 @@ fn push_medium(alloc: Global, out: &mut Vec<u8>, kind: &MediumKind) -> Result<()
     }
 }
 
-#[tactic(auto, unfolding(tcmu_model::specs::Text::kind_text))]
+#[tactic(auto, unfolding(text_model::specs::Text::kind_text))]
 fn push_kind(alloc: Global, out: &mut Vec<u8>, config: &Config) -> Result<(), NoMemory>
     ensures { OnOk result (out.new.items ≡ out.old.items ++ kind_text config.now) }
 {
@@ -38,7 +38,7 @@ fn push_kind(alloc: Global, out: &mut Vec<u8>, config: &Config) -> Result<(), No
     push_all(out, b"/")
 }
 
-#[tactic(auto, unfolding(tcmu_model::specs::Text::config_text))]
+#[tactic(auto, unfolding(text_model::specs::Text::config_text))]
 fn push_config(alloc: Global, out: &mut Vec<u8>, config: &Config) -> Result<(), NoMemory>
     ensures { OnOk result (out.new.items ≡ out.old.items ++ config_text config.now) }
 {
@@ -66,7 +66,7 @@ fn push_unless(
     push_named(alloc, out, word, n as u64)
 }
 
-#[tactic(auto, unfolding(tcmu_model::specs::Text::last_text))]
+#[tactic(auto, unfolding(text_model::specs::Text::last_text))]
 fn push_last(alloc: Global, out: &mut Vec<u8>, settings: &Settings) -> Result<(), NoMemory>
     ensures { OnOk result (out.new.items ≡ out.old.items ++ last_text settings.now) }
 {
@@ -74,7 +74,7 @@ fn push_last(alloc: Global, out: &mut Vec<u8>, settings: &Settings) -> Result<()
     push_unless(alloc, out, b" pages=", 1, settings.pages)
 }
 
-#[tactic(auto, unfolding(tcmu_model::specs::Text::settings_text))]
+#[tactic(auto, unfolding(text_model::specs::Text::settings_text))]
 fn push_settings(alloc: Global, out: &mut Vec<u8>, settings: &Settings) -> Result<(), NoMemory>
     ensures { OnOk result (out.new.items ≡ out.old.items ++ settings_text settings.now) }
 {
@@ -86,7 +86,7 @@ fn push_settings(alloc: Global, out: &mut Vec<u8>, settings: &Settings) -> Resul
     push_last(alloc, out, settings)
 }
 
-#[tactic(auto, unfolding(tcmu_model::specs::Text::device_spelling))]
+#[tactic(auto, unfolding(text_model::specs::Text::device_spelling))]
 fn push_spelling(alloc: Global, out: &mut Vec<u8>, device: &DeviceLine) -> Result<(), NoMemory>
     ensures { OnOk result (out.new.items ≡ out.old.items ++ device_spelling device.now) }
 {
@@ -98,7 +98,7 @@ fn push_spelling(alloc: Global, out: &mut Vec<u8>, device: &DeviceLine) -> Resul
 }
 
 /// Appends a device's line.
-#[tactic(auto, unfolding(tcmu_model::specs::Text::device_text))]
+#[tactic(auto, unfolding(text_model::specs::Text::device_text))]
 pub fn push_device(alloc: Global, out: &mut Vec<u8>, device: &DeviceLine) -> Result<(), NoMemory>
     ensures { OnOk result (out.new.items ≡ out.old.items ++ device_text device.now) }
 {

@@ -2,7 +2,7 @@
 ghost use Rattle.std.specs.Prelude.{◌≡◌, ◌+◌, ◌≤◌, ◌++◌, length, OnOk, OnErr};
 ghost use Rattle.std.specs.List.{flat_map};
 ghost use Rattle.tcmu_types.specs.Views.{event_data, answer_data};
-ghost use Rattle.tcmu_model.specs.Text.{payload_text, completion_text, event_line as event_spelling, entry_text as entry_spelling, end_text as end_spelling, dump_text as dump_spelling, device_text as device_spelling};
+ghost use Rattle.text_model.specs.Text.{payload_text, completion_text, event_line as event_spelling, entry_text as entry_spelling, end_text as end_spelling, dump_text as dump_spelling, device_text as device_spelling};
 
 use crate::devices::push_device;
 use crate::dumps::push_dump;
@@ -23,7 +23,7 @@ fn append(into: &mut Bytes, text: &[u8]) -> Result<(), NoMemory>
     Ok(())
 }
 
-#[tactic(auto, unfolding(tcmu_model::specs::Text::completion_text))]
+#[tactic(auto, unfolding(text_model::specs::Text::completion_text))]
 fn push_completion(alloc: Global, out: &mut Vec<u8>, name: &[u8], d: &Done) -> Result<(), NoMemory>
     ensures { OnOk result (out.new.items ≡ out.old.items ++ completion_text name.now d.now) }
 {
@@ -36,7 +36,7 @@ fn push_completion(alloc: Global, out: &mut Vec<u8>, name: &[u8], d: &Done) -> R
     push_all(out, b"\n")
 }
 
-#[tactic(auto, unfolding(tcmu_model::specs::Text::event_line))]
+#[tactic(auto, unfolding(text_model::specs::Text::event_line))]
 fn push_line(
     alloc: Global,
     out: &mut Vec<u8>,
@@ -67,7 +67,7 @@ fn push_completions(
     Ok(())
 }
 
-#[tactic(auto, unfolding(tcmu_model::specs::Text::entry_text))]
+#[tactic(auto, unfolding(text_model::specs::Text::entry_text))]
 fn push_entry(
     alloc: Global,
     out: &mut Vec<u8>,
@@ -82,7 +82,7 @@ fn push_entry(
     push_completions(alloc, out, name, logged)
 }
 
-#[tactic(auto, unfolding(tcmu_model::specs::Text::end_text))]
+#[tactic(auto, unfolding(text_model::specs::Text::end_text))]
 fn push_end(alloc: Global, out: &mut Vec<u8>, name: &[u8], count: u64) -> Result<(), NoMemory>
     ensures { OnOk result (out.new.items ≡ out.old.items ++ end_spelling name.now count) }
 {

@@ -8,11 +8,11 @@ use Rattle.tcmu_model.specs.RingState.{RingState, Item, Laid, lengths, head, use
 use Rattle.tcmu_model.specs.RingState as ring
 use Rattle.tcmu_model.specs.Device.{Unfinished, DeviceState}
 use Rattle.tcmu_model.specs.BlockLists.{Taken, list_of, held_by, least_free}
-use Rattle.tcmu_model.specs.Pending.{PendingData}
-use Rattle.tcmu_model.specs.Picture.{place_of}
-use Rattle.tcmu_model.specs.Sides.{Recorded, PendingRow, TargetState}
-use Rattle.tcmu_model.specs.Represents.{RingStands, recorded, TargetKeeps, pending_of}
-use Rattle.tcmu_model.specs.TargetSteps.{used_in, head_in, pad_in, blocks_held, blocks_given}
+use Rattle.region_model.specs.Pending.{PendingData}
+use Rattle.region_model.specs.Picture.{place_of}
+use Rattle.region_model.specs.Sides.{Recorded, PendingRow, TargetState}
+use Rattle.region_model.specs.Represents.{RingStands, recorded, TargetKeeps, pending_of}
+use Rattle.region_model.specs.TargetSteps.{used_in, head_in, pad_in, blocks_held, blocks_given}
 use Rattle.ring_laws.proofs.Layouts.{add-mod}
 use Rattle.ring_laws.proofs.Places.{used_is}
 

@@ -7,24 +7,26 @@ use Rattle.tcmu_types.specs.Data.{CommandData, ReplyData}
 use Rattle.tcmu_types.specs.Rules.{takes_payload, payload_length, IsCommand}
 use Rattle.tcmu_types.specs.declared.iovec.Iov.{Iov}
 use Rattle.tcmu_model.specs.declared.state.CommandState.TheVariants.{Out, Handled, Parked, Placed}
-use Rattle.tcmu_model.specs.Lists.{first_of}
+use Rattle.tcmu_types.specs.Lists.{first_of, Every}
 use Rattle.tcmu_model.specs.Lengths.{blocks_of, block_size}
 use Rattle.tcmu_model.specs.Device.{Unfinished, DeviceState, is_at, has_state}
-use Rattle.tcmu_model.specs.Events.{turned, in_state, is_among, is_in_hand}
-use Rattle.tcmu_model.specs.Sound.{IsSound, Every, Differ, IsLaid, ReplyFits}
+use Rattle.tcmu_model.specs.Events.{turned, in_state, is_in_hand}
+use Rattle.tcmu_types.specs.Numbers.{is_among, Differ}
+use Rattle.tcmu_model.specs.Sound.{IsSound, IsLaid, ReplyFits}
 use Rattle.tcmu_model.specs.BlockLists.{Taken, list_of, held_by}
-use Rattle.tcmu_model.specs.Iovecs.{iovs_along, scattered, gathered}
-use Rattle.tcmu_model.specs.Layout.{zeros, data_start}
-use Rattle.tcmu_model.specs.Regions.{HaveSize, numbers_of, returned, RegionState, size_of}
-use Rattle.tcmu_model.proofs.Counts.{state_at}
-use Rattle.tcmu_model.proofs.Everies.{every-first, every-weaker, every-with_first}
-use Rattle.tcmu_model.proofs.Written.{length-zeros}
-use Rattle.tcmu_model.specs.Areas.{bytes_along, IsHome, IsLent}
-use Rattle.tcmu_model.specs.Picture.{payload_of, data_in}
-use Rattle.tcmu_model.specs.Sides.{PendingRow, GivenJob, UserState, Carried}
-use Rattle.tcmu_model.specs.Sides as sides
-use Rattle.tcmu_model.specs.Represents.{RingStands, HaveData, BlocksOf, BlocksStand, IsJobOf}
-use Rattle.tcmu_model.specs.UserSteps.{placed_at, with_payload}
+use Rattle.region_model.specs.Iovecs.{iovs_along, scattered, gathered}
+use Rattle.region_model.specs.Layout.{data_start}
+use Rattle.tcmu_types.specs.ByteFields.{zeros}
+use Rattle.region_model.specs.Regions.{HaveSize, numbers_of, returned, RegionState, size_of}
+use Rattle.tcmu_model.proofs.CommandStates.{state_at}
+use Rattle.tcmu_types.proofs.Everies.{every-first, every-weaker, every-with_first}
+use Rattle.tcmu_types.proofs.ByteFields.{length-zeros}
+use Rattle.region_model.specs.Areas.{bytes_along, IsHome, IsLent}
+use Rattle.region_model.specs.Picture.{payload_of, data_in}
+use Rattle.region_model.specs.Sides.{PendingRow, GivenJob, UserState, Carried}
+use Rattle.region_model.specs.Sides as sides
+use Rattle.region_model.specs.Represents.{RingStands, HaveData, BlocksOf, BlocksStand, IsJobOf}
+use Rattle.region_model.specs.UserSteps.{placed_at, with_payload}
 use Rattle.ring_laws.specs.Placed.{CanAnswer, CanPlace, CanFill, placed_in, answer_placed}
 use Rattle.tcmu_model.specs.Owned.{ListsSound}
 use Rattle.ring_laws.proofs.Layouts.{take-past}
@@ -32,7 +34,7 @@ use Rattle.ring_laws.proofs.LaidBlocks.{stand-other}
 use Rattle.ring_laws.proofs.Found.{first-passes}
 use Rattle.ring_laws.proofs.AnswerData.{returned-other, returned-data, scattered-payload, length-scattered, sizes-scattered, length-gathered, iovs-numbers}
 use Rattle.ring_laws.proofs.PlacedAnswers.{Into, goes_into}
-use Rattle.tcmu_model.proofs.Rises.{among-append, among_every, every-among, differ_front}
+use Rattle.tcmu_types.proofs.Rises.{among-append, among_every, every-among, differ_front}
 use Rattle.tcmu_model.proofs.DrainEnds.{laid_command}
 
 -- ==== what is apart

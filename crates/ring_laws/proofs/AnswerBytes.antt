@@ -7,18 +7,19 @@ use Rattle.tcmu_types.specs.Data.{CommandData, ReplyData}
 use Rattle.tcmu_model.specs.declared.state.CommandState.{CommandState}
 use Rattle.tcmu_model.specs.declared.state.CommandState.TheVariants.{Parked, Placed}
 use Rattle.tcmu_model.specs.States.{same_state}
-use Rattle.tcmu_model.specs.Lists.{first_of}
+use Rattle.tcmu_types.specs.Lists.{first_of}
 use Rattle.tcmu_model.specs.RingState.{Item, Laid, commands_in, is_command}
 use Rattle.tcmu_model.specs.RingState as ring
 use Rattle.tcmu_model.specs.Device.{Unfinished, DeviceState, has_serial, is_at}
-use Rattle.tcmu_model.specs.Events.{turned, in_state, is_among}
-use Rattle.tcmu_model.specs.Sound.{Differ}
+use Rattle.tcmu_model.specs.Events.{turned, in_state}
+use Rattle.tcmu_types.specs.Numbers.{is_among, Differ}
 use Rattle.tcmu_model.specs.BlockLists.{Taken, list_of}
-use Rattle.tcmu_model.specs.Layout.{le, put, ring_start, data_start, response_bytes, with_response}
-use Rattle.tcmu_model.proofs.Written.{length-le, length-put}
-use Rattle.tcmu_model.specs.Picture.{place_of, item_bytes, entry_of, with_answer, request_of, ids_named, told_length, answered_entry}
-use Rattle.tcmu_model.specs.Sides.{Recorded, PendingRow}
-use Rattle.tcmu_model.specs.Represents.{RingStands, StandsAt, IdsStand, entry_at, id_in, ids_in, id_at, id_of}
+use Rattle.region_model.specs.Layout.{ring_start, data_start, response_bytes, with_response}
+use Rattle.tcmu_types.specs.ByteFields.{le, put}
+use Rattle.tcmu_types.proofs.ByteFields.{length-le, length-put}
+use Rattle.region_model.specs.Picture.{place_of, item_bytes, entry_of, with_answer, request_of, ids_named, told_length, answered_entry}
+use Rattle.region_model.specs.Sides.{Recorded, PendingRow}
+use Rattle.region_model.specs.Represents.{RingStands, StandsAt, IdsStand, entry_at, id_in, ids_in, id_at, id_of}
 use Rattle.ring_laws.proofs.Bytes.{take-written}
 use Rattle.ring_laws.proofs.Places.{slice_get-right}
 use Rattle.ring_laws.proofs.Answered.{response_apart, response_here, id_of_answered, answered_over}
@@ -26,7 +27,7 @@ use Rattle.ring_laws.specs.Placed.{CanAnswer, placed_in}
 use Rattle.ring_laws.proofs.Numbered.{NextEntry, items_apart, counted-before}
 use Rattle.ring_laws.proofs.LaidIds.{id-same}
 use Rattle.tcmu_types.proofs.Places.{get_append_left}
-use Rattle.tcmu_model.proofs.PartLengths.{length-response}
+use Rattle.region_model.proofs.PartLengths.{length-response}
 
 pub command-of : (n : ℕ) (l : Laid) → is_command (record { len = n; laid = l }) ≡ true → (q : ℕ) × (c : CommandData) × (l ≡ ring.Cmd q c)
 command-of n ring.Pad h = absurd (false≢true h)

@@ -4,12 +4,12 @@ use Rattle.std.proofs.Math.Nat.{mul-le-mul_left, mul-div_cancel_left}
 use Rattle.std.proofs.lemmas.Bool.{cases_Bool, eqb-true, eqb-false, cases_lt, or_parts}
 use Rattle.std.proofs.lemmas.List.{drop_at, take_all, take-append-drop, drop_all, drop-append-le, drop-drop, nil_from_length}
 use Rattle.tcmu_types.specs.declared.iovec.Iov.{Iov}
-use Rattle.tcmu_model.specs.Events.{is_among}
-use Rattle.tcmu_model.specs.Iovecs.{merged, iovs_along, scattered, gathered}
-use Rattle.tcmu_model.specs.Layout.{put}
-use Rattle.tcmu_model.specs.Regions.{home, HaveSize, numbers_from, first_block, block_count, numbers_of, put_home, put_where, returned}
-use Rattle.tcmu_model.specs.Sound.{Every, Differ}
-use Rattle.tcmu_model.specs.Areas.{block_bytes, bytes_along, IsHome, IsLent}
+use Rattle.tcmu_types.specs.Numbers.{is_among, Differ}
+use Rattle.region_model.specs.Iovecs.{merged, iovs_along, scattered, gathered}
+use Rattle.tcmu_types.specs.ByteFields.{put}
+use Rattle.region_model.specs.Regions.{home, HaveSize, numbers_from, first_block, block_count, numbers_of, put_home, put_where, returned}
+use Rattle.tcmu_types.specs.Lists.{Every}
+use Rattle.region_model.specs.Areas.{block_bytes, bytes_along, IsHome, IsLent}
 use Rattle.ring_laws.proofs.Scatter.{get-set_other, get-set_same, here-other, along-same}
 
 -- ==== what is given back

@@ -2,13 +2,14 @@
 use Rattle.std.proofs.Common.{◌≡◌, ℕ, ◌+◌, ◌-◌, ◌^◌, ◌≤◌, ◌<◌, ◌⊎◌, List, [], ◌++◌, length, take, drop, refl, sym, ap, ◌∙◌, arith, Option, length-append, length-drop, ⊎_elim}
 use Rattle.std.proofs.lemmas.List.{drop-append-le, length-take-le, drop-take, drop-drop}
 use Rattle.tcmu_types.specs.Data.{CommandData, ReplyData, SettingsData}
-use Rattle.tcmu_model.specs.Layout.{le, put, zeros, padded, ring_start, entry_header, command_head, command_bytes, response_bytes, with_response}
-use Rattle.tcmu_model.proofs.Written.{length-le, field-put, field-before, field-le, length-put}
-use Rattle.tcmu_model.specs.Picture.{request_of, answered_entry}
-use Rattle.tcmu_model.specs.Represents.{entry_at, id_in}
+use Rattle.region_model.specs.Layout.{ring_start, entry_header, command_head, command_bytes, response_bytes, with_response}
+use Rattle.tcmu_types.specs.ByteFields.{le, put, zeros, padded}
+use Rattle.tcmu_types.proofs.ByteFields.{length-le, field-put, field-before, field-le, length-put}
+use Rattle.region_model.specs.Picture.{request_of, answered_entry}
+use Rattle.region_model.specs.Represents.{entry_at, id_in}
 use Rattle.ring_laws.proofs.Bytes.{part, part-written_before, part-written_behind}
 use Rattle.ring_laws.proofs.Layouts.{take-written_inside}
-use Rattle.tcmu_model.proofs.PartLengths.{length-response}
+use Rattle.region_model.proofs.PartLengths.{length-response}
 
 -- ==== a response written into a ring
 

@@ -5,23 +5,22 @@ use Rattle.std.proofs.lemmas.Bool.{cases_Bool, cases_lt, eqb-true, eqb-false, an
 use Rattle.std.proofs.lemmas.List.{length-set}
 use Rattle.tcmu_types.specs.Data.{ReplyData}
 use Rattle.tcmu_types.specs.declared.iovec.Iov.{Iov}
-use Rattle.tcmu_model.specs.declared.mailbox.MailboxFault.{MailboxFault}
-use Rattle.tcmu_model.specs.Lists.{without_first, with_first}
-use Rattle.tcmu_model.specs.Layout.{le, put, ring_start, tail_place, response_bytes, with_response}
-use Rattle.tcmu_model.specs.EntryReading.{lies_inside}
-use Rattle.tcmu_model.specs.Iovecs.{scattered}
-use Rattle.tcmu_model.specs.Regions.{RegionState, size_of, bytes_of, overlaid, blocks_over, wrote, copied_in, given_back, named_by, put_where, put_home, returned}
-use Rattle.tcmu_model.specs.Picture.{told_length}
-use Rattle.tcmu_model.specs.Sound.{Every}
-use Rattle.tcmu_model.specs.Sides.{Recorded, Carried, Moved, Copied, Parked, GivenJob, UserState}
-use Rattle.tcmu_model.specs.UserSteps.{lie_in_area, with_payload, Placing, placed_at, placed_one, placed_front, is_open_job, with_parked, with_jobs, placing_by, user_responded, moving, moving_items, user_published, region_published, with_parked_back, region_abandoned, user_abandoned, user_attached, or_refused, region_reattached}
-use Rattle.tcmu_model.proofs.Everies.{every-take, every-drop}
-use Rattle.tcmu_model.proofs.Written.{length-le, put-nothing}
+use Rattle.region_model.specs.declared.mailbox.MailboxFault.{MailboxFault}
+use Rattle.tcmu_types.specs.Lists.{without_first, with_first, Every}
+use Rattle.region_model.specs.Layout.{ring_start, tail_place, response_bytes, with_response}
+use Rattle.tcmu_types.specs.ByteFields.{le, put}
+use Rattle.region_model.specs.EntryReading.{lies_inside}
+use Rattle.region_model.specs.Iovecs.{scattered}
+use Rattle.region_model.specs.Regions.{RegionState, size_of, bytes_of, overlaid, blocks_over, wrote, copied_in, given_back, named_by, put_where, put_home, returned}
+use Rattle.region_model.specs.Picture.{told_length}
+use Rattle.region_model.specs.Sides.{Recorded, Carried, Moved, Copied, Parked, GivenJob, UserState}
+use Rattle.region_model.specs.UserSteps.{lie_in_area, with_payload, Placing, placed_at, placed_one, placed_front, is_open_job, with_parked, with_jobs, placing_by, user_responded, moving, moving_items, user_published, region_published, with_parked_back, region_abandoned, user_abandoned, user_attached, or_refused, region_reattached}
+use Rattle.tcmu_types.proofs.Everies.{every-take, every-drop}
+use Rattle.tcmu_types.proofs.ByteFields.{length-le, put-nothing, length-put}
 use Rattle.ring_laws.specs.CalledOn.{SameSizes}
 use Rattle.ring_laws.specs.UserKept.{UserSound, HasRing, IsAnswered, OnlyAnswers, OnlyTail}
-use Rattle.tcmu_model.proofs.Written.{length-put}
 use Rattle.ring_laws.proofs.AnyNext.{get-other, next_place}
-use Rattle.tcmu_model.proofs.PartLengths.{length-response}
+use Rattle.region_model.proofs.PartLengths.{length-response}
 use Rattle.ring_laws.proofs.AnyRing.{sum_even}
 
 -- ==== the data of an answer

@@ -12,19 +12,19 @@ use Rattle.tcmu_types.specs.declared.answer.Tmr.{Tmr}
 use Rattle.tcmu_types.specs.declared.answer.Tmr.TheVariants as tmr
 use Rattle.tcmu_types.specs.declared.dump.ItemKind.{ItemKind}
 use Rattle.tcmu_types.specs.declared.dump.ItemKind.TheVariants as kind
-use Rattle.tcmu_model.specs.declared.entry.Response.{Response}
-use Rattle.tcmu_model.specs.Lists.{first_of, above_all}
+use Rattle.region_model.specs.declared.entry.Response.{Response}
+use Rattle.tcmu_types.specs.Lists.{first_of, Every}
+use Rattle.tcmu_types.specs.Numbers.{above_all}
 use Rattle.tcmu_model.specs.Device.{Delayed}
 use Rattle.tcmu_model.specs.Events.{later}
-use Rattle.tcmu_model.specs.Layout.{zeros}
-use Rattle.tcmu_model.specs.Regions.{RegionState, home, size_of, opening_region}
-use Rattle.tcmu_model.specs.Areas.{over, written_along}
-use Rattle.tcmu_model.specs.Sound.{Every}
-use Rattle.tcmu_model.specs.Sides.{PendingRow, Recorded, TargetState}
-use Rattle.tcmu_model.specs.Represents.{has_id}
-use Rattle.tcmu_model.specs.TargetSteps.{opening_target, blocks_held, blocks_wanted, blocks_given, block_data, row_of, region_laid, target_laid, target_submit_answer, target_submitted, region_submitted, target_enter_answer, first_entered, region_with_first, target_entered, region_entered, target_tmr_answer, target_noted, region_noted, target_ticked, target_blocked}
-use Rattle.tcmu_model.specs.TargetCleans.{answered_by, response_in, one_cleaned, target_cleaned, region_cleaned, target_reset, region_reset}
-use Rattle.tcmu_model.proofs.Everies.{every-append, every-weaker, every-both}
+use Rattle.tcmu_types.specs.ByteFields.{zeros}
+use Rattle.region_model.specs.Regions.{RegionState, home, size_of, opening_region}
+use Rattle.region_model.specs.Areas.{over, written_along}
+use Rattle.region_model.specs.Sides.{PendingRow, Recorded, TargetState}
+use Rattle.region_model.specs.Represents.{has_id}
+use Rattle.region_model.specs.TargetSteps.{opening_target, blocks_held, blocks_wanted, blocks_given, block_data, row_of, region_laid, target_laid, target_submit_answer, target_submitted, region_submitted, target_enter_answer, first_entered, region_with_first, target_entered, region_entered, target_tmr_answer, target_noted, region_noted, target_ticked, target_blocked}
+use Rattle.region_model.specs.TargetCleans.{answered_by, response_in, one_cleaned, target_cleaned, region_cleaned, target_reset, region_reset}
+use Rattle.tcmu_types.proofs.Everies.{every-append, every-weaker, every-both}
 use Rattle.ring_laws.specs.Calls.{TargetCall, Submits, Enters, Notes, Ticks, Blocks, Cleans, Resets, CallMade, Called, target_called}
 use Rattle.ring_laws.specs.CalledOn.{SameArea, region_called, CalledOn}
 use Rattle.ring_laws.proofs.Free.{IsFree, least-are}

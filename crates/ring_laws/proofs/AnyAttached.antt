@@ -1,10 +1,10 @@
 -- The user side as it is attached, over any bytes.
 use Rattle.std.proofs.Common.{◌≡◌, Result, Ok, Err, refl, ap, subst}
-use Rattle.tcmu_model.specs.declared.mailbox.Mailbox.{Mailbox}
-use Rattle.tcmu_model.specs.declared.mailbox.MailboxFault.{MailboxFault}
-use Rattle.tcmu_model.specs.Regions.{RegionState}
-use Rattle.tcmu_model.specs.Sides.{UserState}
-use Rattle.tcmu_model.specs.UserSteps.{user_mailbox, user_of, attached_to, user_attached}
+use Rattle.region_model.specs.declared.mailbox.Mailbox.{Mailbox}
+use Rattle.region_model.specs.declared.mailbox.MailboxFault.{MailboxFault}
+use Rattle.region_model.specs.Regions.{RegionState}
+use Rattle.region_model.specs.Sides.{UserState}
+use Rattle.region_model.specs.UserSteps.{user_mailbox, user_of, attached_to, user_attached}
 use Rattle.ring_laws.specs.UserKept.{UserSound, HasRing, HasPages}
 use Rattle.ring_laws.proofs.PassedEntries.{ReadFrom, read_from}
 

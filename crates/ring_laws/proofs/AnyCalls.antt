@@ -11,15 +11,15 @@ use Rattle.tcmu_types.specs.declared.answer.Tmr.{Tmr}
 use Rattle.tcmu_types.specs.declared.answer.Tmr.TheVariants as tmr
 use Rattle.tcmu_types.specs.declared.dump.ItemKind.{ItemKind}
 use Rattle.tcmu_types.specs.declared.dump.ItemKind.TheVariants as kind
-use Rattle.tcmu_model.specs.declared.entry.Response.{Response}
-use Rattle.tcmu_model.specs.Lists.{first_of}
+use Rattle.region_model.specs.declared.entry.Response.{Response}
+use Rattle.tcmu_types.specs.Lists.{first_of}
 use Rattle.tcmu_model.specs.Device.{Delayed}
 use Rattle.tcmu_model.specs.Events.{later, has_left}
-use Rattle.tcmu_model.specs.Regions.{RegionState, size_of}
-use Rattle.tcmu_model.specs.Sides.{PendingRow, Recorded, TargetState}
-use Rattle.tcmu_model.specs.Represents.{has_id}
-use Rattle.tcmu_model.specs.TargetSteps.{opening_target, blocks_free, blocks_wanted, fits_in, length_in, has_room, row_of, target_laid, submit_or_full, submit_or_delay, target_submit_answer, target_submitted, enter_or_full, target_enter_answer, first_entered, target_entered, target_tmr_answer, target_noted, target_ticked, target_blocked}
-use Rattle.tcmu_model.specs.TargetCleans.{tail_read, tail_fits, answered_by, response_in, one_cleaned, unless_broken, all_cleaned, target_cleaned, emptied_of, target_reset}
+use Rattle.region_model.specs.Regions.{RegionState, size_of}
+use Rattle.region_model.specs.Sides.{PendingRow, Recorded, TargetState}
+use Rattle.region_model.specs.Represents.{has_id}
+use Rattle.region_model.specs.TargetSteps.{opening_target, blocks_free, blocks_wanted, fits_in, length_in, has_room, row_of, target_laid, submit_or_full, submit_or_delay, target_submit_answer, target_submitted, enter_or_full, target_enter_answer, first_entered, target_entered, target_tmr_answer, target_noted, target_ticked, target_blocked}
+use Rattle.region_model.specs.TargetCleans.{tail_read, tail_fits, answered_by, response_in, one_cleaned, unless_broken, all_cleaned, target_cleaned, emptied_of, target_reset}
 use Rattle.ring_laws.specs.Calls.{TargetCall, Submits, Enters, Notes, Ticks, Blocks, Cleans, Resets, CallMade, Called, CanCall, IsFreeId, target_called, SerialsSound, TargetSound}
 use Rattle.ring_laws.proofs.PendingRows.{no_rows, rows_push, rows_without, rows_expired}
 use Rattle.ring_laws.proofs.CountedSerials.{no_serials, serials_queued, serials_delayed, serials_entered, serials_answered, serials_ticked, serials_reset}

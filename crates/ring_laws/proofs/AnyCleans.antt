@@ -5,17 +5,18 @@ use Rattle.std.proofs.Math.Nat.{min-le_left}
 use Rattle.tcmu_types.specs.Data.{DoneData}
 use Rattle.tcmu_types.specs.declared.dump.ItemKind.{ItemKind}
 use Rattle.tcmu_types.specs.declared.dump.ItemKind.TheVariants as kind
-use Rattle.tcmu_model.specs.declared.entry.Response.{Response}
-use Rattle.tcmu_model.specs.Lists.{first_of, without_first}
-use Rattle.tcmu_model.specs.Sound.{Every, Rise, delayed_serials}
-use Rattle.tcmu_model.specs.Regions.{RegionState, size_of}
-use Rattle.tcmu_model.specs.Areas.{bytes_along}
-use Rattle.tcmu_model.specs.Pending.{PendingData}
-use Rattle.tcmu_model.specs.Sides.{PendingRow, Recorded, TargetState}
-use Rattle.tcmu_model.specs.Represents.{has_id, row_has}
-use Rattle.tcmu_model.specs.TargetSteps.{closed, checked}
-use Rattle.tcmu_model.specs.TargetCleans.{length_told, payload_read, sense_read, completion_read, completions_read, answered_by, response_in, one_cleaned, target_cleaned}
-use Rattle.tcmu_model.proofs.Everies.{every-append, every-weaker}
+use Rattle.region_model.specs.declared.entry.Response.{Response}
+use Rattle.tcmu_types.specs.Lists.{first_of, without_first, Every}
+use Rattle.tcmu_model.specs.Sound.{delayed_serials}
+use Rattle.tcmu_types.specs.Numbers.{Rise}
+use Rattle.region_model.specs.Regions.{RegionState, size_of}
+use Rattle.region_model.specs.Areas.{bytes_along}
+use Rattle.region_model.specs.Pending.{PendingData}
+use Rattle.region_model.specs.Sides.{PendingRow, Recorded, TargetState}
+use Rattle.region_model.specs.Represents.{has_id, row_has}
+use Rattle.region_model.specs.TargetSteps.{closed, checked}
+use Rattle.region_model.specs.TargetCleans.{length_told, payload_read, sense_read, completion_read, completions_read, answered_by, response_in, one_cleaned, target_cleaned}
+use Rattle.tcmu_types.proofs.Everies.{every-append, every-weaker}
 use Rattle.ring_laws.specs.Calls.{TargetSound, CompletesOwn, CompletedBy, CleanLogs}
 use Rattle.ring_laws.proofs.Found.{first-passes}
 use Rattle.ring_laws.proofs.CountedSerials.{read_serial}

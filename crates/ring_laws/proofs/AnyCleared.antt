@@ -7,11 +7,11 @@ use Rattle.std.proofs.lemmas.List.Sums.{sum_by-cons}
 use Rattle.tcmu_types.specs.Data.{SettingsData}
 use Rattle.tcmu_types.specs.declared.dump.ItemKind.{ItemKind}
 use Rattle.tcmu_types.specs.declared.dump.ItemKind.TheVariants as kind
-use Rattle.tcmu_model.specs.Lists.{first_of}
-use Rattle.tcmu_model.specs.Regions.{RegionState}
-use Rattle.tcmu_model.specs.Sides.{PendingRow, Recorded, TargetState}
-use Rattle.tcmu_model.specs.Represents.{has_id}
-use Rattle.tcmu_model.specs.TargetCleans.{tail_read, ends_at, tail_fits, answered_by, response_in, one_cleaned, unless_broken, all_cleaned, target_cleaned}
+use Rattle.tcmu_types.specs.Lists.{first_of}
+use Rattle.region_model.specs.Regions.{RegionState}
+use Rattle.region_model.specs.Sides.{PendingRow, Recorded, TargetState}
+use Rattle.region_model.specs.Represents.{has_id}
+use Rattle.region_model.specs.TargetCleans.{tail_read, ends_at, tail_fits, answered_by, response_in, one_cleaned, unless_broken, all_cleaned, target_cleaned}
 use Rattle.ring_laws.specs.Calls.{ClearsFirst, StopsAt}
 
 -- ==== one item

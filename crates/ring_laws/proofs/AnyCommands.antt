@@ -14,19 +14,18 @@ use Rattle.tcmu_types.specs.declared.answer.Tmr.{Tmr}
 use Rattle.tcmu_types.specs.declared.answer.Tmr.TheVariants as tmr
 use Rattle.tcmu_types.specs.declared.dump.ItemKind.{ItemKind}
 use Rattle.tcmu_types.specs.declared.dump.ItemKind.TheVariants as kind
-use Rattle.tcmu_model.specs.declared.entry.Response.{Response}
-use Rattle.tcmu_model.specs.Lists.{first_of}
+use Rattle.region_model.specs.declared.entry.Response.{Response}
+use Rattle.tcmu_types.specs.Lists.{first_of, Every}
 use Rattle.tcmu_model.specs.Device.{Delayed}
 use Rattle.tcmu_model.specs.Events.{later, has_left, departure, closing, check_condition, reset_completion}
-use Rattle.tcmu_model.specs.Sound.{Every}
-use Rattle.tcmu_model.specs.Regions.{RegionState, size_of}
-use Rattle.tcmu_model.specs.Areas.{bytes_along}
-use Rattle.tcmu_model.specs.Pending.{PendingData}
-use Rattle.tcmu_model.specs.Sides.{PendingRow, Recorded, TargetState}
-use Rattle.tcmu_model.specs.Represents.{has_id}
-use Rattle.tcmu_model.specs.TargetSteps.{opening_target, blocks_held, blocks_free, blocks_wanted, row_of, closed, checked, is_due_at, expired_at, target_laid, target_submit_answer, target_submitted, enter_or_full, target_enter_answer, first_entered, target_entered, target_tmr_answer, target_noted, target_ticked, target_blocked}
-use Rattle.tcmu_model.specs.TargetCleans.{payload_read, sense_read, completion_read, completions_read, answered_by, response_in, one_cleaned, target_cleaned, reset_log, emptied_of, target_reset}
-use Rattle.tcmu_model.proofs.Everies.{every-weaker, every-map, every-append, every-filter, every-first, every-without_first}
+use Rattle.region_model.specs.Regions.{RegionState, size_of}
+use Rattle.region_model.specs.Areas.{bytes_along}
+use Rattle.region_model.specs.Pending.{PendingData}
+use Rattle.region_model.specs.Sides.{PendingRow, Recorded, TargetState}
+use Rattle.region_model.specs.Represents.{has_id}
+use Rattle.region_model.specs.TargetSteps.{opening_target, blocks_held, blocks_free, blocks_wanted, row_of, closed, checked, is_due_at, expired_at, target_laid, target_submit_answer, target_submitted, enter_or_full, target_enter_answer, first_entered, target_entered, target_tmr_answer, target_noted, target_ticked, target_blocked}
+use Rattle.region_model.specs.TargetCleans.{payload_read, sense_read, completion_read, completions_read, answered_by, response_in, one_cleaned, target_cleaned, reset_log, emptied_of, target_reset}
+use Rattle.tcmu_types.proofs.Everies.{every-weaker, every-map, every-append, every-filter, every-first, every-without_first}
 use Rattle.ring_laws.specs.Calls.{TargetCall, Submits, Enters, Notes, Ticks, Blocks, Cleans, Resets, CallMade, Called, TargetSound, target_called, CompletesOwn, HasSerial, IsRowOf, IsDoneOf, IsOfCommands, accepted_by, accepted_at, accepted_along}
 use Rattle.tcmu_types.proofs.Places.{get_append_left}
 use Rattle.ring_laws.proofs.Places.{slice_get-right}

@@ -7,15 +7,15 @@ use Rattle.std.proofs.lemmas.Bool.{cases_Bool, and_parts, eqb-false, false≢tru
 use Rattle.std.proofs.lemmas.List.Sums.{sum_by-cons, sum_by-append, sum_by-take-drop}
 use Rattle.tcmu_types.specs.declared.dump.ItemKind.{ItemKind}
 use Rattle.tcmu_types.specs.declared.dump.ItemKind.TheVariants as kind
-use Rattle.tcmu_model.specs.declared.mailbox.Mailbox.{Mailbox}
-use Rattle.tcmu_model.specs.declared.mailbox.MailboxFault.{MailboxFault}
-use Rattle.tcmu_model.specs.Lists.{first_of, without_first, with_first}
-use Rattle.tcmu_model.specs.Regions.{RegionState}
-use Rattle.tcmu_model.specs.Sides.{GivenJob, Parked, Recorded, UserState}
-use Rattle.tcmu_model.specs.UserSteps.{Placing, is_cmd, is_open_job, is_unanswered, movable, moving, moving_items, placed_at, placed_front, placed_one, placing_by, user_abandoned, user_attached, user_mailbox, user_of, user_published, user_responded, attached_to, with_jobs, with_parked}
-use Rattle.tcmu_model.specs.UserNext.{with_passed, with_job, nexted}
-use Rattle.tcmu_model.proofs.Counts.{sum-with_first_less, sum-without_first}
-use Rattle.tcmu_model.proofs.Firsts.{length-with_first}
+use Rattle.region_model.specs.declared.mailbox.Mailbox.{Mailbox}
+use Rattle.region_model.specs.declared.mailbox.MailboxFault.{MailboxFault}
+use Rattle.tcmu_types.specs.Lists.{first_of, without_first, with_first}
+use Rattle.region_model.specs.Regions.{RegionState}
+use Rattle.region_model.specs.Sides.{GivenJob, Parked, Recorded, UserState}
+use Rattle.region_model.specs.UserSteps.{Placing, is_cmd, is_open_job, is_unanswered, movable, moving, moving_items, placed_at, placed_front, placed_one, placing_by, user_abandoned, user_attached, user_mailbox, user_of, user_published, user_responded, attached_to, with_jobs, with_parked}
+use Rattle.region_model.specs.UserNext.{with_passed, with_job, nexted}
+use Rattle.tcmu_types.proofs.Counts.{sum-with_first_less, sum-without_first}
+use Rattle.tcmu_types.proofs.Firsts.{length-with_first}
 use Rattle.ring_laws.specs.UserKept.{UserCounts, UsesEntries}
 use Rattle.ring_laws.proofs.Found.{first-passes}
 use Rattle.ring_laws.proofs.HandTells.{some_first}

@@ -2,17 +2,17 @@
 use Rattle.std.proofs.Common.{◌≡◌, ℕ, ◌+◌, ◌*◌, Bool, true, false, ◌==◌, List, length, suc, zero, Result, Ok, Err, refl, sym, ap, ◌∙◌, subst}
 use Rattle.tcmu_types.specs.declared.dump.ItemKind.TheVariants as kind
 use Rattle.tcmu_types.specs.declared.iovec.Iov.{Iov}
-use Rattle.tcmu_model.specs.declared.mailbox.Mailbox.{Mailbox}
-use Rattle.tcmu_model.specs.declared.mailbox.MailboxFault.{MailboxFault}
-use Rattle.tcmu_model.specs.declared.entry.EntryRef.{EntryRef}
-use Rattle.tcmu_model.specs.declared.entry.EntryRef.TheVariants as entry
-use Rattle.tcmu_model.specs.declared.entry.EntryFault.{EntryFault}
-use Rattle.tcmu_model.specs.Layout.{ring_start}
-use Rattle.tcmu_model.specs.EntryReading.{entry_read}
-use Rattle.tcmu_model.specs.Regions.{RegionState, size_of}
-use Rattle.tcmu_model.specs.Sides.{UserState}
-use Rattle.tcmu_model.specs.UserSteps.{user_mailbox}
-use Rattle.tcmu_model.specs.UserNext.{Nothing, BadMailbox, BadEntry, Nexted, iovs_in, tmr_ids_in, with_passed, with_unknown, command_next, note_next, next_within, most_entries, next_of, nexted}
+use Rattle.region_model.specs.declared.mailbox.Mailbox.{Mailbox}
+use Rattle.region_model.specs.declared.mailbox.MailboxFault.{MailboxFault}
+use Rattle.region_model.specs.declared.entry.EntryRef.{EntryRef}
+use Rattle.region_model.specs.declared.entry.EntryRef.TheVariants as entry
+use Rattle.region_model.specs.declared.entry.EntryFault.{EntryFault}
+use Rattle.region_model.specs.Layout.{ring_start}
+use Rattle.region_model.specs.EntryReading.{entry_read}
+use Rattle.region_model.specs.Regions.{RegionState, size_of}
+use Rattle.region_model.specs.Sides.{UserState}
+use Rattle.region_model.specs.UserSteps.{user_mailbox}
+use Rattle.region_model.specs.UserNext.{Nothing, BadMailbox, BadEntry, Nexted, iovs_in, tmr_ids_in, with_passed, with_unknown, command_next, note_next, next_within, most_entries, next_of, nexted}
 use Rattle.ring_laws.specs.UserKept.{IsFault}
 
 -- ==== entries that are passed

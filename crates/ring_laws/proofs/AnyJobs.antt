@@ -2,18 +2,19 @@
 use Rattle.std.proofs.Common.{◌≡◌, ℕ, ◌+◌, ◌*◌, ◌==◌, Bool, true, false, List, [], ◌∷◌, length, suc, zero, Option, Some, None, Result, Ok, Err, refl, sym, ap, ◌∙◌, arith, subst, length-append}
 use Rattle.std.specs.List.{list_all}
 use Rattle.tcmu_types.specs.declared.dump.ItemKind.TheVariants as kind
-use Rattle.tcmu_model.specs.declared.mailbox.Mailbox.{Mailbox}
-use Rattle.tcmu_model.specs.declared.mailbox.MailboxFault.{MailboxFault}
-use Rattle.tcmu_model.specs.declared.entry.EntryRef.{EntryRef}
-use Rattle.tcmu_model.specs.declared.entry.EntryRef.TheVariants as entry
-use Rattle.tcmu_model.specs.declared.entry.EntryFault.{EntryFault}
-use Rattle.tcmu_model.specs.Layout.{data_start, ring_start, zeros}
-use Rattle.tcmu_model.specs.EntryReading.{entry_read, lies_inside}
-use Rattle.tcmu_model.specs.Regions.{AreSized, RegionState, size_of, shown, bytes_of}
-use Rattle.tcmu_model.specs.Sides.{JobState, UserState}
-use Rattle.tcmu_model.specs.UserSteps.{lie_in_area, user_mailbox}
-use Rattle.tcmu_model.specs.UserNext.{NextAnswer, Job, Note, Nothing, BadMailbox, BadEntry, Nexted, iovs_in, tmr_ids_in, with_passed, with_unknown, command_next, note_next, next_within, most_entries, nexted}
-use Rattle.tcmu_model.proofs.Written.{length-zeros}
+use Rattle.region_model.specs.declared.mailbox.Mailbox.{Mailbox}
+use Rattle.region_model.specs.declared.mailbox.MailboxFault.{MailboxFault}
+use Rattle.region_model.specs.declared.entry.EntryRef.{EntryRef}
+use Rattle.region_model.specs.declared.entry.EntryRef.TheVariants as entry
+use Rattle.region_model.specs.declared.entry.EntryFault.{EntryFault}
+use Rattle.region_model.specs.Layout.{data_start, ring_start}
+use Rattle.tcmu_types.specs.ByteFields.{zeros}
+use Rattle.region_model.specs.EntryReading.{entry_read, lies_inside}
+use Rattle.region_model.specs.Regions.{AreSized, RegionState, size_of, shown, bytes_of}
+use Rattle.region_model.specs.Sides.{JobState, UserState}
+use Rattle.region_model.specs.UserSteps.{lie_in_area, user_mailbox}
+use Rattle.region_model.specs.UserNext.{NextAnswer, Job, Note, Nothing, BadMailbox, BadEntry, Nexted, iovs_in, tmr_ids_in, with_passed, with_unknown, command_next, note_next, next_within, most_entries, nexted}
+use Rattle.tcmu_types.proofs.ByteFields.{length-zeros}
 use Rattle.ring_laws.proofs.PassedEntries.{ReadFrom, read_from, inside_read}
 use Rattle.ring_laws.proofs.AnyFaults.{by_mailbox, next_mailbox}
 

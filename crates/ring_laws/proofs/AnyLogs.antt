@@ -10,13 +10,13 @@ use Rattle.tcmu_types.specs.declared.answer.Tmr.{Tmr}
 use Rattle.tcmu_types.specs.declared.answer.Tmr.TheVariants as tmr
 use Rattle.tcmu_model.specs.Device.{Delayed}
 use Rattle.tcmu_model.specs.Events.{later, has_left, departure, closing, check_condition, reset_completion}
-use Rattle.tcmu_model.specs.Regions.{RegionState}
-use Rattle.tcmu_model.specs.Sound.{Every}
-use Rattle.tcmu_model.specs.Pending.{PendingData}
-use Rattle.tcmu_model.specs.Sides.{PendingRow, TargetState}
-use Rattle.tcmu_model.specs.TargetSteps.{closed, checked, is_due_at, target_laid, target_submit_answer, target_submitted, target_enter_answer, first_entered, target_entered, target_tmr_answer, target_noted, target_ticked, target_blocked}
-use Rattle.tcmu_model.specs.TargetCleans.{target_cleaned, reset_log, reset_logs, target_reset}
-use Rattle.tcmu_model.proofs.Everies.{every-append, every-weaker}
+use Rattle.region_model.specs.Regions.{RegionState}
+use Rattle.tcmu_types.specs.Lists.{Every}
+use Rattle.region_model.specs.Pending.{PendingData}
+use Rattle.region_model.specs.Sides.{PendingRow, TargetState}
+use Rattle.region_model.specs.TargetSteps.{closed, checked, is_due_at, target_laid, target_submit_answer, target_submitted, target_enter_answer, first_entered, target_entered, target_tmr_answer, target_noted, target_ticked, target_blocked}
+use Rattle.region_model.specs.TargetCleans.{target_cleaned, reset_log, reset_logs, target_reset}
+use Rattle.tcmu_types.proofs.Everies.{every-append, every-weaker}
 use Rattle.ring_laws.specs.Calls.{TargetCall, Submits, Enters, Notes, Ticks, Blocks, Cleans, Resets, target_called, TargetSound, CompletedBy, CleanLogs, HasOwnBytes, CallLogs}
 use Rattle.ring_laws.proofs.AnyCleans.{clean_logs}
 

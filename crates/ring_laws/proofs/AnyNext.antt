@@ -11,23 +11,23 @@ use Rattle.tcmu_types.specs.declared.dump.ItemKind.{ItemKind}
 use Rattle.tcmu_types.specs.declared.dump.ItemKind.TheVariants as kind
 use Rattle.tcmu_types.specs.declared.iovec.Iov.{Iov}
 use Rattle.tcmu_types.proofs.Overwriting.{get_overwritten, put_in, put_before, put_behind}
-use Rattle.tcmu_model.specs.declared.mailbox.Mailbox.{Mailbox}
-use Rattle.tcmu_model.specs.declared.mailbox.MailboxFault.{MailboxFault}
-use Rattle.tcmu_model.specs.declared.entry.EntryRef.{EntryRef}
-use Rattle.tcmu_model.specs.declared.entry.EntryRef.TheVariants as entry
-use Rattle.tcmu_model.specs.declared.entry.EntryFault.{EntryFault}
-use Rattle.tcmu_model.specs.Layout.{field, put, ring_start, data_start}
-use Rattle.tcmu_model.specs.EntryReading.{op_at, limit_of, entry_read}
-use Rattle.tcmu_model.specs.Regions.{RegionState, size_of, numbers_of, are_whole, can_take, without, named_by, can_lend, lent}
-use Rattle.tcmu_model.specs.Sides.{Recorded, UserState}
-use Rattle.tcmu_model.specs.UserSteps.{user_mailbox}
-use Rattle.tcmu_model.specs.UserNext.{NextAnswer, Job, Note, Nothing, BadMailbox, BadEntry, Nexted, iovs_in, tmr_ids_in, region_lent, with_passed, with_unknown, with_job, command_next, note_next, next_within, most_entries, next_of, nexted}
-use Rattle.tcmu_model.proofs.Everies.{every-append}
-use Rattle.tcmu_model.proofs.Written.{field-before}
+use Rattle.region_model.specs.declared.mailbox.Mailbox.{Mailbox}
+use Rattle.region_model.specs.declared.mailbox.MailboxFault.{MailboxFault}
+use Rattle.region_model.specs.declared.entry.EntryRef.{EntryRef}
+use Rattle.region_model.specs.declared.entry.EntryRef.TheVariants as entry
+use Rattle.region_model.specs.declared.entry.EntryFault.{EntryFault}
+use Rattle.region_model.specs.Layout.{ring_start, data_start}
+use Rattle.tcmu_types.specs.ByteFields.{field, put}
+use Rattle.region_model.specs.EntryReading.{op_at, limit_of, entry_read}
+use Rattle.region_model.specs.Regions.{RegionState, size_of, numbers_of, are_whole, can_take, without, named_by, can_lend, lent}
+use Rattle.region_model.specs.Sides.{Recorded, UserState}
+use Rattle.region_model.specs.UserSteps.{user_mailbox}
+use Rattle.region_model.specs.UserNext.{NextAnswer, Job, Note, Nothing, BadMailbox, BadEntry, Nexted, iovs_in, tmr_ids_in, region_lent, with_passed, with_unknown, with_job, command_next, note_next, next_within, most_entries, next_of, nexted}
+use Rattle.tcmu_types.proofs.Everies.{every-append}
+use Rattle.tcmu_types.proofs.ByteFields.{field-before, length-put}
 use Rattle.ring_laws.specs.CalledOn.{SameSizes}
 use Rattle.ring_laws.specs.RingKept.{IsPlace}
 use Rattle.ring_laws.specs.UserKept.{UserSound, HasRing, SetsBit, OnlySetsBits, blocks_behind}
-use Rattle.tcmu_model.proofs.Written.{length-put}
 use Rattle.ring_laws.proofs.Bytes.{drop-written}
 use Rattle.ring_laws.proofs.PassedEntries.{Bounded, ReadFrom, read_from, Within, within_read}
 

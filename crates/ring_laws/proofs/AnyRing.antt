@@ -5,7 +5,7 @@ use Rattle.std.proofs.Math.Nat.{mod-eq_of_lt, mod_self}
 use Rattle.std.proofs.lemmas.Bool.{cases_Bool, eqb-true, ltb-false, leb-true}
 use Rattle.std.proofs.lemmas.List.Sums.{sum_by-cons, sum_by-append}
 use Rattle.tcmu_types.specs.Data.{CommandData, SettingsData}
-use Rattle.tcmu_types.specs.Rules.{IsSettings}
+use Rattle.tcmu_types.specs.Rules.{IsSettings, payload_length}
 use Rattle.tcmu_types.specs.declared.answer.Submit.{Submit}
 use Rattle.tcmu_types.specs.declared.answer.Submit.TheVariants as submit
 use Rattle.tcmu_types.specs.declared.answer.Enter.{Enter}
@@ -14,33 +14,31 @@ use Rattle.tcmu_types.specs.declared.answer.Tmr.{Tmr}
 use Rattle.tcmu_types.specs.declared.answer.Tmr.TheVariants as tmr
 use Rattle.tcmu_types.specs.declared.dump.ItemKind.{ItemKind}
 use Rattle.tcmu_types.specs.declared.dump.ItemKind.TheVariants as kind
-use Rattle.tcmu_model.specs.declared.entry.Response.{Response}
-use Rattle.tcmu_model.specs.Lists.{first_of}
+use Rattle.region_model.specs.declared.entry.Response.{Response}
+use Rattle.tcmu_types.specs.Lists.{first_of, Every}
 use Rattle.tcmu_model.specs.Lengths.{block_size, blocks_of, tmr_length}
 use Rattle.tcmu_model.specs.Device.{Delayed}
 use Rattle.tcmu_model.specs.BlockLists.{free_from}
-use Rattle.tcmu_types.specs.Rules.{payload_length}
-use Rattle.tcmu_model.specs.Layout.{le, put, tmr_bytes, data_start, head_place, tail_place}
-use Rattle.tcmu_model.specs.Regions.{RegionState, opening_region}
-use Rattle.tcmu_model.specs.Sound.{Every}
-use Rattle.tcmu_model.specs.Picture.{command_iovs, request_of}
-use Rattle.tcmu_model.specs.Sides.{PendingRow, Recorded, TargetState}
-use Rattle.tcmu_model.specs.Represents.{has_id, row_has}
-use Rattle.tcmu_model.specs.TargetSteps.{opening_target, used_in, head_in, free_in, pad_in, need_in, fits_in, length_in, blocks_held, blocks_given, blocks_wanted, place_in, front_with, pads_of, with_recorded, region_laid, target_laid, id_or_zero, ids_of, unknown_in, target_submit_answer, target_submitted, region_submitted, target_enter_answer, first_entered, region_with_first, target_entered, region_entered, target_tmr_answer, target_noted, region_noted, target_ticked, target_blocked}
-use Rattle.tcmu_model.specs.TargetCleans.{tail_read, tail_fits, past, answered_by, response_in, one_cleaned, unless_broken, all_cleaned, target_cleaned, target_reset, region_reset}
-use Rattle.tcmu_model.proofs.Everies.{every-append}
-use Rattle.tcmu_model.proofs.Written.{length-le}
+use Rattle.region_model.specs.Layout.{tmr_bytes, data_start, head_place, tail_place}
+use Rattle.tcmu_types.specs.ByteFields.{le, put}
+use Rattle.region_model.specs.Regions.{RegionState, opening_region}
+use Rattle.region_model.specs.Picture.{command_iovs, request_of}
+use Rattle.region_model.specs.Sides.{PendingRow, Recorded, TargetState}
+use Rattle.region_model.specs.Represents.{has_id, row_has}
+use Rattle.region_model.specs.TargetSteps.{opening_target, used_in, head_in, free_in, pad_in, need_in, fits_in, length_in, blocks_held, blocks_given, blocks_wanted, place_in, front_with, pads_of, with_recorded, region_laid, target_laid, id_or_zero, ids_of, unknown_in, target_submit_answer, target_submitted, region_submitted, target_enter_answer, first_entered, region_with_first, target_entered, region_entered, target_tmr_answer, target_noted, region_noted, target_ticked, target_blocked}
+use Rattle.region_model.specs.TargetCleans.{tail_read, tail_fits, past, answered_by, response_in, one_cleaned, unless_broken, all_cleaned, target_cleaned, target_reset, region_reset}
+use Rattle.tcmu_types.proofs.Everies.{every-append}
+use Rattle.tcmu_types.proofs.ByteFields.{length-le, length-put}
 use Rattle.tcmu_model.proofs.SoundLaying.{entry_even, tmr_sizes}
 use Rattle.ring_laws.specs.Calls.{TargetCall, Submits, Enters, Notes, Ticks, Blocks, Cleans, Resets, CallMade, Called, TargetSound, target_called}
 use Rattle.ring_laws.specs.CalledOn.{region_called, CalledOn}
 use Rattle.ring_laws.specs.RingKept.{IsPlace, RingKept}
-use Rattle.tcmu_model.proofs.Written.{length-put}
 use Rattle.ring_laws.proofs.LaidEntry.{length-entered}
 use Rattle.std.proofs.lemmas.List.{length-map}
 use Rattle.ring_laws.proofs.AnyCalls.{Told, told, ToldFirst, told_first, sound_opened, sound_called}
 use Rattle.ring_laws.proofs.AnySettings.{one_same, called_same}
 use Rattle.ring_laws.proofs.AnyNext.{next_place}
-use Rattle.tcmu_model.proofs.PartLengths.{length-iovs, length-note, length-opening, length-request}
+use Rattle.region_model.proofs.PartLengths.{length-iovs, length-note, length-opening, length-request}
 use Rattle.ring_laws.proofs.CleanedRing.{front_cleaned}
 
 pub ring_opened : (s : SettingsData) → IsSettings s → RingKept (opening_target s)

@@ -15,19 +15,18 @@ use Rattle.tcmu_types.specs.declared.answer.Tmr.{Tmr}
 use Rattle.tcmu_types.specs.declared.answer.Tmr.TheVariants as tmr
 use Rattle.tcmu_types.specs.declared.dump.ItemKind.{ItemKind}
 use Rattle.tcmu_types.specs.declared.dump.ItemKind.TheVariants as kind
-use Rattle.tcmu_model.specs.declared.entry.Response.{Response}
-use Rattle.tcmu_model.specs.Lists.{first_of, without_first}
+use Rattle.region_model.specs.declared.entry.Response.{Response}
+use Rattle.tcmu_types.specs.Lists.{first_of, without_first, Every}
 use Rattle.tcmu_model.specs.Lengths.{blocks_of, tmr_length}
 use Rattle.tcmu_model.specs.Device.{Delayed}
 use Rattle.tcmu_model.specs.Events.{later}
-use Rattle.tcmu_model.specs.Regions.{RegionState}
-use Rattle.tcmu_model.specs.Sound.{Every}
-use Rattle.tcmu_model.specs.Sides.{PendingRow, Recorded, TargetState}
-use Rattle.tcmu_model.specs.Represents.{has_id}
-use Rattle.tcmu_model.specs.TargetSteps.{opening_target, pad_in, length_in, pads_of, with_recorded, row_of, expired_at, target_laid, target_submit_answer, target_submitted, target_enter_answer, first_entered, target_entered, target_tmr_answer, target_noted, target_ticked, target_blocked}
-use Rattle.tcmu_model.specs.TargetCleans.{tail_read, tail_fits, past, answered_by, response_in, one_cleaned, all_cleaned, target_cleaned, target_reset}
-use Rattle.tcmu_model.specs.UserSteps.{is_cmd}
-use Rattle.tcmu_model.proofs.Everies.{every-append}
+use Rattle.region_model.specs.Regions.{RegionState}
+use Rattle.region_model.specs.Sides.{PendingRow, Recorded, TargetState}
+use Rattle.region_model.specs.Represents.{has_id}
+use Rattle.region_model.specs.TargetSteps.{opening_target, pad_in, length_in, pads_of, with_recorded, row_of, expired_at, target_laid, target_submit_answer, target_submitted, target_enter_answer, first_entered, target_entered, target_tmr_answer, target_noted, target_ticked, target_blocked}
+use Rattle.region_model.specs.TargetCleans.{tail_read, tail_fits, past, answered_by, response_in, one_cleaned, all_cleaned, target_cleaned, target_reset}
+use Rattle.region_model.specs.UserSteps.{is_cmd}
+use Rattle.tcmu_types.proofs.Everies.{every-append}
 use Rattle.ring_laws.specs.Calls.{TargetCall, Submits, Enters, Notes, Ticks, Blocks, Cleans, Resets, CallMade, Called, target_called}
 use Rattle.ring_laws.specs.RingKept.{RingKept, RowsKept}
 use Rattle.ring_laws.proofs.AnyCleared.{Passed, Stopped, one_case, by_item, stopped_all}

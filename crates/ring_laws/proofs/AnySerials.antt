@@ -4,13 +4,15 @@ use Rattle.std.proofs.lemmas.Bool.{and_parts, ltb-true, leb-true, le-leb, ne_eqb
 use Rattle.std.proofs.lemmas.List.Sums.{sum_by-cons}
 use Rattle.tcmu_types.specs.Data.{DoneData}
 use Rattle.tcmu_model.specs.Device.{Delayed}
-use Rattle.tcmu_model.specs.Sound.{Every, Rise, Differ, times_logged, delayed_serials, is_delayed_at}
-use Rattle.tcmu_model.specs.Sides.{PendingRow, TargetState}
-use Rattle.tcmu_model.proofs.Everies.{every-weaker, every-both, every-mapped, every-front}
-use Rattle.tcmu_model.proofs.Rises.{rise_within}
+use Rattle.tcmu_model.specs.Sound.{times_logged, delayed_serials, is_delayed_at}
+use Rattle.tcmu_types.specs.Numbers.{Rise, Differ}
+use Rattle.tcmu_types.specs.Lists.{Every}
+use Rattle.region_model.specs.Sides.{PendingRow, TargetState}
+use Rattle.tcmu_types.proofs.Everies.{every-weaker, every-both, every-mapped, every-front}
+use Rattle.tcmu_types.proofs.Rises.{rise_within}
 use Rattle.ring_laws.specs.Calls.{is_pending_at, times_pending, times_delayed, is_given, TargetSound}
 use Rattle.tcmu_model.proofs.Accounts.{once_differ, some_logged, at_most_one, some_one}
-use Rattle.tcmu_model.proofs.Counts.{counts_none}
+use Rattle.tcmu_types.proofs.Counts.{counts_none}
 
 -- no serial stands twice in the log
 pub logged_once : (t : TargetState) → TargetSound t → Differ (map (λ (e : DoneData). e.serial) t.log)

@@ -9,15 +9,14 @@ use Rattle.tcmu_types.specs.declared.answer.Tmr.{Tmr}
 use Rattle.tcmu_types.specs.declared.answer.Tmr.TheVariants as tmr
 use Rattle.tcmu_types.specs.declared.dump.ItemKind.{ItemKind}
 use Rattle.tcmu_types.specs.declared.dump.ItemKind.TheVariants as kind
-use Rattle.tcmu_model.specs.declared.entry.Response.{Response}
-use Rattle.tcmu_model.specs.Lists.{first_of}
+use Rattle.region_model.specs.declared.entry.Response.{Response}
+use Rattle.tcmu_types.specs.Lists.{first_of, Every}
 use Rattle.tcmu_model.specs.Device.{Delayed}
-use Rattle.tcmu_model.specs.Regions.{RegionState}
-use Rattle.tcmu_model.specs.Sides.{PendingRow, Recorded, TargetState}
-use Rattle.tcmu_model.specs.Sound.{Every}
-use Rattle.tcmu_model.specs.Represents.{has_id}
-use Rattle.tcmu_model.specs.TargetSteps.{opening_target, blocks_held, target_laid, target_submit_answer, target_submitted, target_enter_answer, first_entered, target_entered, target_tmr_answer, target_noted, target_ticked, target_blocked}
-use Rattle.tcmu_model.specs.TargetCleans.{answered_by, response_in, one_cleaned, target_cleaned, target_reset}
+use Rattle.region_model.specs.Regions.{RegionState}
+use Rattle.region_model.specs.Sides.{PendingRow, Recorded, TargetState}
+use Rattle.region_model.specs.Represents.{has_id}
+use Rattle.region_model.specs.TargetSteps.{opening_target, blocks_held, target_laid, target_submit_answer, target_submitted, target_enter_answer, first_entered, target_entered, target_tmr_answer, target_noted, target_ticked, target_blocked}
+use Rattle.region_model.specs.TargetCleans.{answered_by, response_in, one_cleaned, target_cleaned, target_reset}
 use Rattle.ring_laws.specs.Calls.{TargetCall, Submits, Enters, Notes, Ticks, Blocks, Cleans, Resets, CallMade, Called, target_called}
 use Rattle.ring_laws.proofs.AnyCalls.{clean_keeps, sound_from_opening}
 

@@ -1,9 +1,9 @@
 -- Where a clean stops over any bytes: at a kept id, at a tail that is no item's end, and at an id that no command has.
 use Rattle.std.proofs.Common.{◌≡◌, ℕ, Bool, true, false, cond, ◌||◌, ◌-◌, length, Option, Some, None, refl, sym, ap, ◌∙◌, eqb, ◌==◌, subst, ⊎_elim}
 use Rattle.std.proofs.lemmas.Bool.{cases_Bool, eq-eqb, eqb-true, or_left, or_right}
-use Rattle.tcmu_model.specs.Regions.{RegionState}
-use Rattle.tcmu_model.specs.Sides.{TargetState}
-use Rattle.tcmu_model.specs.TargetCleans.{CleanAnswer, Logged, BadTail, Broken, tail_read, ends_at, tail_fits, all_cleaned, logged_or_broken, target_cleaned, target_clean_answer, region_cleaned, target_reset}
+use Rattle.region_model.specs.Regions.{RegionState}
+use Rattle.region_model.specs.Sides.{TargetState}
+use Rattle.region_model.specs.TargetCleans.{CleanAnswer, Logged, BadTail, Broken, tail_read, ends_at, tail_fits, all_cleaned, logged_or_broken, target_cleaned, target_clean_answer, region_cleaned, target_reset}
 use Rattle.ring_laws.specs.Calls.{Unchanged, StopsAt, Emptied}
 use Rattle.ring_laws.proofs.AnyCleared.{Fits, all_reach, all_stop}
 

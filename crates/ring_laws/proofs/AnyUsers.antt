@@ -1,17 +1,17 @@
 -- What a next over any bytes keeps of the user side, entry by entry.
 use Rattle.std.proofs.Common.{◌≡◌, ℕ, ◌+◌, ◌*◌, Bool, true, false, ◌==◌, length, suc, zero, Result, Ok, Err, refl, sym, subst}
 use Rattle.tcmu_types.specs.declared.dump.ItemKind.TheVariants as kind
-use Rattle.tcmu_model.specs.declared.mailbox.Mailbox.{Mailbox}
-use Rattle.tcmu_model.specs.declared.mailbox.MailboxFault.{MailboxFault}
-use Rattle.tcmu_model.specs.declared.entry.EntryRef.{EntryRef}
-use Rattle.tcmu_model.specs.declared.entry.EntryRef.TheVariants as entry
-use Rattle.tcmu_model.specs.declared.entry.EntryFault.{EntryFault}
-use Rattle.tcmu_model.specs.Layout.{ring_start}
-use Rattle.tcmu_model.specs.EntryReading.{entry_read}
-use Rattle.tcmu_model.specs.Regions.{RegionState, size_of}
-use Rattle.tcmu_model.specs.Sides.{UserState}
-use Rattle.tcmu_model.specs.UserSteps.{user_mailbox}
-use Rattle.tcmu_model.specs.UserNext.{BadEntry, Nexted, Nothing, iovs_in, tmr_ids_in, with_passed, with_unknown, with_job, command_next, note_next, next_within, most_entries, nexted}
+use Rattle.region_model.specs.declared.mailbox.Mailbox.{Mailbox}
+use Rattle.region_model.specs.declared.mailbox.MailboxFault.{MailboxFault}
+use Rattle.region_model.specs.declared.entry.EntryRef.{EntryRef}
+use Rattle.region_model.specs.declared.entry.EntryRef.TheVariants as entry
+use Rattle.region_model.specs.declared.entry.EntryFault.{EntryFault}
+use Rattle.region_model.specs.Layout.{ring_start}
+use Rattle.region_model.specs.EntryReading.{entry_read}
+use Rattle.region_model.specs.Regions.{RegionState, size_of}
+use Rattle.region_model.specs.Sides.{UserState}
+use Rattle.region_model.specs.UserSteps.{user_mailbox}
+use Rattle.region_model.specs.UserNext.{BadEntry, Nexted, Nothing, iovs_in, tmr_ids_in, with_passed, with_unknown, with_job, command_next, note_next, next_within, most_entries, nexted}
 use Rattle.ring_laws.proofs.AnyFaults.{by_mailbox, next_mailbox}
 
 -- each entry that is passed keeps it

@@ -5,22 +5,22 @@ use Rattle.std.proofs.Math.Nat.{mod-lt}
 use Rattle.std.proofs.lemmas.Bool.{and_parts, false≢true}
 use Rattle.tcmu_types.specs.declared.dump.ItemKind.TheVariants as kind
 use Rattle.tcmu_types.specs.declared.iovec.Iov.{Iov}
-use Rattle.tcmu_model.specs.declared.mailbox.Mailbox.{Mailbox}
-use Rattle.tcmu_model.specs.declared.mailbox.MailboxFault.{MailboxFault}
-use Rattle.tcmu_model.specs.declared.entry.EntryRef.{EntryRef}
-use Rattle.tcmu_model.specs.declared.entry.EntryRef.TheVariants as entry
-use Rattle.tcmu_model.specs.declared.entry.EntryFault.{EntryFault}
-use Rattle.tcmu_model.specs.Layout.{data_start, le, put, ring_start, tail_place}
+use Rattle.region_model.specs.declared.mailbox.Mailbox.{Mailbox}
+use Rattle.region_model.specs.declared.mailbox.MailboxFault.{MailboxFault}
+use Rattle.region_model.specs.declared.entry.EntryRef.{EntryRef}
+use Rattle.region_model.specs.declared.entry.EntryRef.TheVariants as entry
+use Rattle.region_model.specs.declared.entry.EntryFault.{EntryFault}
+use Rattle.region_model.specs.Layout.{data_start, ring_start, tail_place}
+use Rattle.tcmu_types.specs.ByteFields.{le, put}
 use Rattle.tcmu_model.specs.Lengths.{block_size}
-use Rattle.tcmu_model.specs.Lists.{with_first, without_first}
-use Rattle.tcmu_model.specs.EntryReading.{entry_read}
-use Rattle.tcmu_model.specs.Regions.{AreSized, HaveSize, RegionState, are_whole, can_lend, can_take, home, is_home, named_by, numbers_of, parts_of, size_of, taken}
-use Rattle.tcmu_model.specs.Sides.{Copied, GivenJob, JobState, Moved, Parked, UserState}
-use Rattle.tcmu_model.specs.Sound.{Every}
-use Rattle.tcmu_model.specs.UserSteps.{Placing, attached_to, is_open_job, moving, or_refused, placed_at, placed_front, placed_one, placing_by, region_abandoned, region_published, region_reattached, user_attached, user_mailbox, user_of, user_published, user_responded, with_jobs, with_parked}
-use Rattle.tcmu_model.specs.UserNext.{NextAnswer, Job, Note, Nothing, BadMailbox, BadEntry, Nexted, carried_by, copied_data, iovs_in, tmr_ids_in, with_passed, with_unknown, with_job, command_next, note_next, next_within, most_entries, nexted}
-use Rattle.tcmu_model.proofs.Everies.{every-append, every-weaker, every-with_first, every-without_first}
-use Rattle.tcmu_model.proofs.Written.{length-put}
+use Rattle.tcmu_types.specs.Lists.{with_first, without_first, Every}
+use Rattle.region_model.specs.EntryReading.{entry_read}
+use Rattle.region_model.specs.Regions.{AreSized, HaveSize, RegionState, are_whole, can_lend, can_take, home, is_home, named_by, numbers_of, parts_of, size_of, taken}
+use Rattle.region_model.specs.Sides.{Copied, GivenJob, JobState, Moved, Parked, UserState}
+use Rattle.region_model.specs.UserSteps.{Placing, attached_to, is_open_job, moving, or_refused, placed_at, placed_front, placed_one, placing_by, region_abandoned, region_published, region_reattached, user_attached, user_mailbox, user_of, user_published, user_responded, with_jobs, with_parked}
+use Rattle.region_model.specs.UserNext.{NextAnswer, Job, Note, Nothing, BadMailbox, BadEntry, Nexted, carried_by, copied_data, iovs_in, tmr_ids_in, with_passed, with_unknown, with_job, command_next, note_next, next_within, most_entries, nexted}
+use Rattle.tcmu_types.proofs.Everies.{every-append, every-weaker, every-with_first, every-without_first}
+use Rattle.tcmu_types.proofs.ByteFields.{length-put}
 use Rattle.ring_laws.specs.Sizes.{IsSized}
 use Rattle.ring_laws.specs.UserKept.{AreWholeJobs, HasPages, HasRing, IsWholeJob, UserSound}
 use Rattle.ring_laws.proofs.AnyFaults.{by_mailbox, next_mailbox}

@@ -1,14 +1,14 @@
 -- The user side is attached to a region that represents a device.
 use Rattle.std.proofs.Common.{◌≡◌, List, ap, ◌∙◌, Ok}
 use Rattle.tcmu_types.specs.declared.settings.Flags.{Flags}
-use Rattle.tcmu_model.specs.declared.mailbox.Mailbox.{Mailbox}
+use Rattle.region_model.specs.declared.mailbox.Mailbox.{Mailbox}
 use Rattle.tcmu_model.specs.Device.{DeviceState}
 use Rattle.tcmu_model.specs.Sound.{IsSound}
 use Rattle.tcmu_model.specs.BlockLists.{Taken}
-use Rattle.tcmu_model.specs.Regions.{RegionState}
-use Rattle.tcmu_model.specs.Sides.{Recorded, UserState}
-use Rattle.tcmu_model.specs.Represents.{RingStands}
-use Rattle.tcmu_model.specs.UserSteps.{attached_to, or_refused, region_abandoned, region_reattached, user_attached, user_of}
+use Rattle.region_model.specs.Regions.{RegionState}
+use Rattle.region_model.specs.Sides.{Recorded, UserState}
+use Rattle.region_model.specs.Represents.{RingStands}
+use Rattle.region_model.specs.UserSteps.{attached_to, or_refused, region_abandoned, region_reattached, user_attached, user_of}
 use Rattle.ring_laws.specs.Attached.{attached_user}
 use Rattle.ring_laws.proofs.MailboxThere.{device_mailbox_there, mailbox_of}
 use Rattle.ring_laws.proofs.Opened.{flags-again}

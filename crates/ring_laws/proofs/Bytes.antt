@@ -1,7 +1,7 @@
 -- Bytes written over others.
 use Rattle.std.proofs.Common.{◌≡◌, ℕ, ◌+◌, ◌-◌, ◌≤◌, List, ◌++◌, length, take, drop, refl, sym, ap, ◌∙◌, arith, append_assoc, length-append}
 use Rattle.std.proofs.lemmas.List.{take_at, drop_at, take-append-le, take-take, drop-drop, drop-take, length-take-le}
-use Rattle.tcmu_model.specs.Layout.{put}
+use Rattle.tcmu_types.specs.ByteFields.{put}
 
 -- n bytes from a place on
 abbrev pub part : List ℕ → ℕ → ℕ → List ℕ

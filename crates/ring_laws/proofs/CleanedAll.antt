@@ -8,25 +8,26 @@ use Rattle.std.proofs.lemmas.List.{take-take, take_all, length-take-le, take-app
 use Rattle.std.proofs.lemmas.List.Sums.{sum_by_push}
 use Rattle.tcmu_types.specs.Data.{ReplyData, DoneData}
 use Rattle.tcmu_model.specs.declared.state.CommandState.TheVariants.{Placed}
-use Rattle.tcmu_model.specs.Lists.{first_of, without_first}
+use Rattle.tcmu_types.specs.Lists.{first_of, without_first, Every}
 use Rattle.tcmu_model.specs.RingState.{Item, lengths, head, used, commands_in, is_command, serials_in, published_commands, cleared_commands}
 use Rattle.tcmu_model.specs.Device.{Unfinished, DeviceState, has_serial, is_at}
-use Rattle.tcmu_model.specs.Events.{is_among, completions, finish, finish_all, Books, cleaned_books, clean_answer, answered}
-use Rattle.tcmu_model.specs.Sound.{IsSound, Every, Differ, finished, dispatched_serials}
+use Rattle.tcmu_model.specs.Events.{completions, finish, finish_all, Books, cleaned_books, clean_answer, answered}
+use Rattle.tcmu_types.specs.Numbers.{is_among, Differ}
+use Rattle.tcmu_model.specs.Sound.{IsSound, finished, dispatched_serials}
 use Rattle.tcmu_model.specs.BlockLists.{Taken}
-use Rattle.tcmu_model.specs.Layout.{le, field, zeros, ring_start, tail_place, device_mailbox, mailbox_bytes}
-use Rattle.tcmu_model.specs.Regions.{RegionState}
-use Rattle.tcmu_model.proofs.Written.{lengths as writes, field-front, field-in}
-use Rattle.tcmu_model.proofs.Everies.{every-first, every-weaker}
-use Rattle.tcmu_model.proofs.Indexed.{every_at}
+use Rattle.region_model.specs.Layout.{ring_start, tail_place, device_mailbox, mailbox_bytes}
+use Rattle.tcmu_types.specs.ByteFields.{le, field, zeros}
+use Rattle.region_model.specs.Regions.{RegionState}
+use Rattle.tcmu_types.proofs.ByteFields.{lengths as writes, field-front, field-in}
+use Rattle.tcmu_types.proofs.Everies.{every-first, every-weaker, every_at}
 use Rattle.tcmu_model.proofs.Basics.{among_more, rows_unfinished}
-use Rattle.tcmu_model.proofs.Rises.{among-filter, every-among}
+use Rattle.tcmu_types.proofs.Rises.{among-filter, every-among}
 use Rattle.tcmu_model.proofs.Fronts.{commands_more}
 use Rattle.tcmu_model.proofs.SoundClean.{answered_placed}
-use Rattle.tcmu_model.specs.Picture.{place_of, tail, kind_of, shown_mailbox}
-use Rattle.tcmu_model.specs.Sides.{PendingRow, Recorded, TargetState}
-use Rattle.tcmu_model.specs.Represents.{RingStands, recorded}
-use Rattle.tcmu_model.specs.TargetCleans.{CleanAnswer, Logged, BadTail, Broken, all_cleaned, one_cleaned, unless_broken, logged_or_broken, ends_at, tail_read, tail_fits, target_cleaned, target_clean_answer}
+use Rattle.region_model.specs.Picture.{place_of, tail, kind_of, shown_mailbox}
+use Rattle.region_model.specs.Sides.{PendingRow, Recorded, TargetState}
+use Rattle.region_model.specs.Represents.{RingStands, recorded}
+use Rattle.region_model.specs.TargetCleans.{CleanAnswer, Logged, BadTail, Broken, all_cleaned, one_cleaned, unless_broken, logged_or_broken, ends_at, tail_read, tail_fits, target_cleaned, target_clean_answer}
 use Rattle.ring_laws.specs.Cleaned.{CanClean}
 use Rattle.ring_laws.proofs.SoundRing.{holds}
 use Rattle.ring_laws.proofs.Numbered.{can_answer, counted-before}

@@ -3,22 +3,23 @@ use Rattle.std.proofs.Common.{◌≡◌, ℕ, ◌≤◌, ◌<◌, Bool, true, fa
 use Rattle.std.specs.Option.{is_some}
 use Rattle.std.proofs.lemmas.Bool.{cases_Bool, true≢false, or_parts, or_left, or_right}
 use Rattle.tcmu_model.specs.declared.state.CommandState.TheVariants.{Placed}
-use Rattle.tcmu_model.specs.Lists.{first_of, without_first, above_all}
+use Rattle.tcmu_types.specs.Lists.{first_of, without_first, Every}
+use Rattle.tcmu_types.specs.Numbers.{above_all, is_among, Differ}
 use Rattle.tcmu_model.specs.Lengths.{blocks_of, block_size}
 use Rattle.tcmu_model.specs.Device.{Unfinished, DeviceState, is_at}
-use Rattle.tcmu_model.specs.Events.{is_among, is_in_hand, after_clean, answered, cleaned_books, books, Books, finish, finish_all}
-use Rattle.tcmu_model.specs.Sound.{IsSound, Every, Differ}
+use Rattle.tcmu_model.specs.Events.{is_in_hand, after_clean, answered, cleaned_books, books, Books, finish, finish_all}
+use Rattle.tcmu_model.specs.Sound.{IsSound}
 use Rattle.tcmu_model.specs.BlockLists.{Taken, list_of, held_by}
-use Rattle.tcmu_model.specs.Regions.{RegionState}
-use Rattle.tcmu_model.proofs.Counts.{state_at}
-use Rattle.tcmu_model.proofs.Everies.{every-weaker, every-both, every-filter, every-passes, every-without_first, every-front, every-back, every-append}
-use Rattle.tcmu_model.proofs.Rises.{among-append, among_every, every-among}
+use Rattle.region_model.specs.Regions.{RegionState}
+use Rattle.tcmu_model.proofs.CommandStates.{state_at}
+use Rattle.tcmu_types.proofs.Everies.{every-weaker, every-both, every-filter, every-passes, every-without_first, every-front, every-back, every-append}
+use Rattle.tcmu_types.proofs.Rises.{among-append, among_every, every-among}
 use Rattle.tcmu_model.proofs.SoundClean.{answered_placed, finish_taken}
-use Rattle.tcmu_model.specs.Areas.{IsLent}
-use Rattle.tcmu_model.specs.Sides.{InHand, PendingRow, TargetState, UserState}
-use Rattle.tcmu_model.specs.Represents.{AreGiven, AreOut, BlocksOf, BlocksStand, JobsStand, is_out}
-use Rattle.tcmu_model.specs.TargetSteps.{blocks_held}
-use Rattle.tcmu_model.specs.TargetCleans.{region_cleaned, target_cleaned}
+use Rattle.region_model.specs.Areas.{IsLent}
+use Rattle.region_model.specs.Sides.{InHand, PendingRow, TargetState, UserState}
+use Rattle.region_model.specs.Represents.{AreGiven, AreOut, BlocksOf, BlocksStand, JobsStand, is_out}
+use Rattle.region_model.specs.TargetSteps.{blocks_held}
+use Rattle.region_model.specs.TargetCleans.{region_cleaned, target_cleaned}
 use Rattle.tcmu_model.specs.Owned.{ListsSound}
 use Rattle.ring_laws.specs.Cleaned.{CanClean}
 use Rattle.ring_laws.proofs.Agree.{held-same}

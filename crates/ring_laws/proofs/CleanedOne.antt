@@ -7,28 +7,30 @@ use Rattle.std.proofs.lemmas.List.{take-take, take-append-drop, length-take-le}
 use Rattle.std.proofs.lemmas.List.Sums.{sum_by_push}
 use Rattle.tcmu_types.specs.Data.{CommandData, ReplyData, DoneData, SettingsData}
 use Rattle.tcmu_types.specs.Rules.{IsCommand, takes_payload, payload_length}
-use Rattle.tcmu_model.specs.declared.entry.Response.{Response}
+use Rattle.region_model.specs.declared.entry.Response.{Response}
 use Rattle.tcmu_model.specs.declared.state.CommandState.TheVariants.{Placed}
 use Rattle.tcmu_model.specs.States.{same_state}
-use Rattle.tcmu_model.specs.Lists.{first_of, without_first}
+use Rattle.tcmu_types.specs.Lists.{first_of, without_first, Every}
 use Rattle.tcmu_model.specs.Lengths.{blocks_of, block_size, round_up}
 use Rattle.tcmu_model.specs.RingState.{RingState, Item, Laid, lengths, commands_in, is_command}
 use Rattle.tcmu_model.specs.RingState as ring
 use Rattle.tcmu_model.specs.Device.{Unfinished, DeviceState, has_serial, is_at}
-use Rattle.tcmu_model.specs.Events.{is_among, is_in_hand, completions}
-use Rattle.tcmu_model.specs.Sound.{IsSound, Every, Differ, ReplyFits}
+use Rattle.tcmu_model.specs.Events.{is_in_hand, completions}
+use Rattle.tcmu_types.specs.Numbers.{is_among, Differ}
+use Rattle.tcmu_model.specs.Sound.{IsSound, ReplyFits}
 use Rattle.tcmu_model.specs.BlockLists.{Taken, list_of}
-use Rattle.tcmu_model.specs.Layout.{field, ring_start, data_start, cdb_place}
-use Rattle.tcmu_model.specs.EntryReading.{response_at}
-use Rattle.tcmu_model.specs.Regions.{RegionState, size_of}
-use Rattle.tcmu_model.specs.Pending.{PendingData}
-use Rattle.tcmu_model.proofs.Written.{field-front}
-use Rattle.tcmu_model.proofs.Everies.{every-first, every-without_first}
-use Rattle.tcmu_model.proofs.Rises.{among-append}
-use Rattle.tcmu_model.specs.Picture.{place_of, payload_of, command_iovs, request_of, told_length, answered_entry, with_answer, with_reply, entry_of, item_bytes, ids_named, kind_of}
-use Rattle.tcmu_model.specs.Sides.{PendingRow, Recorded, TargetState}
-use Rattle.tcmu_model.specs.Represents.{RingStands, IdsStand, BlocksOf, BlocksStand, HaveData, IsId, recorded, entry_at, id_in, ids_in, id_at, id_of, row_has, has_id, serial_with, pending_of}
-use Rattle.tcmu_model.specs.TargetCleans.{one_cleaned, answered_by, response_in, completions_read, past}
+use Rattle.region_model.specs.Layout.{ring_start, data_start, cdb_place}
+use Rattle.tcmu_types.specs.ByteFields.{field}
+use Rattle.region_model.specs.EntryReading.{response_at}
+use Rattle.region_model.specs.Regions.{RegionState, size_of}
+use Rattle.region_model.specs.Pending.{PendingData}
+use Rattle.tcmu_types.proofs.ByteFields.{field-front}
+use Rattle.tcmu_types.proofs.Everies.{every-first, every-without_first}
+use Rattle.tcmu_types.proofs.Rises.{among-append}
+use Rattle.region_model.specs.Picture.{place_of, payload_of, command_iovs, request_of, told_length, answered_entry, with_answer, with_reply, entry_of, item_bytes, ids_named, kind_of}
+use Rattle.region_model.specs.Sides.{PendingRow, Recorded, TargetState}
+use Rattle.region_model.specs.Represents.{RingStands, IdsStand, BlocksOf, BlocksStand, HaveData, IsId, recorded, entry_at, id_in, ids_in, id_at, id_of, row_has, has_id, serial_with, pending_of}
+use Rattle.region_model.specs.TargetCleans.{one_cleaned, answered_by, response_in, completions_read, past}
 use Rattle.ring_laws.specs.Cleaned.{response_of}
 use Rattle.tcmu_model.specs.Owned.{ListsSound}
 use Rattle.ring_laws.proofs.SoundRing.{holds}
@@ -38,7 +40,7 @@ use Rattle.ring_laws.proofs.AnswerBlocks.{can_fill}
 use Rattle.ring_laws.proofs.Completing.{response_of_entry, response_read, completed-log}
 use Rattle.ring_laws.proofs.TakenOut.{first-without, TakenOut, taken-out, differ-left, serial-left}
 use Rattle.ring_laws.proofs.AnswerBytes.{command-of}
-use Rattle.tcmu_model.proofs.PartLengths.{length-iovs, length-request}
+use Rattle.region_model.proofs.PartLengths.{length-iovs, length-request}
 
 -- ==== small facts
 

@@ -4,10 +4,10 @@ use Rattle.std.proofs.lemmas.Bool.{cases_Bool}
 use Rattle.tcmu_model.specs.Device.{DeviceState}
 use Rattle.tcmu_model.specs.Events.{after_clean}
 use Rattle.tcmu_model.specs.BlockLists.{Taken}
-use Rattle.tcmu_model.specs.Regions.{RegionState}
-use Rattle.tcmu_model.specs.Sides.{TargetState, UserState}
-use Rattle.tcmu_model.specs.Represents.{TargetKeeps, UserKeeps}
-use Rattle.tcmu_model.specs.TargetCleans.{region_cleaned, target_cleaned}
+use Rattle.region_model.specs.Regions.{RegionState}
+use Rattle.region_model.specs.Sides.{TargetState, UserState}
+use Rattle.region_model.specs.Represents.{TargetKeeps, UserKeeps}
+use Rattle.region_model.specs.TargetCleans.{region_cleaned, target_cleaned}
 use Rattle.ring_laws.specs.Cleaned.{CanClean}
 use Rattle.ring_laws.proofs.CleanedAll.{cleaned-at}
 

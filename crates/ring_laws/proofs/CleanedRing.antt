@@ -5,17 +5,18 @@ use Rattle.tcmu_types.specs.Data.{CommandData}
 use Rattle.tcmu_model.specs.RingState.{Item, Laid, commands_in, serials_in}
 use Rattle.tcmu_model.specs.RingState as ring
 use Rattle.tcmu_model.specs.Device.{Unfinished, DeviceState}
-use Rattle.tcmu_model.specs.Events.{is_among, after_clean, answered, cleaned_books}
-use Rattle.tcmu_model.specs.Sound.{IsSound, Differ, dispatched_serials}
+use Rattle.tcmu_model.specs.Events.{after_clean, answered, cleaned_books}
+use Rattle.tcmu_types.specs.Numbers.{is_among, Differ}
+use Rattle.tcmu_model.specs.Sound.{IsSound, dispatched_serials}
 use Rattle.tcmu_model.specs.BlockLists.{Taken, list_of}
-use Rattle.tcmu_model.specs.Regions.{RegionState}
+use Rattle.region_model.specs.Regions.{RegionState}
 use Rattle.tcmu_model.proofs.Basics.{laid_rise, rows_rise, serials_split}
-use Rattle.tcmu_model.proofs.Rises.{among-take, among_every, every-among}
+use Rattle.tcmu_types.proofs.Rises.{among-take, among_every, every-among, rise_differ}
 use Rattle.tcmu_model.proofs.Fronts.{commands_more}
-use Rattle.tcmu_model.specs.Picture.{place_of, item_bytes, request_of, ids_named}
-use Rattle.tcmu_model.specs.Sides.{PendingRow, TargetState}
-use Rattle.tcmu_model.specs.Represents.{RingStands, IdsStand, NotesStand, entry_at, id_in, ids_in, pending_of}
-use Rattle.tcmu_model.specs.TargetCleans.{region_cleaned, target_cleaned}
+use Rattle.region_model.specs.Picture.{place_of, item_bytes, request_of, ids_named}
+use Rattle.region_model.specs.Sides.{PendingRow, TargetState}
+use Rattle.region_model.specs.Represents.{RingStands, IdsStand, NotesStand, entry_at, id_in, ids_in, pending_of}
+use Rattle.region_model.specs.TargetCleans.{region_cleaned, target_cleaned}
 use Rattle.ring_laws.specs.Cleaned.{CanClean}
 use Rattle.ring_laws.proofs.RingLaid.{entry_same}
 use Rattle.ring_laws.proofs.LaidRing.{serial_at}
@@ -24,7 +25,6 @@ use Rattle.ring_laws.proofs.CleanedAll.{cleaned-at, not-before}
 use Rattle.ring_laws.proofs.NoteIds.{RowsDiffer, note_id_fewer, note_stands_by, serials_of_rows}
 use Rattle.ring_laws.proofs.AnswerBlocks.{differ-split}
 use Rattle.ring_laws.proofs.Places.{get-dropped}
-use Rattle.tcmu_model.proofs.Standing.{rise_differ}
 
 -- the area may end earlier, and nothing else of the region changes
 pub front_cleaned : (r : RegionState) (t : TargetState) → (region_cleaned r t).front ≡ r.front

@@ -7,24 +7,25 @@ use Rattle.std.proofs.lemmas.List.{take_at, drop_at, take-take, take-append-drop
 use Rattle.tcmu_types.specs.Data.{CommandData, SenseData, ReplyData, DoneData}
 use Rattle.tcmu_types.specs.Rules.{takes_payload, IsCommand}
 use Rattle.tcmu_types.specs.SenseBytes.{sense_in}
-use Rattle.tcmu_model.specs.declared.entry.Response.{Response}
+use Rattle.region_model.specs.declared.entry.Response.{Response}
 use Rattle.tcmu_model.specs.declared.state.CommandState.TheVariants.{Placed}
 use Rattle.tcmu_model.specs.Device.{Unfinished}
 use Rattle.tcmu_model.specs.Events.{completion, completions, completed_payload}
 use Rattle.tcmu_model.specs.Sound.{ReplyFits}
 use Rattle.tcmu_model.specs.BlockLists.{Taken, list_of}
-use Rattle.tcmu_model.specs.Layout.{le, field, put, zeros, padded, ring_start, sense_buffer, length_flag, answer_bytes, response_bytes}
-use Rattle.tcmu_model.specs.EntryReading.{response_at}
-use Rattle.tcmu_model.proofs.Written.{lengths as writes, length-le, length-zeros, length-padded, field-front, field-put, field-le, field-in, drop-put, length-put}
-use Rattle.tcmu_model.specs.Areas.{bytes_along}
-use Rattle.tcmu_model.specs.Picture.{payload_of, told_length, answered_entry}
-use Rattle.tcmu_model.specs.Represents.{HaveData, entry_at, pending_of}
-use Rattle.tcmu_model.specs.TargetCleans.{completion_read, completions_read, length_told, payload_read, sense_read}
+use Rattle.region_model.specs.Layout.{ring_start, sense_buffer, length_flag, answer_bytes, response_bytes}
+use Rattle.tcmu_types.specs.ByteFields.{le, field, put, zeros, padded}
+use Rattle.region_model.specs.EntryReading.{response_at}
+use Rattle.tcmu_types.proofs.ByteFields.{lengths as writes, length-le, length-zeros, length-padded, field-front, field-put, field-le, field-in, drop-put, length-put}
+use Rattle.region_model.specs.Areas.{bytes_along}
+use Rattle.region_model.specs.Picture.{payload_of, told_length, answered_entry}
+use Rattle.region_model.specs.Represents.{HaveData, entry_at, pending_of}
+use Rattle.region_model.specs.TargetCleans.{completion_read, completions_read, length_told, payload_read, sense_read}
 use Rattle.ring_laws.specs.Cleaned.{response_of}
 use Rattle.ring_laws.proofs.Bytes.{part_of_front}
 use Rattle.ring_laws.proofs.Answered.{id_of_answered}
-use Rattle.tcmu_model.proofs.EntriesThere.{field_behind}
-use Rattle.tcmu_model.proofs.PartLengths.{length-sense, length-response}
+use Rattle.region_model.proofs.EntriesThere.{field_behind}
+use Rattle.region_model.proofs.PartLengths.{length-sense, length-response}
 
 -- ==== what is read of an entry
 

@@ -5,18 +5,19 @@ use Rattle.std.proofs.lemmas.Bool.{cases_Bool, false≢true, leb-true, le-ltb}
 use Rattle.std.proofs.lemmas.List.{map-append}
 use Rattle.std.proofs.lemmas.List.Sums.{sum_by-cons, sum_by_push, sum_by-append}
 use Rattle.tcmu_types.specs.Data.{DoneData}
-use Rattle.tcmu_model.specs.declared.entry.Response.{Response}
-use Rattle.tcmu_model.specs.Lists.{first_of, without_first}
+use Rattle.region_model.specs.declared.entry.Response.{Response}
+use Rattle.tcmu_types.specs.Lists.{first_of, without_first}
 use Rattle.tcmu_model.specs.Device.{Delayed}
 use Rattle.tcmu_model.specs.Events.{has_left, departure, reset_completion}
-use Rattle.tcmu_model.specs.Sound.{Rise, delayed_serials, is_delayed_at, times_logged}
-use Rattle.tcmu_model.specs.Pending.{PendingData}
-use Rattle.tcmu_model.specs.Sides.{PendingRow}
-use Rattle.tcmu_model.specs.TargetSteps.{is_due_at, expired_at, checked}
-use Rattle.tcmu_model.specs.TargetCleans.{completion_read, completions_read, reset_log}
-use Rattle.tcmu_model.proofs.Counts.{sum-without_first, counts_none, counts_one}
-use Rattle.tcmu_model.proofs.Everies.{map_kept}
-use Rattle.tcmu_model.proofs.Rises.{rise_from, rise_push, rise_order}
+use Rattle.tcmu_model.specs.Sound.{delayed_serials, is_delayed_at, times_logged}
+use Rattle.tcmu_types.specs.Numbers.{Rise}
+use Rattle.region_model.specs.Pending.{PendingData}
+use Rattle.region_model.specs.Sides.{PendingRow}
+use Rattle.region_model.specs.TargetSteps.{is_due_at, expired_at, checked}
+use Rattle.region_model.specs.TargetCleans.{completion_read, completions_read, reset_log}
+use Rattle.tcmu_types.proofs.Counts.{sum-without_first, counts_none, counts_one}
+use Rattle.tcmu_types.proofs.Everies.{map_kept}
+use Rattle.tcmu_types.proofs.Rises.{rise_from, rise_push, rise_order}
 use Rattle.tcmu_model.proofs.SoundSubmit.{accepted_more, delayed_push}
 use Rattle.tcmu_model.proofs.SoundEvents.{left_delayed, rise_behind, delayed_rise, reset_delayed}
 use Rattle.ring_laws.specs.Calls.{is_pending_at, times_pending, times_delayed, SerialsSound}

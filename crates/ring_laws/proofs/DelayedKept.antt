@@ -5,10 +5,10 @@ use Rattle.tcmu_types.specs.declared.answer.Submit.TheVariants as submit
 use Rattle.tcmu_model.specs.Device.{Delayed, DeviceState}
 use Rattle.tcmu_model.specs.Events.{after_submit, with_delayed}
 use Rattle.tcmu_model.specs.BlockLists.{Taken}
-use Rattle.tcmu_model.specs.Regions.{RegionState}
-use Rattle.tcmu_model.specs.Sides.{Recorded, PendingRow, InHand, TargetState, UserState}
-use Rattle.tcmu_model.specs.Represents.{RingStands, IdsStand, NotesStand, BlocksStand, JobsStand, TargetKeeps, UserKeeps}
-use Rattle.tcmu_model.specs.TargetSteps.{target_submitted, region_submitted}
+use Rattle.region_model.specs.Regions.{RegionState}
+use Rattle.region_model.specs.Sides.{Recorded, PendingRow, InHand, TargetState, UserState}
+use Rattle.region_model.specs.Represents.{RingStands, IdsStand, NotesStand, BlocksStand, JobsStand, TargetKeeps, UserKeeps}
+use Rattle.region_model.specs.TargetSteps.{target_submitted, region_submitted}
 use Rattle.tcmu_model.specs.Owned.{ListsSound}
 use Rattle.ring_laws.proofs.RingLaid.{stands-by}
 

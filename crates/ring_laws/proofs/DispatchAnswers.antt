@@ -1,14 +1,14 @@
 -- The user side answers to a dispatch what the device does.
 use Rattle.std.proofs.Common.{ap, ◌∙◌}
 use Rattle.tcmu_model.specs.declared.state.CommandState.TheVariants.{Out}
-use Rattle.tcmu_model.specs.Lists.{first_of}
+use Rattle.tcmu_types.specs.Lists.{first_of}
 use Rattle.tcmu_model.specs.RingState as ring
 use Rattle.tcmu_model.specs.Device.{DeviceState, is_at}
 use Rattle.tcmu_model.specs.Events.{dispatch_answer, in_state}
 use Rattle.tcmu_model.specs.BlockLists.{Taken, list_of}
-use Rattle.tcmu_model.specs.Regions.{RegionState, taken}
-use Rattle.tcmu_model.specs.Sides.{InHand, TargetState, UserState}
-use Rattle.tcmu_model.specs.UserNext.{nexted}
+use Rattle.region_model.specs.Regions.{RegionState, taken}
+use Rattle.region_model.specs.Sides.{InHand, TargetState, UserState}
+use Rattle.region_model.specs.UserNext.{nexted}
 use Rattle.std.specs.Prelude.{List, Some}
 use Rattle.ring_laws.specs.Dispatched.{AnswersDispatch, CanDispatch}
 use Rattle.ring_laws.proofs.DispatchJobs.{job_sent}

@@ -7,15 +7,16 @@ use Rattle.tcmu_model.specs.declared.state.CommandState.TheVariants.{Waiting, Ou
 use Rattle.tcmu_model.specs.Lengths.{block_size}
 use Rattle.tcmu_model.specs.RingState as ring
 use Rattle.tcmu_model.specs.Device.{Unfinished, DeviceState}
-use Rattle.tcmu_model.specs.Events.{after_dispatch, in_state, is_among, is_in_hand, next_item, turned}
-use Rattle.tcmu_model.specs.Sound.{Every, Differ}
+use Rattle.tcmu_model.specs.Events.{after_dispatch, in_state, is_in_hand, next_item, turned}
+use Rattle.tcmu_types.specs.Numbers.{is_among, Differ}
+use Rattle.tcmu_types.specs.Lists.{Every}
 use Rattle.tcmu_model.specs.BlockLists.{Taken, list_of, held_by}
-use Rattle.tcmu_model.specs.Areas.{IsLent}
-use Rattle.tcmu_model.specs.Regions.{RegionState, without}
-use Rattle.tcmu_model.specs.Sides.{InHand, TargetState, UserState}
-use Rattle.tcmu_model.specs.Represents.{BlocksOf, BlocksStand}
-use Rattle.tcmu_model.specs.UserNext.{nexted}
-use Rattle.tcmu_model.proofs.Everies.{every-append, every-front, every-back}
+use Rattle.region_model.specs.Areas.{IsLent}
+use Rattle.region_model.specs.Regions.{RegionState, without}
+use Rattle.region_model.specs.Sides.{InHand, TargetState, UserState}
+use Rattle.region_model.specs.Represents.{BlocksOf, BlocksStand}
+use Rattle.region_model.specs.UserNext.{nexted}
+use Rattle.tcmu_types.proofs.Everies.{every-append, every-front, every-back}
 use Rattle.ring_laws.specs.Dispatched.{CanDispatch}
 use Rattle.ring_laws.proofs.AnswerBlocks.{Leaves, differ-split, differ-right, rest-apart}
 use Rattle.ring_laws.proofs.Lending.{without-other, without-lent}
@@ -23,7 +24,7 @@ use Rattle.ring_laws.proofs.NextCases.{by_next, sent_in}
 use Rattle.ring_laws.proofs.Nexts.{Blocks, blocks_sent}
 use Rattle.ring_laws.proofs.Sending.{Sends, sends, sent_is}
 use Rattle.ring_laws.proofs.GivenBack.{split-left}
-use Rattle.tcmu_model.proofs.Rises.{among-append}
+use Rattle.tcmu_types.proofs.Rises.{among-append}
 
 -- ==== what is lent
 

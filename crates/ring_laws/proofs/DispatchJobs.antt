@@ -12,18 +12,19 @@ use Rattle.tcmu_model.specs.RingState.{Item, Laid, commands_in, is_command, is_p
 use Rattle.tcmu_model.specs.RingState as ring
 use Rattle.tcmu_model.specs.Device.{Unfinished, DeviceState}
 use Rattle.tcmu_model.specs.Events.{after_dispatch, dispatch_answer, in_state, is_in_hand, next_item, turned}
-use Rattle.tcmu_model.specs.Sound.{Every, IsSound}
+use Rattle.tcmu_model.specs.Sound.{IsSound}
+use Rattle.tcmu_types.specs.Lists.{Every}
 use Rattle.tcmu_model.specs.BlockLists.{Taken, list_of}
 use Rattle.tcmu_model.specs.Lengths.{block_size}
-use Rattle.tcmu_model.specs.Areas.{bytes_along}
-use Rattle.tcmu_model.specs.Iovecs.{gathered}
-use Rattle.tcmu_model.specs.Picture.{place_of, command_iovs, payload_of, data_in}
-use Rattle.tcmu_model.specs.Regions.{RegionState, taken}
-use Rattle.tcmu_model.specs.Sides.{GivenJob, InHand, JobState, PendingRow, TargetState, UserState}
-use Rattle.tcmu_model.specs.Represents.{AreGiven, AreOut, IsGiven, IsJobOf, IsOut, JobsStand, command_places, id_at, id_of, is_out}
-use Rattle.tcmu_model.specs.UserNext.{nexted}
+use Rattle.region_model.specs.Areas.{bytes_along}
+use Rattle.region_model.specs.Iovecs.{gathered}
+use Rattle.region_model.specs.Picture.{place_of, command_iovs, payload_of, data_in}
+use Rattle.region_model.specs.Regions.{RegionState, taken}
+use Rattle.region_model.specs.Sides.{GivenJob, InHand, JobState, PendingRow, TargetState, UserState}
+use Rattle.region_model.specs.Represents.{AreGiven, AreOut, IsGiven, IsJobOf, IsOut, JobsStand, command_places, id_at, id_of, is_out}
+use Rattle.region_model.specs.UserNext.{nexted}
 use Rattle.tcmu_model.proofs.Facts.{placed_dispatched}
-use Rattle.tcmu_model.proofs.Written.{length-zeros}
+use Rattle.tcmu_types.proofs.ByteFields.{length-zeros}
 use Rattle.ring_laws.specs.Dispatched.{CanDispatch, hand_dispatched}
 use Rattle.ring_laws.proofs.CleanedOne.{take-next}
 use Rattle.ring_laws.proofs.DispatchKept.{no_command}
@@ -32,7 +33,7 @@ use Rattle.ring_laws.proofs.NextCases.{by_next}
 use Rattle.ring_laws.proofs.Nexts.{Blocks, blocks_sent, sent_job}
 use Rattle.ring_laws.proofs.Sending.{Sends, sends, sent_is}
 use Rattle.ring_laws.proofs.TailMoved.{take_more}
-use Rattle.tcmu_model.proofs.Areas.{length-taken}
+use Rattle.region_model.proofs.Areas.{length-taken}
 
 -- ==== the job of the command
 

@@ -9,15 +9,16 @@ use Rattle.tcmu_model.specs.RingState.{Item, Laid, commands_in, is_command, is_p
 use Rattle.tcmu_model.specs.RingState as ring
 use Rattle.tcmu_model.specs.Device.{Unfinished, DeviceState, is_at}
 use Rattle.tcmu_model.specs.Events.{after_dispatch, after_item, in_state, next_item, passed, turned}
-use Rattle.tcmu_model.specs.Sound.{Every, Differ}
+use Rattle.tcmu_types.specs.Numbers.{Differ}
+use Rattle.tcmu_types.specs.Lists.{Every}
 use Rattle.tcmu_model.specs.BlockLists.{Taken, list_of, held_by}
-use Rattle.tcmu_model.specs.Picture.{place_of}
-use Rattle.tcmu_model.specs.Regions.{RegionState}
-use Rattle.tcmu_model.specs.Sides.{InHand, PendingRow, Recorded, TargetState, UserState}
-use Rattle.tcmu_model.specs.Represents.{RingStands, IdsStand, NotesStand, TargetKeeps, UserKeeps, pending_of, recorded}
-use Rattle.tcmu_model.specs.UserNext.{nexted}
+use Rattle.region_model.specs.Picture.{place_of}
+use Rattle.region_model.specs.Regions.{RegionState}
+use Rattle.region_model.specs.Sides.{InHand, PendingRow, Recorded, TargetState, UserState}
+use Rattle.region_model.specs.Represents.{RingStands, IdsStand, NotesStand, TargetKeeps, UserKeeps, pending_of, recorded}
+use Rattle.region_model.specs.UserNext.{nexted}
 use Rattle.tcmu_model.specs.Owned.{ListsSound}
-use Rattle.tcmu_model.proofs.Everies.{every-with_first}
+use Rattle.tcmu_types.proofs.Everies.{every-with_first}
 use Rattle.ring_laws.specs.Dispatched.{CanDispatch}
 use Rattle.ring_laws.proofs.AnswerBytes.{turned-found}
 use Rattle.ring_laws.proofs.CleanedOne.{commands-next}

@@ -13,18 +13,19 @@ use Rattle.tcmu_model.specs.Device.{Unfinished, Delayed, DeviceState}
 use Rattle.tcmu_model.specs.Events.{after_clean, after_reset, clean_answer, count_in_hand, emptied, is_in_hand, is_open, reset_answer, reset_completion, reset_completions}
 use Rattle.tcmu_model.specs.Sound.{IsSound}
 use Rattle.tcmu_model.specs.BlockLists.{Taken, kept_lists}
-use Rattle.tcmu_model.specs.Layout.{le, put, ring_start, head_place, tail_place, mailbox_bytes, device_mailbox}
-use Rattle.tcmu_model.specs.Regions.{RegionState}
-use Rattle.tcmu_model.specs.Pending.{PendingData}
+use Rattle.region_model.specs.Layout.{ring_start, head_place, tail_place, mailbox_bytes, device_mailbox}
+use Rattle.tcmu_types.specs.ByteFields.{le, put}
+use Rattle.region_model.specs.Regions.{RegionState}
+use Rattle.region_model.specs.Pending.{PendingData}
 use Rattle.tcmu_model.proofs.DrainEnds.{clean_logs}
-use Rattle.tcmu_model.proofs.Everies.{map_filter}
+use Rattle.tcmu_types.proofs.Everies.{map_filter}
 use Rattle.tcmu_model.proofs.SoundEvents.{sound_after_reset}
-use Rattle.tcmu_model.proofs.Written.{length-le, length-put}
-use Rattle.tcmu_model.specs.Picture.{tail}
-use Rattle.tcmu_model.specs.Sides.{GivenJob, InHand, PendingRow, Recorded, TargetState, UserState}
-use Rattle.tcmu_model.specs.Represents.{AreGiven, BlocksStand, IdsStand, JobsStand, NotesStand, RingStands, TargetKeeps, UserKeeps, pending_of}
-use Rattle.tcmu_model.specs.TargetCleans.{region_reset, reset_log, reset_logs, target_cleaned, target_reset, target_reset_answer}
-use Rattle.tcmu_model.specs.UserSteps.{opening_user, region_abandoned, region_reattached, user_attached}
+use Rattle.tcmu_types.proofs.ByteFields.{length-le, length-put}
+use Rattle.region_model.specs.Picture.{tail}
+use Rattle.region_model.specs.Sides.{GivenJob, InHand, PendingRow, Recorded, TargetState, UserState}
+use Rattle.region_model.specs.Represents.{AreGiven, BlocksStand, IdsStand, JobsStand, NotesStand, RingStands, TargetKeeps, UserKeeps, pending_of}
+use Rattle.region_model.specs.TargetCleans.{region_reset, reset_log, reset_logs, target_cleaned, target_reset, target_reset_answer}
+use Rattle.region_model.specs.UserSteps.{opening_user, region_abandoned, region_reattached, user_attached}
 use Rattle.tcmu_model.specs.Owned.{ListsSound}
 use Rattle.ring_laws.specs.Attached.{attached_user}
 use Rattle.ring_laws.specs.Cleaned.{CanClean}

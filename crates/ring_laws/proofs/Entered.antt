@@ -1,24 +1,22 @@
 -- A delayed command that enters the ring.
 use Rattle.std.proofs.Common.{◌≡◌, ℕ, ◌*◌, ◌≤◌, ◌<◌, true, false, List, [], ◌∷◌, map, refl, sym, ap, ◌∙◌, arith, subst, ⊎_elim}
-use Rattle.std.proofs.lemmas.Bool.{cases_Bool}
+use Rattle.std.proofs.lemmas.Bool.{cases_Bool, leb-true}
 use Rattle.tcmu_types.specs.Data.{CommandData}
-use Rattle.tcmu_model.specs.RingState.{RingState, Item, Laid, lengths, head, used, free, need, pads, with_item, commands_in, is_command}
+use Rattle.tcmu_model.specs.RingState.{RingState, Item, Laid, lengths, head, used, free, need, pads, with_item, commands_in, is_command, serials_in}
 use Rattle.tcmu_model.specs.RingState as ring
-use Rattle.tcmu_model.specs.Device.{DeviceState}
+use Rattle.tcmu_model.specs.Device.{DeviceState, Delayed}
 use Rattle.tcmu_model.specs.BlockLists.{Taken, with_taken}
-use Rattle.tcmu_model.specs.Sides.{InHand, Recorded, TargetState, UserState}
-use Rattle.tcmu_model.specs.Represents.{BlocksStand, IdsStand, IsId, JobsStand, NotesStand, RingStands, TargetKeeps, UserKeeps}
-use Rattle.tcmu_model.specs.TargetSteps.{region_laid, target_laid}
-use Rattle.std.proofs.lemmas.Bool.{leb-true}
+use Rattle.region_model.specs.Sides.{InHand, Recorded, TargetState, UserState}
+use Rattle.region_model.specs.Represents.{BlocksStand, IdsStand, IsId, JobsStand, NotesStand, RingStands, TargetKeeps, UserKeeps}
+use Rattle.region_model.specs.TargetSteps.{region_laid, target_laid, region_entered, target_entered, region_with_first, first_entered}
 use Rattle.tcmu_types.specs.declared.answer.Enter.TheVariants as enter
-use Rattle.tcmu_model.specs.Device.{Delayed}
-use Rattle.tcmu_model.specs.RingState.{serials_in}
-use Rattle.tcmu_model.specs.Events.{is_among, with_command, enter_answer, entered_or_full, after_enter, after_entering, fits_ring, fits_blocks, entry_length_in, blocks_in, free_blocks, held_blocks}
-use Rattle.tcmu_model.specs.Regions.{AreSized, RegionState}
-use Rattle.tcmu_model.specs.Sound.{IsSound, CanWait, Every}
+use Rattle.tcmu_model.specs.Events.{with_command, enter_answer, entered_or_full, after_enter, after_entering, fits_ring, fits_blocks, entry_length_in, blocks_in, free_blocks, held_blocks}
+use Rattle.tcmu_types.specs.Numbers.{is_among}
+use Rattle.region_model.specs.Regions.{AreSized, RegionState}
+use Rattle.tcmu_model.specs.Sound.{IsSound, CanWait}
+use Rattle.tcmu_types.specs.Lists.{Every}
 use Rattle.tcmu_model.proofs.Facts.{delayed_above}
 use Rattle.tcmu_model.specs.Owned.{ListsSound, HasRoom}
-use Rattle.tcmu_model.specs.TargetSteps.{region_entered, target_entered, region_with_first, first_entered}
 use Rattle.ring_laws.proofs.RingLaid.{stands-by}
 use Rattle.tcmu_model.specs.Lengths.{block_size}
 use Rattle.ring_laws.proofs.LaidIds.{stands_laid, ids_stand_laid, target_stands_laid}

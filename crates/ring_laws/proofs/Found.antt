@@ -1,9 +1,8 @@
 -- What is found first in a list: it passes the test, and another number finds it too.
 use Rattle.std.proofs.Common.{◌≡◌, ℕ, Bool, true, false, List, [], ◌∷◌, map, sym, ap, ◌∙◌, Some, subst, ⊎_elim, eqb}
 use Rattle.std.proofs.lemmas.Bool.{cases_Bool, eq-eqb, ne_eqb, true≢false, or_left, or_right}
-use Rattle.tcmu_model.specs.Lists.{first_of}
-use Rattle.tcmu_model.specs.Events.{is_among}
-use Rattle.tcmu_model.specs.Sound.{Differ}
+use Rattle.tcmu_types.specs.Lists.{first_of}
+use Rattle.tcmu_types.specs.Numbers.{is_among, Differ}
 
 pub first-passes : {X : Type 0} (p : X → Bool) (xs : List X) (x : X) → first_of p xs ≡ Some x → p x ≡ true
 first-passes p [] x f = absurd (cc)

@@ -1,10 +1,10 @@
 -- The least free numbers.
 use Rattle.std.proofs.Common.{◌≡◌, ℕ, ◌+◌, ◌≤◌, ◌<◌, true, false, List, [], ◌∷◌, length, take, refl, ap, arith, suc, zero, length-take, ⊎_elim, eqb}
 use Rattle.std.proofs.lemmas.Bool.{cases_Bool, eqb-true, ne_eqb, or_parts}
-use Rattle.tcmu_model.specs.Events.{is_among}
-use Rattle.tcmu_model.specs.Sound.{Every, Differ}
+use Rattle.tcmu_types.specs.Numbers.{is_among, Differ}
+use Rattle.tcmu_types.specs.Lists.{Every}
 use Rattle.tcmu_model.specs.BlockLists.{free_from, least_free}
-use Rattle.tcmu_model.proofs.Everies.{every-take}
+use Rattle.tcmu_types.proofs.Everies.{every-take}
 
 -- a number that lies before takes nothing away
 free-before : (h : ℕ) (hs : List ℕ) (n k : ℕ) → h < n → free_from (h ∷ hs) n k ≡ free_from hs n k

@@ -1,23 +1,22 @@
 -- The blocks of several commands are given back, one command's after another's.
 use Rattle.std.proofs.Common.{◌≡◌, ℕ, true, false, List, [], ◌∷◌, ◌++◌, length, take, refl, sym, ap, ◌∙◌, suc, zero, Option, slice_get, ⊎_elim}
-use Rattle.std.proofs.lemmas.Bool.{cases_Bool, false≢true}
+use Rattle.std.proofs.lemmas.Bool.{cases_Bool, false≢true, or_parts, or_left, or_right}
 use Rattle.tcmu_types.specs.Rules.{payload_length}
 use Rattle.tcmu_model.specs.Device.{Unfinished}
-use Rattle.tcmu_model.specs.Events.{is_among}
-use Rattle.tcmu_model.specs.Sound.{Every, Differ}
+use Rattle.tcmu_types.specs.Numbers.{is_among, Differ}
+use Rattle.tcmu_types.specs.Lists.{Every}
 use Rattle.tcmu_model.specs.BlockLists.{Taken, list_of, held_by}
-use Rattle.tcmu_model.specs.Iovecs.{gathered}
-use Rattle.tcmu_model.specs.Regions.{HaveSize, returned}
-use Rattle.tcmu_model.specs.Areas.{IsHome, IsLent}
-use Rattle.tcmu_model.specs.Picture.{payload_of}
-use Rattle.tcmu_model.specs.Represents.{HaveData}
-use Rattle.std.proofs.lemmas.Bool.{or_parts, or_left, or_right}
+use Rattle.region_model.specs.Iovecs.{gathered}
+use Rattle.region_model.specs.Regions.{HaveSize, returned}
+use Rattle.region_model.specs.Areas.{IsHome, IsLent}
+use Rattle.region_model.specs.Picture.{payload_of}
+use Rattle.region_model.specs.Represents.{HaveData}
 use Rattle.ring_laws.proofs.LaidBlocks.{every-join}
 use Rattle.ring_laws.proofs.Scatter.{along-same}
 use Rattle.ring_laws.proofs.AnswerData.{returned-other, returned-data}
 use Rattle.ring_laws.proofs.AnswerBlocks.{differ-split, differ-right}
-use Rattle.tcmu_model.proofs.Everies.{every-weaker}
-use Rattle.tcmu_model.proofs.Rises.{among-append, among_every, every-among, differ_front}
+use Rattle.tcmu_types.proofs.Everies.{every-weaker}
+use Rattle.tcmu_types.proofs.Rises.{among-append, among_every, every-among, differ_front}
 
 -- the parts of commands are put back into the blocks of their lists
 abbrev pub all_back : List Taken → List (Option (List ℕ)) → List Unfinished → List (List (List ℕ)) → List (Option (List ℕ))

@@ -10,22 +10,23 @@ use Rattle.tcmu_types.specs.declared.answer.Respond.TheVariants as respond
 use Rattle.tcmu_model.specs.declared.state.CommandState.{CommandState}
 use Rattle.tcmu_model.specs.declared.state.CommandState.TheVariants.{Waiting, Out, Handled, Parked, Placed, Lost}
 use Rattle.tcmu_model.specs.States.{same_state}
-use Rattle.tcmu_model.specs.Lists.{first_of}
+use Rattle.tcmu_types.specs.Lists.{first_of, Every}
 use Rattle.tcmu_model.specs.Device.{Unfinished, DeviceState, has_serial, has_state, is_at}
-use Rattle.tcmu_model.specs.Events.{after_respond, answered, command_out, is_among, is_handled, respond_answer}
+use Rattle.tcmu_model.specs.Events.{after_respond, answered, command_out, is_handled, respond_answer}
+use Rattle.tcmu_types.specs.Numbers.{is_among}
 use Rattle.tcmu_model.specs.Events as events
-use Rattle.tcmu_model.specs.Sound.{IsSound, Every, dispatched_serials, is_right, state_fits}
+use Rattle.tcmu_model.specs.Sound.{IsSound, dispatched_serials, is_right, state_fits}
 use Rattle.tcmu_model.specs.BlockLists.{Taken, list_of}
-use Rattle.tcmu_model.specs.Layout.{data_start}
+use Rattle.region_model.specs.Layout.{data_start}
 use Rattle.tcmu_model.specs.Lengths.{block_size, blocks_of}
-use Rattle.tcmu_model.specs.Iovecs.{gathered, total_of}
-use Rattle.tcmu_model.specs.Picture.{data_in, payload_of}
-use Rattle.tcmu_model.specs.UserNext.{data_length}
+use Rattle.region_model.specs.Iovecs.{gathered, total_of}
+use Rattle.region_model.specs.Picture.{data_in, payload_of}
+use Rattle.region_model.specs.UserNext.{data_length}
 use Rattle.tcmu_model.proofs.DrainEnds.{rows_commands}
-use Rattle.tcmu_model.proofs.Everies.{every-first, every-weaker}
-use Rattle.tcmu_model.specs.Sides.{InHand, JobState, PendingRow, UserState}
-use Rattle.tcmu_model.specs.Represents.{AreOut, IdsStand, IsJobOf, IsOut, JobsStand, UserKeeps, is_out}
-use Rattle.tcmu_model.specs.HandSteps.{hand_has}
+use Rattle.tcmu_types.proofs.Everies.{every-first, every-weaker}
+use Rattle.region_model.specs.Sides.{InHand, JobState, PendingRow, UserState}
+use Rattle.region_model.specs.Represents.{AreOut, IdsStand, IsJobOf, IsOut, JobsStand, UserKeeps, is_out}
+use Rattle.region_model.specs.HandSteps.{hand_has}
 use Rattle.tcmu_model.specs.Owned.{ListsSound}
 use Rattle.ring_laws.specs.Handed.{is_asked, is_answered}
 use Rattle.ring_laws.specs.Responded.{CanRespond}

@@ -5,17 +5,18 @@ use Rattle.tcmu_types.specs.Data.{ReplyData, SettingsData}
 use Rattle.tcmu_types.specs.Rules.{takes_payload}
 use Rattle.tcmu_model.specs.declared.state.CommandState.TheVariants.{Out, Handled}
 use Rattle.tcmu_model.specs.declared.state.CommandState.TheVariants as state
-use Rattle.tcmu_model.specs.Lists.{first_of, with_first}
+use Rattle.tcmu_types.specs.Lists.{first_of, with_first}
 use Rattle.tcmu_model.specs.Device.{Unfinished, DeviceState, has_state, is_at}
-use Rattle.tcmu_model.specs.Events.{after_handle, with_reply, command_out, is_among, is_in_hand}
-use Rattle.tcmu_model.specs.Sound.{IsSound, Differ}
+use Rattle.tcmu_model.specs.Events.{after_handle, with_reply, command_out, is_in_hand}
+use Rattle.tcmu_types.specs.Numbers.{is_among, Differ}
+use Rattle.tcmu_model.specs.Sound.{IsSound}
 use Rattle.tcmu_model.specs.BlockLists.{Taken}
-use Rattle.tcmu_model.specs.Layout.{zeros}
-use Rattle.tcmu_model.proofs.Counts.{state_at, serial_at}
-use Rattle.tcmu_model.specs.Picture.{data_in, payload_of}
-use Rattle.tcmu_model.specs.Sides.{GivenJob, InHand, JobState, PendingRow, UserState}
-use Rattle.tcmu_model.specs.Represents.{AreGiven, AreOut, IsGiven, IsJobOf, JobsStand, is_out}
-use Rattle.tcmu_model.specs.HandSteps.{hand_has, hand_answered, with_answer}
+use Rattle.tcmu_types.specs.ByteFields.{zeros}
+use Rattle.tcmu_model.proofs.CommandStates.{state_at, serial_at}
+use Rattle.region_model.specs.Picture.{data_in, payload_of}
+use Rattle.region_model.specs.Sides.{GivenJob, InHand, JobState, PendingRow, UserState}
+use Rattle.region_model.specs.Represents.{AreGiven, AreOut, IsGiven, IsJobOf, JobsStand, is_out}
+use Rattle.region_model.specs.HandSteps.{hand_has, hand_answered, with_answer}
 use Rattle.ring_laws.proofs.Numbered.{can_answer}
 use Rattle.ring_laws.proofs.TakenOut.{none_at}
 use Rattle.ring_laws.proofs.Matched.{unmatched}

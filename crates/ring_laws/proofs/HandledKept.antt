@@ -5,19 +5,20 @@ use Rattle.std.proofs.lemmas.Bool.{cases_Bool, ne_eqb, false≢true}
 use Rattle.tcmu_types.specs.Data.{ReplyData}
 use Rattle.tcmu_model.specs.declared.state.CommandState.{CommandState}
 use Rattle.tcmu_model.specs.declared.state.CommandState.TheVariants.{Out}
-use Rattle.tcmu_model.specs.Lists.{first_of, with_first}
+use Rattle.tcmu_types.specs.Lists.{first_of, with_first, Every}
 use Rattle.tcmu_model.specs.Lengths.{blocks_of, block_size}
 use Rattle.tcmu_model.specs.Device.{Unfinished, DeviceState, has_serial, is_at}
-use Rattle.tcmu_model.specs.Events.{after_handle, with_reply, command_out, is_among, is_in_hand, answered}
-use Rattle.tcmu_model.specs.Sound.{IsSound, Every, Differ, is_right, state_fits, dispatched_serials}
+use Rattle.tcmu_model.specs.Events.{after_handle, with_reply, command_out, is_in_hand, answered}
+use Rattle.tcmu_types.specs.Numbers.{is_among, Differ}
+use Rattle.tcmu_model.specs.Sound.{IsSound, is_right, state_fits, dispatched_serials}
 use Rattle.tcmu_model.specs.BlockLists.{Taken, list_of, held_by}
-use Rattle.tcmu_model.proofs.Counts.{state_at, serial_at}
-use Rattle.tcmu_model.proofs.Everies.{every-first, every-with_first}
-use Rattle.tcmu_model.specs.Areas.{IsLent}
-use Rattle.tcmu_model.specs.Regions.{RegionState}
-use Rattle.tcmu_model.specs.Sides.{Recorded, PendingRow, TargetState, UserState}
-use Rattle.tcmu_model.specs.Represents.{RingStands, IdsStand, NotesStand, BlocksOf, BlocksStand, TargetKeeps, UserKeeps, pending_of}
-use Rattle.tcmu_model.specs.Picture.{with_answer}
+use Rattle.tcmu_model.proofs.CommandStates.{state_at, serial_at}
+use Rattle.tcmu_types.proofs.Everies.{every-first, every-with_first}
+use Rattle.region_model.specs.Areas.{IsLent}
+use Rattle.region_model.specs.Regions.{RegionState}
+use Rattle.region_model.specs.Sides.{Recorded, PendingRow, TargetState, UserState}
+use Rattle.region_model.specs.Represents.{RingStands, IdsStand, NotesStand, BlocksOf, BlocksStand, TargetKeeps, UserKeeps, pending_of}
+use Rattle.region_model.specs.Picture.{with_answer}
 use Rattle.tcmu_model.specs.Owned.{ListsSound}
 use Rattle.ring_laws.proofs.Found.{first-passes}
 use Rattle.ring_laws.proofs.Ticked.{ring_by, ids_by}

@@ -3,14 +3,14 @@ use Rattle.std.proofs.Common.{◌≡◌, ℕ, Bool, true, false, List, [], ◌�
 use Rattle.std.proofs.lemmas.Bool.{cases_Bool, false≢true, eq-eqb, or_left, or_right}
 use Rattle.std.proofs.lemmas.Grind.{flat_map-append}
 use Rattle.tcmu_model.specs.Device.{Unfinished}
-use Rattle.tcmu_model.specs.Events.{is_among}
-use Rattle.tcmu_model.specs.Sound.{Every, Differ}
+use Rattle.tcmu_types.specs.Numbers.{is_among, Differ}
+use Rattle.tcmu_types.specs.Lists.{Every}
 use Rattle.tcmu_model.specs.BlockLists.{Taken, list_of, held_by}
 use Rattle.ring_laws.proofs.LaidBlocks.{among-filter}
 use Rattle.ring_laws.proofs.AnswerBlocks.{differ-split, differ-right}
 use Rattle.ring_laws.proofs.CleanedJobs.{differ-fewer}
 use Rattle.ring_laws.proofs.GivenBack.{split-left}
-use Rattle.tcmu_model.proofs.Rises.{among-append}
+use Rattle.tcmu_types.proofs.Rises.{among-append}
 
 -- what holds of those that are picked out, of each that passes the test
 pub every-picked : {X : Type 0} (p : X → Bool) (P : X → Type 0) (xs : List X) → Every P (filter p xs) → Every (λ x. p x ≡ true → P x) xs

@@ -9,20 +9,20 @@ use Rattle.tcmu_types.specs.declared.settings.Flags.{Flags}
 use Rattle.tcmu_types.specs.declared.answer.Respond.TheVariants as respond
 use Rattle.tcmu_model.specs.declared.state.CommandState.TheVariants.{Handled, Parked, Placed}
 use Rattle.tcmu_model.specs.States.{same_state}
-use Rattle.tcmu_model.specs.Lists.{first_of}
+use Rattle.tcmu_types.specs.Lists.{first_of}
 use Rattle.tcmu_model.specs.RingState.{serials_in}
 use Rattle.tcmu_model.specs.Device.{Unfinished, DeviceState, has_serial, has_state, is_at}
-use Rattle.tcmu_model.specs.Events.{in_state, is_among, is_handled, is_in_hand, placed_by, respond_answer, turned}
+use Rattle.tcmu_model.specs.Events.{in_state, is_handled, is_in_hand, placed_by, respond_answer, turned}
+use Rattle.tcmu_types.specs.Numbers.{is_among, Differ, Rise}
 use Rattle.tcmu_model.specs.Events as events
-use Rattle.tcmu_model.specs.Sound.{Differ, Rise}
 use Rattle.tcmu_model.specs.BlockLists.{Taken}
-use Rattle.tcmu_model.proofs.Counts.{serial_at, state_at, state_is}
-use Rattle.tcmu_model.proofs.Everies.{every-none, every-weaker, none-every}
-use Rattle.tcmu_model.proofs.Rises.{not_above}
-use Rattle.tcmu_model.specs.Sides.{GivenJob, PendingRow, UserState}
-use Rattle.tcmu_model.specs.Sides as sides
-use Rattle.tcmu_model.specs.Represents.{AreGiven, IsJobOf, id_of}
-use Rattle.tcmu_model.specs.UserSteps.{is_unanswered, placed_or_parked, user_respond_answer}
+use Rattle.tcmu_model.proofs.CommandStates.{serial_at, state_at, state_is}
+use Rattle.tcmu_types.proofs.Everies.{every-none, every-weaker, none-every}
+use Rattle.tcmu_types.proofs.Rises.{not_above}
+use Rattle.region_model.specs.Sides.{GivenJob, PendingRow, UserState}
+use Rattle.region_model.specs.Sides as sides
+use Rattle.region_model.specs.Represents.{AreGiven, IsJobOf, id_of}
+use Rattle.region_model.specs.UserSteps.{is_unanswered, placed_or_parked, user_respond_answer}
 use Rattle.ring_laws.specs.Placed.{parked_in, placed_in}
 use Rattle.ring_laws.specs.Responded.{CanRespond}
 use Rattle.ring_laws.proofs.InOrderKept.{Begun, begins}
@@ -33,7 +33,7 @@ use Rattle.ring_laws.proofs.RespondedJobs.{one_serial, some_same}
 use Rattle.ring_laws.proofs.RespondedKept.{found-state}
 use Rattle.ring_laws.proofs.TakenOut.{none_at}
 use Rattle.ring_laws.proofs.Matched.{matched, unmatched}
-use Rattle.tcmu_model.proofs.Places.{any_first}
+use Rattle.tcmu_types.proofs.Firsts.{any_first}
 
 -- ==== how far a run comes
 

@@ -8,24 +8,25 @@ use Rattle.tcmu_types.specs.Data.{SettingsData}
 use Rattle.tcmu_types.specs.declared.settings.Flags.{Flags}
 use Rattle.tcmu_model.specs.declared.state.CommandState.{CommandState}
 use Rattle.tcmu_model.specs.declared.state.CommandState.TheVariants.{Handled, Parked, Placed}
-use Rattle.tcmu_model.specs.Lists.{first_of, with_first}
+use Rattle.tcmu_types.specs.Lists.{first_of, with_first}
 use Rattle.tcmu_model.specs.RingState.{dispatched_commands, serials_in}
 use Rattle.tcmu_model.specs.Device.{Unfinished, DeviceState, is_at}
-use Rattle.tcmu_model.specs.Events.{after_respond, answered, is_among, is_handled, is_in_hand, placed_by, turned}
+use Rattle.tcmu_model.specs.Events.{after_respond, answered, is_handled, is_in_hand, placed_by, turned}
+use Rattle.tcmu_types.specs.Numbers.{is_among}
 use Rattle.tcmu_model.specs.Events as events
 use Rattle.tcmu_model.specs.Sound.{IsSound, awaits_answer, dispatched_serials, is_right, state_fits}
 use Rattle.tcmu_model.specs.BlockLists.{Taken}
-use Rattle.tcmu_model.specs.Regions.{RegionState}
-use Rattle.tcmu_model.proofs.Counts.{serial_at, state_at}
-use Rattle.tcmu_model.proofs.Everies.{every-first}
-use Rattle.tcmu_model.proofs.Firsts.{length-with_first}
+use Rattle.region_model.specs.Regions.{RegionState}
+use Rattle.tcmu_model.proofs.CommandStates.{serial_at, state_at}
+use Rattle.tcmu_types.proofs.Everies.{every-first}
+use Rattle.tcmu_types.proofs.Firsts.{length-with_first, any_first}
 use Rattle.tcmu_model.proofs.SoundRespond.{handled_attached}
 use Rattle.tcmu_model.proofs.Standing.{awaiting}
-use Rattle.tcmu_model.specs.Sides.{GivenJob, InHand, PendingRow, Recorded, TargetState, UserState}
-use Rattle.tcmu_model.specs.Sides as sides
-use Rattle.tcmu_model.specs.Represents.{AreGiven, AreOut, BlocksStand, IdsStand, JobsStand, NotesStand, RingStands, TargetKeeps, UserKeeps, id_of, is_out}
-use Rattle.tcmu_model.specs.UserSteps.{Placing, is_open_job, placed_front, placing_by, user_responded, with_jobs, with_parked}
-use Rattle.tcmu_model.specs.HandSteps.{hand_responded}
+use Rattle.region_model.specs.Sides.{GivenJob, InHand, PendingRow, Recorded, TargetState, UserState}
+use Rattle.region_model.specs.Sides as sides
+use Rattle.region_model.specs.Represents.{AreGiven, AreOut, BlocksStand, IdsStand, JobsStand, NotesStand, RingStands, TargetKeeps, UserKeeps, id_of, is_out}
+use Rattle.region_model.specs.UserSteps.{Placing, is_open_job, placed_front, placing_by, user_responded, with_jobs, with_parked}
+use Rattle.region_model.specs.HandSteps.{hand_responded}
 use Rattle.tcmu_model.specs.Owned.{ListsSound}
 use Rattle.ring_laws.specs.Placed.{parked_in, placed_in}
 use Rattle.ring_laws.specs.Responded.{CanRespond}
@@ -37,7 +38,6 @@ use Rattle.ring_laws.proofs.ParkedKept.{blocks_parked, can_answer_parked, can_fi
 use Rattle.ring_laws.proofs.PlacedAnswers.{ids_placed, notes_placed, placing_of, ring_placed, target_placed, user_placed}
 use Rattle.ring_laws.proofs.PlacedRun.{Between, Keeps, Ran, in_hand_behind, ran, ran_laid, runs}
 use Rattle.ring_laws.proofs.RespondedKept.{found-state, pages_placed}
-use Rattle.tcmu_model.proofs.Places.{any_first}
 
 -- ==== what both sides begin with
 

@@ -8,21 +8,22 @@ use Rattle.std.proofs.lemmas.Option.{slice_get_past}
 use Rattle.tcmu_types.specs.Data.{CommandData}
 use Rattle.tcmu_types.specs.Rules.{payload_length, IsCommand}
 use Rattle.tcmu_types.specs.declared.iovec.Iov.{Iov}
-use Rattle.tcmu_model.specs.declared.entry.EntryRef.TheVariants as entry
+use Rattle.region_model.specs.declared.entry.EntryRef.TheVariants as entry
 use Rattle.tcmu_model.specs.Lengths.{block_size, blocks_of, entry_length}
 use Rattle.tcmu_model.specs.RingState.{Item, commands_in, lengths}
 use Rattle.tcmu_model.specs.RingState as ring
 use Rattle.tcmu_model.specs.Device.{DeviceState}
-use Rattle.tcmu_model.specs.Sound.{IsSound, Every, HasLength}
+use Rattle.tcmu_model.specs.Sound.{IsSound, HasLength}
+use Rattle.tcmu_types.specs.Lists.{Every}
 use Rattle.tcmu_model.specs.BlockLists.{Taken, list_of}
-use Rattle.tcmu_model.specs.Layout.{data_start}
-use Rattle.tcmu_model.specs.EntryReading.{entry_read, lies_inside, limit_of}
-use Rattle.tcmu_model.specs.Iovecs.{piece, joined, merged, iovs_along, total_of}
-use Rattle.tcmu_model.specs.Picture.{place_of, entry_of, request_of, answer_at, command_iovs}
-use Rattle.tcmu_model.specs.Regions.{RegionState, size_of}
-use Rattle.tcmu_model.specs.Sides.{PendingRow, Recorded}
-use Rattle.tcmu_model.specs.Represents.{RingStands, IdsStand, entry_at, id_in, id_at}
-use Rattle.tcmu_model.specs.UserNext.{iovs_in}
+use Rattle.region_model.specs.Layout.{data_start}
+use Rattle.region_model.specs.EntryReading.{entry_read, lies_inside, limit_of}
+use Rattle.region_model.specs.Iovecs.{piece, joined, merged, iovs_along, total_of}
+use Rattle.region_model.specs.Picture.{place_of, entry_of, request_of, answer_at, command_iovs}
+use Rattle.region_model.specs.Regions.{RegionState, size_of}
+use Rattle.region_model.specs.Sides.{PendingRow, Recorded}
+use Rattle.region_model.specs.Represents.{RingStands, IdsStand, entry_at, id_in, id_at}
+use Rattle.region_model.specs.UserNext.{iovs_in}
 use Rattle.tcmu_model.specs.Owned.{ListsSound}
 use Rattle.tcmu_model.proofs.Facts.{placed_dispatched}
 use Rattle.tcmu_model.proofs.Fronts.{commands_more}
@@ -31,10 +32,10 @@ use Rattle.ring_laws.proofs.LaidIds.{id_front, command_long}
 use Rattle.ring_laws.proofs.MailboxThere.{mailbox_of}
 use Rattle.ring_laws.proofs.PassedItems.{Within, item_within, item_there}
 use Rattle.ring_laws.proofs.PlacedAnswers.{small_id}
-use Rattle.tcmu_model.specs.EntryWriting.{AreInside, IsRequest}
-use Rattle.tcmu_model.proofs.EntriesThere.{request_there}
-use Rattle.tcmu_model.proofs.Iovecs.{total_merged}
-use Rattle.tcmu_model.proofs.PartLengths.{length-iovs}
+use Rattle.region_model.specs.EntryWriting.{AreInside, IsRequest}
+use Rattle.region_model.proofs.EntriesThere.{request_there}
+use Rattle.region_model.proofs.Iovecs.{total_merged}
+use Rattle.region_model.proofs.PartLengths.{length-iovs}
 
 -- ==== the iovecs lie in the area
 

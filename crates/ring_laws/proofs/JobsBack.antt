@@ -7,15 +7,15 @@ use Rattle.tcmu_model.specs.declared.state.CommandState.TheVariants.{Parked}
 use Rattle.tcmu_model.specs.Lengths.{blocks_of, block_size}
 use Rattle.tcmu_model.specs.Device.{Unfinished, has_state}
 use Rattle.tcmu_model.specs.Events.{is_in_hand}
-use Rattle.tcmu_model.specs.Sound.{Every}
+use Rattle.tcmu_types.specs.Lists.{Every}
 use Rattle.tcmu_model.specs.BlockLists.{Taken, list_of}
-use Rattle.tcmu_model.specs.Iovecs.{iovs_along}
-use Rattle.tcmu_model.specs.Layout.{data_start}
-use Rattle.tcmu_model.specs.Regions.{RegionState, numbers_of, named_by, returned, size_of}
-use Rattle.tcmu_model.proofs.Everies.{every-filter, filter_twice}
-use Rattle.tcmu_model.specs.Sides.{PendingRow, Carried, GivenJob, InHand, JobState, UserState}
-use Rattle.tcmu_model.specs.Represents.{AreGiven, AreOut, IsJobOf, is_out}
-use Rattle.tcmu_model.specs.UserSteps.{region_abandoned, with_job_back, with_parked_back}
+use Rattle.region_model.specs.Iovecs.{iovs_along}
+use Rattle.region_model.specs.Layout.{data_start}
+use Rattle.region_model.specs.Regions.{RegionState, numbers_of, named_by, returned, size_of}
+use Rattle.tcmu_types.proofs.Everies.{every-filter, filter_twice}
+use Rattle.region_model.specs.Sides.{PendingRow, Carried, GivenJob, InHand, JobState, UserState}
+use Rattle.region_model.specs.Represents.{AreGiven, AreOut, IsJobOf, is_out}
+use Rattle.region_model.specs.UserSteps.{region_abandoned, with_job_back, with_parked_back}
 use Rattle.ring_laws.specs.Restarted.{region_restarted, region_with_hand}
 use Rattle.ring_laws.proofs.AnswerData.{iovs-numbers}
 use Rattle.ring_laws.proofs.GivenBack.{all_back, AreParts, ArePartsOf, back-append, parts-append}

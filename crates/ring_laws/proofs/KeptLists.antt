@@ -4,21 +4,21 @@ use Rattle.std.specs.Bool.{MatchBool}
 use Rattle.std.specs.List.{list_any}
 use Rattle.std.proofs.lemmas.Bool.{cases_Bool, eqb-true, eq-eqb, or_left, or_right}
 use Rattle.tcmu_types.specs.Data.{CommandData}
-use Rattle.tcmu_model.specs.Lists.{first_of}
+use Rattle.tcmu_types.specs.Lists.{first_of, Every}
 use Rattle.tcmu_model.specs.Lengths.{blocks_of, block_size}
 use Rattle.tcmu_model.specs.RingState.{Item, serials_in, serial_in}
 use Rattle.tcmu_model.specs.RingState as ring
 use Rattle.tcmu_model.specs.Device.{Unfinished, DeviceState, has_serial}
-use Rattle.tcmu_model.specs.Events.{is_among, is_in_hand}
-use Rattle.tcmu_model.specs.Sound.{Every, Differ}
+use Rattle.tcmu_model.specs.Events.{is_in_hand}
+use Rattle.tcmu_types.specs.Numbers.{is_among, Differ}
 use Rattle.tcmu_model.specs.BlockLists.{Taken, list_of, held_by, blocks_taken, is_kept, kept_lists}
-use Rattle.tcmu_model.specs.Pending.{PendingData}
-use Rattle.tcmu_model.proofs.Everies.{every-weaker, every-filter, every-both}
-use Rattle.tcmu_model.proofs.Rises.{among-append}
-use Rattle.tcmu_model.specs.Sides.{Recorded, PendingRow, InHand, TargetState, UserState}
-use Rattle.tcmu_model.specs.Represents.{RingStands, BlocksOf, BlocksStand, HaveData, JobsStand, is_out, TargetKeeps, pending_of}
-use Rattle.tcmu_model.specs.Areas.{IsLent}
-use Rattle.tcmu_model.specs.Picture.{payload_of}
+use Rattle.region_model.specs.Pending.{PendingData}
+use Rattle.tcmu_types.proofs.Everies.{every-weaker, every-filter, every-both}
+use Rattle.tcmu_types.proofs.Rises.{among-append}
+use Rattle.region_model.specs.Sides.{Recorded, PendingRow, InHand, TargetState, UserState}
+use Rattle.region_model.specs.Represents.{RingStands, BlocksOf, BlocksStand, HaveData, JobsStand, is_out, TargetKeeps, pending_of}
+use Rattle.region_model.specs.Areas.{IsLent}
+use Rattle.region_model.specs.Picture.{payload_of}
 use Rattle.tcmu_model.specs.Owned.{ListsSound}
 use Rattle.ring_laws.proofs.RingLaid.{stands-by}
 use Rattle.ring_laws.proofs.SameJobs.{HasSame, given_same, outs_same}

@@ -3,26 +3,26 @@ use Rattle.std.proofs.Common.{◌≡◌, ℕ, ◌+◌, ◌-◌, ◌*◌, ◌/◌
 use Rattle.std.proofs.lemmas.Bool.{cases_Bool, cases_lt, ne_eqb, eq-eqb, false≢true, or_parts, or_left, or_right}
 use Rattle.std.specs.Bool.{MatchBool}
 use Rattle.std.proofs.lemmas.List.{take-take, take-replicate, length-replicate}
-use Rattle.tcmu_types.specs.Data.{CommandData}
+use Rattle.tcmu_types.specs.Data.{CommandData, SettingsData}
 use Rattle.tcmu_types.specs.Rules.{takes_payload, payload_length}
 use Rattle.tcmu_model.specs.Lengths.{blocks_of, block_size}
-use Rattle.tcmu_model.specs.Lists.{above_all}
+use Rattle.tcmu_types.specs.Numbers.{above_all, is_among, Differ}
 use Rattle.tcmu_model.specs.RingState.{serials_in}
 use Rattle.tcmu_model.specs.Device.{Unfinished, DeviceState}
-use Rattle.tcmu_model.specs.Events.{is_among, is_in_hand, held_blocks, waiting, with_command}
-use Rattle.tcmu_model.specs.Sound.{IsSound, Every, Differ}
+use Rattle.tcmu_model.specs.Events.{is_in_hand, held_blocks, waiting, with_command}
+use Rattle.tcmu_model.specs.Sound.{IsSound}
+use Rattle.tcmu_types.specs.Lists.{Every}
 use Rattle.tcmu_model.specs.BlockLists.{Taken, list_of, with_taken, blocks_taken, held_by, least_free}
-use Rattle.tcmu_model.specs.Layout.{zeros}
-use Rattle.tcmu_model.specs.Regions.{AreSized, RegionState}
-use Rattle.tcmu_model.specs.Areas.{bytes_along, written_along, IsHome, IsLent}
-use Rattle.tcmu_model.specs.Picture.{payload_of, data_in}
-use Rattle.tcmu_model.specs.Represents.{HaveData, BlocksOf, BlocksStand, TargetKeeps}
-use Rattle.tcmu_model.specs.Sides.{TargetState}
-use Rattle.tcmu_types.specs.Data.{SettingsData}
-use Rattle.tcmu_model.specs.TargetSteps.{region_laid, blocks_given}
+use Rattle.tcmu_types.specs.ByteFields.{zeros}
+use Rattle.region_model.specs.Regions.{AreSized, RegionState}
+use Rattle.region_model.specs.Areas.{bytes_along, written_along, IsHome, IsLent}
+use Rattle.region_model.specs.Picture.{payload_of, data_in}
+use Rattle.region_model.specs.Represents.{HaveData, BlocksOf, BlocksStand, TargetKeeps}
+use Rattle.region_model.specs.Sides.{TargetState}
+use Rattle.region_model.specs.TargetSteps.{region_laid, blocks_given}
 use Rattle.ring_laws.proofs.Agree.{blocks-same}
 use Rattle.tcmu_model.specs.Owned.{ListsSound, HasRoom}
-use Rattle.tcmu_model.proofs.Written.{length-zeros}
+use Rattle.tcmu_types.proofs.ByteFields.{length-zeros}
 use Rattle.ring_laws.proofs.Places.{slice_get-right}
 use Rattle.ring_laws.proofs.Free.{length-least_free, least-are, IsFree, least-differ}
 use Rattle.ring_laws.proofs.Scatter.{grown, scattered-other, scattered-data, along-same, grown-old}
@@ -30,8 +30,8 @@ use Rattle.ring_laws.proofs.LaidEntry.{laid_in}
 use Rattle.ring_laws.proofs.LaidRing.{first-append, first-here, unlisted, cmd_item, with_waiting}
 use Rattle.ring_laws.proofs.LaidIds.{rows_below, lists_below, every-push}
 use Rattle.ring_laws.proofs.TargetAnswers.{held_length}
-use Rattle.tcmu_model.proofs.Everies.{every-weaker}
-use Rattle.tcmu_model.proofs.Rises.{among-append, among_every, every-among}
+use Rattle.tcmu_types.proofs.Everies.{every-weaker}
+use Rattle.tcmu_types.proofs.Rises.{among-append, among_every, every-among}
 use Rattle.tcmu_types.proofs.Places.{get_append_left, get_within}
 
 -- ==== what is held

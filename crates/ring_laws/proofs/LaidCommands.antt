@@ -4,20 +4,21 @@ use Rattle.std.specs.Option.{option_map}
 use Rattle.std.proofs.lemmas.Bool.{cases_Bool, false≢true, or_left}
 use Rattle.std.proofs.lemmas.List.Elements.{filter-append}
 use Rattle.tcmu_types.specs.Data.{CommandData}
-use Rattle.tcmu_model.specs.Lists.{above_all, first_of}
+use Rattle.tcmu_types.specs.Lists.{first_of, Every}
+use Rattle.tcmu_types.specs.Numbers.{above_all, is_among}
 use Rattle.tcmu_model.specs.Lengths.{block_size, blocks_of}
 use Rattle.tcmu_model.specs.RingState.{is_command, serials_in}
 use Rattle.tcmu_model.specs.Device.{Unfinished, DeviceState}
-use Rattle.tcmu_model.specs.Events.{is_among, is_in_hand, waiting, with_command}
-use Rattle.tcmu_model.specs.Sound.{IsSound, Every}
+use Rattle.tcmu_model.specs.Events.{is_in_hand, waiting, with_command}
+use Rattle.tcmu_model.specs.Sound.{IsSound}
 use Rattle.tcmu_model.specs.BlockLists.{Taken, blocks_taken, held_by, least_free, with_taken}
-use Rattle.tcmu_model.specs.Layout.{zeros}
-use Rattle.tcmu_model.specs.Regions.{AreSized, RegionState}
-use Rattle.tcmu_model.proofs.Everies.{every-weaker}
-use Rattle.tcmu_model.proofs.Rises.{among-append, among_every, among-here}
-use Rattle.tcmu_model.specs.Sides.{InHand, PendingRow, TargetState, UserState}
-use Rattle.tcmu_model.specs.Represents.{IsId, IsLeftOver, IsNoteId, JobsStand, NotesStand, RingStands, TargetKeeps, UserKeeps, has_id, id_of, is_out, row_has, serial_with}
-use Rattle.tcmu_model.specs.TargetSteps.{block_data, blocks_given, region_laid, row_of, target_laid}
+use Rattle.tcmu_types.specs.ByteFields.{zeros}
+use Rattle.region_model.specs.Regions.{AreSized, RegionState}
+use Rattle.tcmu_types.proofs.Everies.{every-weaker}
+use Rattle.tcmu_types.proofs.Rises.{among-append, among_every, among-here}
+use Rattle.region_model.specs.Sides.{InHand, PendingRow, TargetState, UserState}
+use Rattle.region_model.specs.Represents.{IsId, IsLeftOver, IsNoteId, JobsStand, NotesStand, RingStands, TargetKeeps, UserKeeps, has_id, id_of, is_out, row_has, serial_with}
+use Rattle.region_model.specs.TargetSteps.{block_data, blocks_given, region_laid, row_of, target_laid}
 use Rattle.tcmu_model.specs.Owned.{HasRoom, ListsSound}
 use Rattle.ring_laws.proofs.LaidRing.{first-append, first-here, not_below, cmd_item, with_waiting, laid_command}
 use Rattle.ring_laws.proofs.LaidIds.{entries_laid, lists_below, rows_below}

@@ -5,14 +5,15 @@ use Rattle.std.proofs.lemmas.Bool.{cases_Bool, eqb-false, ltb-true, ltb-false, n
 use Rattle.tcmu_model.specs.RingState.{RingState, Item, Laid, lengths, head, used, free, need, pads, with_item, commands_in, is_command}
 use Rattle.tcmu_model.specs.RingState as ring
 use Rattle.tcmu_model.specs.Device.{Unfinished, DeviceState}
-use Rattle.tcmu_model.specs.Layout.{le, put, ring_start, data_start, head_place, pad_bytes}
-use Rattle.tcmu_model.specs.TargetSteps.{with_pad}
+use Rattle.region_model.specs.Layout.{ring_start, data_start, head_place, pad_bytes}
+use Rattle.tcmu_types.specs.ByteFields.{le, put}
+use Rattle.region_model.specs.TargetSteps.{with_pad}
 use Rattle.ring_laws.proofs.Bytes.{part, take-written, part-written, part-written_before, part-written_behind}
 use Rattle.ring_laws.proofs.Layouts.{take-written_inside}
-use Rattle.tcmu_model.proofs.Written.{length-le, length-put}
+use Rattle.tcmu_types.proofs.ByteFields.{length-le, length-put}
 use Rattle.ring_laws.specs.Placed.{HoldsItems}
 use Rattle.tcmu_model.proofs.Laying.{times_eight}
-use Rattle.tcmu_model.proofs.PartLengths.{length-pad}
+use Rattle.region_model.proofs.PartLengths.{length-pad}
 
 -- the device with an item laid
 abbrev pub laid_in : DeviceState → Item → List Unfinished → DeviceState

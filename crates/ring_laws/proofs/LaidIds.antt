@@ -3,29 +3,29 @@ use Rattle.std.proofs.Common.{◌≡◌, ℕ, ◌+◌, ◌%◌, ◌≤◌, ◌<�
 use Rattle.std.proofs.lemmas.Bool.{cases_Bool, eq-eqb, ne_eqb, false≢true}
 use Rattle.std.proofs.lemmas.List.{take-append-drop, take-take, length-take-le, map-append}
 use Rattle.tcmu_types.specs.Data.{CommandData, SettingsData}
-use Rattle.tcmu_model.specs.Lists.{first_of}
+use Rattle.tcmu_types.specs.Lists.{first_of, Every}
 use Rattle.tcmu_model.specs.Lengths.{blocks_of, entry_length}
-use Rattle.tcmu_model.specs.RingState.{RingState, Item, Laid, lengths, head, used, free, need, pads, with_item, commands_in, is_command}
+use Rattle.tcmu_model.specs.RingState.{RingState, Item, Laid, lengths, head, used, free, need, pads, with_item, commands_in, is_command, serials_in, serial_in, dispatched_commands, cleared_commands}
 use Rattle.tcmu_model.specs.RingState as ring
 use Rattle.tcmu_model.specs.Device.{Unfinished, DeviceState}
 use Rattle.tcmu_model.specs.BlockLists.{Taken, list_of, held_by, least_free, blocks_taken, with_taken}
-use Rattle.tcmu_model.specs.Layout.{field, zeros, ring_start}
-use Rattle.tcmu_model.specs.Pending.{PendingData}
-use Rattle.tcmu_model.specs.Picture.{place_of}
-use Rattle.tcmu_model.specs.Sides.{PendingRow, TargetState}
-use Rattle.tcmu_model.specs.Represents.{RingStands, entry_at, id_in, TargetKeeps, pending_of, id_at, id_of, row_has, IsId, IdsStand}
-use Rattle.tcmu_model.specs.TargetSteps.{blocks_given, deadline_in, region_laid, target_laid}
+use Rattle.region_model.specs.Layout.{ring_start}
+use Rattle.tcmu_types.specs.ByteFields.{field, zeros}
+use Rattle.region_model.specs.Pending.{PendingData}
+use Rattle.region_model.specs.Picture.{place_of}
+use Rattle.region_model.specs.Sides.{PendingRow, TargetState}
+use Rattle.region_model.specs.Represents.{RingStands, entry_at, id_in, TargetKeeps, pending_of, id_at, id_of, row_has, IsId, IdsStand}
+use Rattle.region_model.specs.TargetSteps.{blocks_given, deadline_in, region_laid, target_laid, row_of}
 use Rattle.std.specs.Option.{option_map}
-use Rattle.tcmu_model.specs.Events.{is_among, waiting, with_command, deadline_at}
-use Rattle.tcmu_model.specs.RingState.{serials_in, serial_in, dispatched_commands, cleared_commands}
-use Rattle.tcmu_model.specs.Regions.{RegionState}
-use Rattle.tcmu_model.specs.Sound.{IsSound, HasLength, Every, Differ}
-use Rattle.tcmu_model.proofs.Written.{field-front}
+use Rattle.tcmu_model.specs.Events.{waiting, with_command, deadline_at}
+use Rattle.tcmu_types.specs.Numbers.{is_among, Differ}
+use Rattle.region_model.specs.Regions.{RegionState}
+use Rattle.tcmu_model.specs.Sound.{IsSound, HasLength}
+use Rattle.tcmu_types.proofs.ByteFields.{field-front}
 use Rattle.tcmu_model.proofs.Basics.{placed_every, rows_among}
-use Rattle.tcmu_model.proofs.Rises.{among_every, differ-push}
-use Rattle.tcmu_model.proofs.Everies.{every-weaker, every-map, every-append, every-mapped}
-use Rattle.tcmu_model.proofs.Indexed.{every_at, item_at}
-use Rattle.tcmu_model.specs.TargetSteps.{row_of}
+use Rattle.tcmu_types.proofs.Rises.{among_every, differ-push}
+use Rattle.tcmu_types.proofs.Everies.{every-weaker, every-map, every-append, every-mapped, every_at}
+use Rattle.tcmu_model.proofs.Indexed.{item_at}
 use Rattle.tcmu_model.specs.Owned.{ListsSound, HasRoom}
 use Rattle.ring_laws.proofs.SoundRing.{holds}
 use Rattle.ring_laws.proofs.Places.{laid_with, LaidCase, laid_case, Old, Padding, New, take-laid}

@@ -1,19 +1,19 @@
 -- A command is laid: the block lists stay sound.
 use Rattle.std.proofs.Common.{◌≡◌, ℕ, ◌+◌, ◌≤◌, ◌<◌, ◌||◌, true, false, List, [], ◌∷◌, ◌++◌, length, refl, sym, ap, ◌∙◌, arith, append_assoc, append-nil, subst, eqb}
-use Rattle.std.proofs.lemmas.Bool.{eqb-false, eq-eqb, ne_eqb, false≢true, or_parts}
+use Rattle.std.proofs.lemmas.Bool.{eqb-false, eq-eqb, ne_eqb, false≢true, or_parts, or_left}
 use Rattle.tcmu_types.specs.Data.{CommandData}
 use Rattle.tcmu_model.specs.Lengths.{blocks_of, entry_length}
-use Rattle.tcmu_model.specs.RingState.{RingState, Item, Laid, lengths, head, used, free, need, pads, with_item, commands_in, is_command}
+use Rattle.tcmu_model.specs.RingState.{RingState, Item, Laid, lengths, head, used, free, need, pads, with_item, commands_in, is_command, serials_in}
 use Rattle.tcmu_model.specs.RingState as ring
 use Rattle.tcmu_model.specs.Device.{Unfinished, DeviceState}
 use Rattle.tcmu_model.specs.BlockLists.{Taken, list_of, held_by, least_free, blocks_taken, with_taken}
-use Rattle.std.proofs.lemmas.Bool.{or_left}
-use Rattle.tcmu_model.specs.Events.{is_among, held_blocks, waiting, with_command}
-use Rattle.tcmu_model.specs.RingState.{serials_in}
-use Rattle.tcmu_model.specs.Sound.{IsSound, Every, Differ}
+use Rattle.tcmu_model.specs.Events.{held_blocks, waiting, with_command}
+use Rattle.tcmu_types.specs.Numbers.{is_among, Differ}
+use Rattle.tcmu_model.specs.Sound.{IsSound}
+use Rattle.tcmu_types.specs.Lists.{Every}
 use Rattle.tcmu_model.proofs.Laying.{serials-append}
-use Rattle.tcmu_model.proofs.Rises.{among-append, among-here}
-use Rattle.tcmu_model.proofs.Everies.{every-append, every-weaker}
+use Rattle.tcmu_types.proofs.Rises.{among-append, among-here}
+use Rattle.tcmu_types.proofs.Everies.{every-append, every-weaker}
 use Rattle.tcmu_model.specs.Owned.{ListsSound, HasRoom}
 use Rattle.ring_laws.proofs.Places.{laid_with, LaidCase, laid_case, Old, Padding, New}
 use Rattle.ring_laws.proofs.LaidRing.{first-append, first-here, not_below, serial_at, unlisted, cmd_item, with_waiting}

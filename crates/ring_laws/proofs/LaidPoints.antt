@@ -4,15 +4,17 @@ use Rattle.std.proofs.lemmas.Bool.{false≢true}
 use Rattle.tcmu_model.specs.RingState.{RingState, Item, Laid, lengths, pads, with_item, is_pad, commands_in, serials_in, serial_in}
 use Rattle.tcmu_model.specs.RingState as ring
 use Rattle.tcmu_model.specs.Device.{Unfinished, DeviceState}
-use Rattle.tcmu_model.specs.Events.{is_among, is_in_hand}
-use Rattle.tcmu_model.specs.Sound.{IsSound, Every}
+use Rattle.tcmu_model.specs.Events.{is_in_hand}
+use Rattle.tcmu_types.specs.Numbers.{is_among}
+use Rattle.tcmu_model.specs.Sound.{IsSound}
+use Rattle.tcmu_types.specs.Lists.{Every}
 use Rattle.tcmu_model.specs.BlockLists.{Taken}
-use Rattle.tcmu_model.specs.Picture.{place_of}
+use Rattle.region_model.specs.Picture.{place_of}
 use Rattle.tcmu_model.proofs.Basics.{among_more}
-use Rattle.tcmu_model.proofs.Everies.{every-filter}
+use Rattle.tcmu_types.proofs.Everies.{every-filter}
 use Rattle.tcmu_model.proofs.Laying.{drop_laid, serials-append, serials-pads}
-use Rattle.tcmu_model.specs.Sides.{InHand, PendingRow, UserState}
-use Rattle.tcmu_model.specs.Represents.{AreGiven, AreOut, IsNoteId, JobsStand, NoteStands, NotesStand, UserKeeps, command_places, entry_at, ids_in, is_out, recorded}
+use Rattle.region_model.specs.Sides.{InHand, PendingRow, UserState}
+use Rattle.region_model.specs.Represents.{AreGiven, AreOut, IsNoteId, JobsStand, NoteStands, NotesStand, UserKeeps, command_places, entry_at, ids_in, is_out, recorded}
 use Rattle.ring_laws.proofs.Places.{laid_with, LaidCase, laid_case, Old, Padding, New, take-laid}
 use Rattle.ring_laws.proofs.LaidEntry.{laid_in}
 use Rattle.ring_laws.proofs.NoteIds.{note_stands_by}

@@ -7,26 +7,24 @@ use Rattle.std.proofs.lemmas.Option.{slice_get_past}
 use Rattle.tcmu_types.specs.Data.{CommandData, SettingsData}
 use Rattle.tcmu_types.specs.Rules.{payload_length}
 use Rattle.tcmu_types.specs.declared.dump.ItemKind.TheVariants as kind
-use Rattle.tcmu_model.specs.Lists.{first_of}
+use Rattle.tcmu_types.specs.Lists.{first_of, Every}
 use Rattle.tcmu_model.specs.Lengths.{blocks_of, block_size, entry_length}
-use Rattle.tcmu_model.specs.RingState.{RingState, Item, Laid, lengths, head, used, free, need, pads, with_item, commands_in, is_command}
+use Rattle.tcmu_model.specs.RingState.{RingState, Item, Laid, lengths, head, used, free, need, pads, with_item, commands_in, is_command, serials_in, serial_in, dispatched_commands}
 use Rattle.tcmu_model.specs.RingState as ring
 use Rattle.tcmu_model.specs.Device.{Unfinished, DeviceState, has_serial}
 use Rattle.tcmu_model.specs.BlockLists.{Taken, list_of, held_by, least_free, blocks_taken, with_taken}
-use Rattle.tcmu_model.specs.Layout.{data_start}
-use Rattle.tcmu_model.specs.Picture.{place_of, item_bytes, entry_of, request_of, ids_named}
-use Rattle.tcmu_model.specs.Sides.{Recorded, TargetState}
-use Rattle.tcmu_model.specs.Represents.{RingStands, recorded, id_in, ids_in, TargetKeeps}
-use Rattle.tcmu_model.specs.TargetSteps.{pads_of, head_in, pad_in, need_in, blocks_given, place_in, length_in, front_with, region_laid, target_laid}
+use Rattle.region_model.specs.Layout.{data_start}
+use Rattle.region_model.specs.Picture.{place_of, item_bytes, entry_of, request_of, ids_named}
+use Rattle.region_model.specs.Sides.{Recorded, TargetState}
+use Rattle.region_model.specs.Represents.{RingStands, recorded, id_in, ids_in, TargetKeeps}
+use Rattle.region_model.specs.TargetSteps.{pads_of, head_in, pad_in, need_in, blocks_given, place_in, length_in, front_with, region_laid, target_laid}
 use Rattle.tcmu_model.specs.Events.{waiting}
-use Rattle.tcmu_model.specs.RingState.{serials_in, serial_in, dispatched_commands}
-use Rattle.tcmu_model.specs.Iovecs.{iovs_along}
-use Rattle.tcmu_model.specs.Regions.{RegionState}
-use Rattle.tcmu_model.specs.Sound.{IsSound, Every}
+use Rattle.region_model.specs.Iovecs.{iovs_along}
+use Rattle.region_model.specs.Regions.{RegionState}
+use Rattle.tcmu_model.specs.Sound.{IsSound}
 use Rattle.tcmu_model.proofs.Facts.{placed_dispatched}
 use Rattle.tcmu_model.proofs.Basics.{placed_every}
-use Rattle.tcmu_model.proofs.Everies.{every-front, every-back}
-use Rattle.tcmu_model.proofs.Indexed.{every_at}
+use Rattle.tcmu_types.proofs.Everies.{every-front, every-back, every_at}
 use Rattle.tcmu_model.specs.Owned.{ListsSound, HasRoom}
 use Rattle.ring_laws.proofs.Layouts.{add-mod, id_of_request}
 use Rattle.ring_laws.specs.Placed.{HoldsItems}
@@ -35,7 +33,7 @@ use Rattle.ring_laws.proofs.Places.{laid_with, lengths_to_new}
 use Rattle.ring_laws.proofs.LaidEntry.{laid_in, entered}
 use Rattle.ring_laws.proofs.RingLaid.{SameItems, ring-laid}
 use Rattle.ring_laws.proofs.Agree.{Agrees, agrees, blocks-same}
-use Rattle.tcmu_model.proofs.PartLengths.{length-iovs, length-request}
+use Rattle.region_model.proofs.PartLengths.{length-iovs, length-request}
 
 -- ==== serials below the new one
 

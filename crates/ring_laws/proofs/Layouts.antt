@@ -5,11 +5,12 @@ use Rattle.std.proofs.lemmas.List.{take-take, drop-take, length-take-le}
 use Rattle.tcmu_types.specs.declared.settings.Flags.{Flags}
 use Rattle.tcmu_model.specs.Lengths.{round_up}
 use Rattle.tcmu_model.specs.RingState.{head}
-use Rattle.tcmu_model.specs.Layout.{le, field, put, zeros, ring_start, head_place, mailbox_bytes, device_mailbox}
-use Rattle.tcmu_model.specs.Picture.{tail}
+use Rattle.region_model.specs.Layout.{ring_start, head_place, mailbox_bytes, device_mailbox, entry_header, iovs_bytes, command_head, cdb_place, command_length, command_bytes}
+use Rattle.tcmu_types.specs.ByteFields.{le, field, put, zeros, padded}
+use Rattle.region_model.specs.Picture.{tail}
 use Rattle.tcmu_types.specs.declared.iovec.Iov.{Iov}
-use Rattle.tcmu_model.specs.Layout.{padded, entry_header, iovs_bytes, command_head, cdb_place, command_length, command_bytes}
-use Rattle.tcmu_model.proofs.Written.{lengths as writes, length-le, length-command_head, field-in, field-front}
+use Rattle.tcmu_types.proofs.ByteFields.{lengths as writes, length-le, field-in, field-front}
+use Rattle.region_model.proofs.HeaderLengths.{length-command_head}
 
 pub add-mod : (a b n : ℕ) → (a % n + b) % n ≡ (a + b) % n
 add-mod a b n = let e : (a % n + b) + n * (a / n) ≡ a + b = omega arith in sym (add-mul-mod_self_left (a % n + b) n (a / n)) ∙ ap (λ t. t % n) e

@@ -5,11 +5,11 @@ use Rattle.std.proofs.Math.Nat.{add-mul-mod_self_left, mod_self, mul-mod_right}
 use Rattle.std.proofs.lemmas.Bool.{cases_Bool, eqb-true, eqb-false, eq-eqb, or_parts, and_from, and_parts}
 use Rattle.std.proofs.lemmas.Bool.Decides.{nat_tests}
 use Rattle.tcmu_types.specs.declared.iovec.Iov.{Iov}
-use Rattle.tcmu_model.specs.Events.{is_among}
-use Rattle.tcmu_model.specs.Iovecs.{merged, iovs_along, gathered}
-use Rattle.tcmu_model.specs.Sound.{Every, Differ}
-use Rattle.tcmu_model.specs.Areas.{block_bytes, bytes_along, IsHome, IsLent}
-use Rattle.tcmu_model.specs.Regions.{home, is_home, starts_block, are_whole, can_take, taken, without, HaveSize}
+use Rattle.tcmu_types.specs.Numbers.{is_among, Differ}
+use Rattle.region_model.specs.Iovecs.{merged, iovs_along, gathered}
+use Rattle.tcmu_types.specs.Lists.{Every}
+use Rattle.region_model.specs.Areas.{block_bytes, bytes_along, IsHome, IsLent}
+use Rattle.region_model.specs.Regions.{home, is_home, starts_block, are_whole, can_take, taken, without, HaveSize}
 use Rattle.ring_laws.proofs.Scatter.{get-set_other, get-set_same, here-other, along-same}
 use Rattle.ring_laws.proofs.AnswerData.{set-leaves}
 

@@ -4,16 +4,16 @@ use Rattle.std.proofs.lemmas.Bool.{cases_Bool, eqb-true}
 use Rattle.tcmu_types.specs.Data.{ReplyData}
 use Rattle.tcmu_model.specs.declared.state.CommandState.{CommandState}
 use Rattle.tcmu_model.specs.declared.state.CommandState.TheVariants.{Waiting, Out, Handled, Parked, Placed, Lost}
-use Rattle.tcmu_model.specs.Lists.{first_of}
+use Rattle.tcmu_types.specs.Lists.{first_of, Every}
 use Rattle.tcmu_model.specs.Device.{Unfinished, DeviceState, has_serial, has_state}
-use Rattle.tcmu_model.specs.Events.{is_among, is_in_hand, is_losing, lose, answered}
-use Rattle.tcmu_model.specs.Sound.{IsSound, Every}
+use Rattle.tcmu_model.specs.Events.{is_in_hand, is_losing, lose, answered}
+use Rattle.tcmu_types.specs.Numbers.{is_among}
+use Rattle.tcmu_model.specs.Sound.{IsSound}
 use Rattle.tcmu_model.specs.BlockLists.{Taken, list_of, held_by}
-use Rattle.tcmu_model.proofs.Everies.{every-weaker}
-use Rattle.tcmu_model.proofs.Indexed.{every_at}
-use Rattle.tcmu_model.proofs.Rises.{every-among}
+use Rattle.tcmu_types.proofs.Everies.{every-weaker, every_at}
+use Rattle.tcmu_types.proofs.Rises.{every-among}
 use Rattle.tcmu_model.proofs.Standing.{answered_rows}
-use Rattle.tcmu_model.specs.Picture.{payload_of, with_answer, with_reply}
+use Rattle.region_model.specs.Picture.{payload_of, with_answer, with_reply}
 
 -- ==== one command
 

@@ -6,23 +6,23 @@ use Rattle.std.proofs.lemmas.List.{take-append-drop}
 use Rattle.std.proofs.lemmas.List.Sums.{sum_by-cons}
 use Rattle.tcmu_types.specs.Data.{SettingsData}
 use Rattle.tcmu_types.specs.declared.settings.Flags.{Flags}
-use Rattle.tcmu_model.specs.declared.mailbox.Mailbox.{Mailbox}
+use Rattle.region_model.specs.declared.mailbox.Mailbox.{Mailbox}
 use Rattle.tcmu_model.specs.RingState.{Item, lengths, head}
 use Rattle.tcmu_model.specs.Device.{DeviceState}
 use Rattle.tcmu_model.specs.Sound.{Along, IsItem, IsSound}
 use Rattle.tcmu_model.specs.BlockLists.{Taken}
-use Rattle.tcmu_model.specs.Layout.{mailbox_bytes, device_mailbox, flag_bits, ring_start, data_start}
-use Rattle.tcmu_model.specs.MailboxReading.{mailbox_in, mailbox_read, judged, is_ring_size, Fits, IsMailbox}
-use Rattle.tcmu_model.specs.Picture.{tail}
-use Rattle.tcmu_model.specs.Regions.{RegionState}
-use Rattle.tcmu_model.specs.Sides.{Recorded}
-use Rattle.tcmu_model.specs.Represents.{RingStands}
-use Rattle.tcmu_model.specs.UserSteps.{user_mailbox, of_size, ring_size}
-use Rattle.tcmu_model.proofs.Written.{field-front}
+use Rattle.region_model.specs.Layout.{mailbox_bytes, device_mailbox, flag_bits, ring_start, data_start}
+use Rattle.region_model.specs.MailboxReading.{mailbox_in, mailbox_read, judged, is_ring_size, Fits, IsMailbox}
+use Rattle.region_model.specs.Picture.{tail}
+use Rattle.region_model.specs.Regions.{RegionState}
+use Rattle.region_model.specs.Sides.{Recorded}
+use Rattle.region_model.specs.Represents.{RingStands}
+use Rattle.region_model.specs.UserSteps.{user_mailbox, of_size, ring_size}
+use Rattle.tcmu_types.proofs.ByteFields.{field-front}
 use Rattle.ring_laws.proofs.SoundRing.{holds}
 use Rattle.ring_laws.specs.Placed.{HoldsItems}
 use Rattle.tcmu_model.proofs.Laying.{times_eight}
-use Rattle.tcmu_model.proofs.PartLengths.{length-mailbox, mailbox_fields}
+use Rattle.region_model.proofs.PartLengths.{length-mailbox, mailbox_fields}
 
 -- they are those of the first 128 bytes
 of_front : (text rest : List ℕ) → length text ≡ 128 → mailbox_in (text ++ rest) ≡ mailbox_in text

@@ -11,9 +11,9 @@ use Rattle.tcmu_model.specs.RingState as ring
 use Rattle.tcmu_model.specs.Device.{DeviceState}
 use Rattle.tcmu_model.specs.Events.{after_dispatch, dispatch_answer, item_answer, is_running, next_item, passed, turned}
 use Rattle.tcmu_model.specs.BlockLists.{Taken}
-use Rattle.tcmu_model.specs.Regions.{RegionState}
-use Rattle.tcmu_model.specs.Sides.{InHand, TargetState, UserState}
-use Rattle.tcmu_model.specs.UserNext.{Nothing, Nexted, nexted}
+use Rattle.region_model.specs.Regions.{RegionState}
+use Rattle.region_model.specs.Sides.{InHand, TargetState, UserState}
+use Rattle.region_model.specs.UserNext.{Nothing, Nexted, nexted}
 use Rattle.ring_laws.specs.Dispatched.{CanDispatch}
 use Rattle.ring_laws.proofs.Nexts.{NoteComes, can_pass, job_comes, job_nexted, note_comes, note_nexted}
 use Rattle.ring_laws.proofs.PassedItems.{comes_to_head}

@@ -9,27 +9,29 @@ use Rattle.tcmu_types.specs.Data.{CommandData}
 use Rattle.tcmu_types.specs.Rules.{takes_payload, payload_length, IsCommand}
 use Rattle.tcmu_types.specs.declared.dump.ItemKind.TheVariants as kind
 use Rattle.tcmu_types.specs.declared.iovec.Iov.{Iov}
-use Rattle.tcmu_model.specs.declared.entry.EntryRef.TheVariants as entry
+use Rattle.region_model.specs.declared.entry.EntryRef.TheVariants as entry
 use Rattle.tcmu_model.specs.declared.state.CommandState.TheVariants.{Waiting}
-use Rattle.tcmu_model.specs.Lists.{first_of}
+use Rattle.tcmu_types.specs.Lists.{first_of, Every}
 use Rattle.tcmu_model.specs.Lengths.{block_size, blocks_of, tmr_length}
 use Rattle.tcmu_model.specs.RingState.{Item, Laid, head, is_pad, lengths, next_place}
 use Rattle.tcmu_model.specs.RingState as ring
 use Rattle.tcmu_model.specs.Device.{Unfinished, DeviceState, has_serial}
-use Rattle.tcmu_model.specs.Events.{is_among, is_in_hand, next_item}
-use Rattle.tcmu_model.specs.Sound.{Every, Differ, HasLength}
+use Rattle.tcmu_model.specs.Events.{is_in_hand, next_item}
+use Rattle.tcmu_types.specs.Numbers.{is_among, Differ}
+use Rattle.tcmu_model.specs.Sound.{HasLength}
 use Rattle.tcmu_model.specs.BlockLists.{Taken, list_of, held_by}
-use Rattle.tcmu_model.specs.Layout.{data_start, field, tmr_bytes}
-use Rattle.tcmu_model.specs.EntryReading.{entry_read, limit_of}
-use Rattle.tcmu_model.specs.Areas.{IsHome}
-use Rattle.tcmu_model.specs.Iovecs.{total_of}
-use Rattle.tcmu_model.specs.Picture.{place_of, command_iovs, payload_of}
-use Rattle.tcmu_model.specs.Regions.{RegionState, size_of, can_lend, named_by, are_whole, can_take, numbers_of, taken, without}
-use Rattle.tcmu_model.specs.Sides.{Moved, Copied, InHand, JobState, TargetState, UserState}
-use Rattle.tcmu_model.specs.Represents.{HaveData, BlocksOf, entry_at, id_at, ids_in}
-use Rattle.tcmu_model.specs.UserNext.{Job, Note, Nexted, command_next, copied_data, next_within, nexted, note_next, tmr_ids_in, with_job, with_passed}
-use Rattle.tcmu_model.specs.UserSteps.{is_open_job}
-use Rattle.tcmu_model.proofs.Everies.{every-back, every-weaker}
+use Rattle.region_model.specs.Layout.{data_start, tmr_bytes}
+use Rattle.tcmu_types.specs.ByteFields.{field}
+use Rattle.region_model.specs.EntryReading.{entry_read, limit_of}
+use Rattle.region_model.specs.Areas.{IsHome}
+use Rattle.region_model.specs.Iovecs.{total_of}
+use Rattle.region_model.specs.Picture.{place_of, command_iovs, payload_of}
+use Rattle.region_model.specs.Regions.{RegionState, size_of, can_lend, named_by, are_whole, can_take, numbers_of, taken, without}
+use Rattle.region_model.specs.Sides.{Moved, Copied, InHand, JobState, TargetState, UserState}
+use Rattle.region_model.specs.Represents.{HaveData, BlocksOf, entry_at, id_at, ids_in}
+use Rattle.region_model.specs.UserNext.{Job, Note, Nexted, command_next, copied_data, next_within, nexted, note_next, tmr_ids_in, with_job, with_passed}
+use Rattle.region_model.specs.UserSteps.{is_open_job}
+use Rattle.tcmu_types.proofs.Everies.{every-back, every-weaker}
 use Rattle.tcmu_model.proofs.Indexed.{item_at}
 use Rattle.ring_laws.specs.Dispatched.{CanDispatch}
 use Rattle.ring_laws.proofs.AnswerBlocks.{found-held, found-differ}
@@ -40,8 +42,8 @@ use Rattle.ring_laws.proofs.MailboxThere.{mailbox_of}
 use Rattle.ring_laws.proofs.PassedItems.{CanPass, Comes, Within, comes_to, item_there, item_within, passed_one, passed_to, ring_is}
 use Rattle.ring_laws.proofs.Sending.{Sends, sends, first-split}
 use Rattle.ring_laws.proofs.Matched.{unmatched}
-use Rattle.tcmu_model.proofs.Rises.{among_every, every-among}
-use Rattle.tcmu_model.proofs.EntriesThere.{note_there, NoteRead, note_ids, length-ids_in}
+use Rattle.tcmu_types.proofs.Rises.{among_every, every-among}
+use Rattle.region_model.proofs.EntriesThere.{note_there, NoteRead, note_ids, length-ids_in}
 
 pub can_pass : (r : RegionState) (t : TargetState) (user : UserState) (hand : List InHand) (d : DeviceState) (lists : List Taken) → CanDispatch r t user hand d lists → CanPass r t.items user d lists
 can_pass r t user hand d lists h = record { sound = h.sound; attached = h.attached; ring = h.ring; side = h.side }

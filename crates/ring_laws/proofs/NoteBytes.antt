@@ -1,11 +1,13 @@
 -- The bytes of a note: how many they are, and that its ids are read as they were written.
 use Rattle.std.proofs.Common.{◌≡◌, ℕ, ◌+◌, ◌-◌, ◌*◌, ◌^◌, ◌≤◌, ◌<◌, List, [], ◌∷◌, ◌++◌, length, refl, sym, ap, ◌∙◌, arith, append_assoc, length-append}
 use Rattle.tcmu_model.specs.Lengths.{tmr_length}
-use Rattle.tcmu_model.specs.Sound.{Every}
-use Rattle.tcmu_model.specs.Layout.{entry_header, field, ids_bytes, le, padded, tmr_bytes, zeros}
-use Rattle.tcmu_model.specs.Represents.{ids_in}
-use Rattle.tcmu_model.proofs.Written.{field-in, length-entry_header, length-le, lengths}
-use Rattle.tcmu_model.proofs.PartLengths.{length-ids_bytes}
+use Rattle.tcmu_types.specs.Lists.{Every}
+use Rattle.region_model.specs.Layout.{entry_header, ids_bytes, tmr_bytes}
+use Rattle.tcmu_types.specs.ByteFields.{field, le, padded, zeros}
+use Rattle.region_model.specs.Represents.{ids_in}
+use Rattle.tcmu_types.proofs.ByteFields.{field-in, length-le, lengths}
+use Rattle.region_model.proofs.HeaderLengths.{length-entry_header}
+use Rattle.region_model.proofs.PartLengths.{length-ids_bytes}
 
 -- what stands before the ids
 note_head : ℕ → ℕ → List ℕ

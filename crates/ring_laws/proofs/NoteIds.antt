@@ -3,14 +3,13 @@ use Rattle.std.proofs.Common.{◌≡◌, ℕ, ◌⊎◌, inl, inr, Bool, true, L
 use Rattle.std.specs.Option.{option_map}
 use Rattle.std.proofs.lemmas.Bool.{eqb-true}
 use Rattle.std.proofs.lemmas.Simd.{map-map}
-use Rattle.tcmu_model.specs.Lists.{first_of}
+use Rattle.tcmu_types.specs.Lists.{first_of, Every}
 use Rattle.tcmu_model.specs.Device.{Unfinished}
-use Rattle.tcmu_model.specs.Events.{is_among}
-use Rattle.tcmu_model.specs.Sound.{Every, Differ}
+use Rattle.tcmu_types.specs.Numbers.{is_among, Differ}
 use Rattle.tcmu_model.specs.BlockLists.{Taken}
-use Rattle.tcmu_model.specs.Pending.{PendingData}
-use Rattle.tcmu_model.specs.Sides.{PendingRow}
-use Rattle.tcmu_model.specs.Represents.{AreNoteIds, IsLeftOver, IsNoteId, NoteStands, has_id, id_of, pending_of, row_has, serial_with}
+use Rattle.region_model.specs.Pending.{PendingData}
+use Rattle.region_model.specs.Sides.{PendingRow}
+use Rattle.region_model.specs.Represents.{AreNoteIds, IsLeftOver, IsNoteId, NoteStands, has_id, id_of, pending_of, row_has, serial_with}
 use Rattle.ring_laws.proofs.Found.{first-passes, found_by}
 
 -- ==== a serial and its id

@@ -6,31 +6,31 @@ use Rattle.std.specs.List.{list_any}
 use Rattle.std.proofs.lemmas.Bool.{cases_Bool, eqb-true, false≢true, leb-true}
 use Rattle.std.proofs.lemmas.List.{length-map}
 use Rattle.std.proofs.Math.Seq.{take-append_seam}
-use Rattle.tcmu_types.specs.Data.{SettingsData}
+use Rattle.tcmu_types.specs.Data.{SettingsData, CommandData}
 use Rattle.tcmu_types.specs.declared.answer.Tmr.{Tmr}
 use Rattle.tcmu_types.specs.declared.answer.Tmr.TheVariants as tmr
-use Rattle.tcmu_types.specs.Data.{CommandData}
-use Rattle.tcmu_model.specs.Lists.{first_of}
+use Rattle.tcmu_types.specs.Lists.{first_of, Every}
 use Rattle.tcmu_model.specs.Lengths.{block_size, blocks_of, tmr_length}
 use Rattle.tcmu_model.specs.RingState.{RingState, Item, Laid, lengths, head, used, free, need, pads, with_item, commands_in, is_command, serials_in}
 use Rattle.tcmu_model.specs.RingState as ring
 use Rattle.tcmu_model.specs.Device.{Unfinished, DeviceState, has_serial}
-use Rattle.tcmu_model.specs.Events.{after_tmr, is_among, tmr_answer, tmr_length_of, unknown_serial, with_note}
-use Rattle.tcmu_model.specs.Sound.{IsSound, Every}
+use Rattle.tcmu_model.specs.Events.{after_tmr, tmr_answer, tmr_length_of, unknown_serial, with_note}
+use Rattle.tcmu_types.specs.Numbers.{is_among}
+use Rattle.tcmu_model.specs.Sound.{IsSound}
 use Rattle.tcmu_model.specs.BlockLists.{Taken, list_of}
-use Rattle.tcmu_model.specs.Pending.{PendingData}
-use Rattle.tcmu_model.specs.Layout.{tmr_bytes}
-use Rattle.tcmu_model.specs.Picture.{place_of}
-use Rattle.tcmu_model.specs.Regions.{AreSized, RegionState}
+use Rattle.region_model.specs.Pending.{PendingData}
+use Rattle.region_model.specs.Layout.{tmr_bytes}
+use Rattle.region_model.specs.Picture.{place_of}
+use Rattle.region_model.specs.Regions.{AreSized, RegionState}
 use Rattle.tcmu_model.proofs.Basics.{rows_among}
-use Rattle.tcmu_model.proofs.Everies.{every-all, every-first, every-map}
+use Rattle.tcmu_types.proofs.Everies.{every-all, every-first, every-map}
 use Rattle.tcmu_model.proofs.Laying.{serials-append, serials_laid, serials-pads}
-use Rattle.tcmu_model.proofs.Rises.{among_every}
+use Rattle.tcmu_types.proofs.Rises.{among_every}
 use Rattle.tcmu_model.proofs.SoundLaying.{tmr_sizes}
 use Rattle.tcmu_model.proofs.Standing.{any_among}
-use Rattle.tcmu_model.specs.Sides.{InHand, PendingRow, TargetState, UserState}
-use Rattle.tcmu_model.specs.Represents.{AreNoteIds, BlocksStand, IdsStand, IsId, IsNoteId, JobsStand, NoteStands, NotesStand, RingStands, TargetKeeps, UserKeeps, entry_at, id_at, id_of, ids_in, pending_of, recorded, row_has}
-use Rattle.tcmu_model.specs.TargetSteps.{fits_in, free_in, id_or_zero, ids_of, need_in, pad_in, pads_of, region_noted, target_noted, target_tmr_answer, unknown_in}
+use Rattle.region_model.specs.Sides.{InHand, PendingRow, TargetState, UserState}
+use Rattle.region_model.specs.Represents.{AreNoteIds, BlocksStand, IdsStand, IsId, IsNoteId, JobsStand, NoteStands, NotesStand, RingStands, TargetKeeps, UserKeeps, entry_at, id_at, id_of, ids_in, pending_of, recorded, row_has}
+use Rattle.region_model.specs.TargetSteps.{fits_in, free_in, id_or_zero, ids_of, need_in, pad_in, pads_of, region_noted, target_noted, target_tmr_answer, unknown_in}
 use Rattle.tcmu_model.specs.Owned.{ListsSound}
 use Rattle.ring_laws.specs.Refused.{is_unnoted}
 use Rattle.ring_laws.proofs.Agree.{Agrees, agrees}
@@ -44,7 +44,7 @@ use Rattle.ring_laws.proofs.LaidRing.{commands-append, front_same}
 use Rattle.ring_laws.proofs.LaidIds.{command_long, commands-pads, id-same}
 use Rattle.ring_laws.proofs.NoteBytes.{ids_again}
 use Rattle.ring_laws.proofs.TargetAnswers.{Rooms, rooms}
-use Rattle.tcmu_model.proofs.PartLengths.{length-note}
+use Rattle.region_model.proofs.PartLengths.{length-note}
 
 -- ==== which serials are known
 

@@ -12,16 +12,18 @@ use Rattle.tcmu_model.specs.declared.state.CommandState.TheVariants as state
 use Rattle.tcmu_model.specs.RingState.{Item, serials_in, next_place}
 use Rattle.tcmu_model.specs.RingState as ring
 use Rattle.tcmu_model.specs.Device.{Unfinished, DeviceState, has_state, is_at}
-use Rattle.tcmu_model.specs.Events.{is_among, is_in_hand, is_running, next_item}
-use Rattle.tcmu_model.specs.Sound.{Every, Differ, IsSound, dispatched_serials}
+use Rattle.tcmu_model.specs.Events.{is_in_hand, is_running, next_item}
+use Rattle.tcmu_types.specs.Numbers.{is_among, Differ}
+use Rattle.tcmu_model.specs.Sound.{IsSound, dispatched_serials}
+use Rattle.tcmu_types.specs.Lists.{Every}
 use Rattle.tcmu_model.specs.BlockLists.{Taken}
-use Rattle.tcmu_model.specs.Regions.{RegionState}
-use Rattle.tcmu_model.specs.Sides.{GivenJob, InHand, Parked, PendingRow, TargetState, UserState}
-use Rattle.tcmu_model.specs.Represents.{AreGiven, AreNoteIds, IsJobOf, IsLeftOver, IsNoteId, NoteStands, id_of, serial_with}
-use Rattle.tcmu_model.specs.UserSteps.{is_open_job}
+use Rattle.region_model.specs.Regions.{RegionState}
+use Rattle.region_model.specs.Sides.{GivenJob, InHand, Parked, PendingRow, TargetState, UserState}
+use Rattle.region_model.specs.Represents.{AreGiven, AreNoteIds, IsJobOf, IsLeftOver, IsNoteId, NoteStands, id_of, serial_with}
+use Rattle.region_model.specs.UserSteps.{is_open_job}
 use Rattle.tcmu_model.proofs.Basics.{laid_rise, serials_split, among_more}
-use Rattle.tcmu_model.proofs.Counts.{state_at, serial_at, state_same}
-use Rattle.tcmu_model.proofs.Everies.{every-filter, every-passes, every-both, every-weaker}
+use Rattle.tcmu_model.proofs.CommandStates.{state_at, serial_at, state_same}
+use Rattle.tcmu_types.proofs.Everies.{every-filter, every-passes, every-both, every-weaker}
 use Rattle.tcmu_model.proofs.Facts.{waiting_undispatched}
 use Rattle.ring_laws.specs.Dispatched.{CanDispatch}
 use Rattle.ring_laws.proofs.AnswerBlocks.{differ-split}
@@ -29,7 +31,7 @@ use Rattle.ring_laws.proofs.Nexts.{ids_at}
 use Rattle.ring_laws.proofs.NoteIds.{serial_under}
 use Rattle.ring_laws.proofs.RespondedJobs.{some_same}
 use Rattle.ring_laws.proofs.Matched.{unmatched}
-use Rattle.tcmu_model.proofs.Standing.{rise_differ}
+use Rattle.tcmu_types.proofs.Rises.{rise_differ}
 
 -- ==== an open job is of a command that is running
 

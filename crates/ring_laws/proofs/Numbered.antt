@@ -9,14 +9,14 @@ use Rattle.tcmu_model.specs.Device.{DeviceState}
 use Rattle.tcmu_model.specs.Sound.{IsSound}
 use Rattle.tcmu_model.proofs.Basics.{rows_rise}
 use Rattle.tcmu_model.proofs.Fronts.{commands_more}
-use Rattle.tcmu_model.specs.Picture.{place_of}
-use Rattle.tcmu_model.specs.Represents.{command_places}
+use Rattle.region_model.specs.Picture.{place_of}
+use Rattle.region_model.specs.Represents.{command_places}
 use Rattle.ring_laws.specs.Placed.{HoldsItems, CanAnswer}
 use Rattle.ring_laws.proofs.SoundRing.{holds}
 use Rattle.ring_laws.proofs.LaidIds.{command_long}
 use Rattle.ring_laws.proofs.Places.{apart_in_ring, ends_within, used_is, lengths_more}
 use Rattle.tcmu_types.proofs.Places.{get_append_left}
-use Rattle.tcmu_model.proofs.Standing.{rise_differ}
+use Rattle.tcmu_types.proofs.Rises.{rise_differ}
 
 -- ==== what placing an answer rests on
 

@@ -4,16 +4,17 @@ use Rattle.std.proofs.lemmas.List.{take_at}
 use Rattle.tcmu_types.specs.Data.{SettingsData}
 use Rattle.tcmu_types.specs.Rules.{IsSettings}
 use Rattle.tcmu_types.specs.declared.settings.Flags.{Flags}
-use Rattle.tcmu_model.specs.declared.mailbox.Mailbox.{Mailbox}
+use Rattle.region_model.specs.declared.mailbox.Mailbox.{Mailbox}
 use Rattle.tcmu_model.specs.Device.{opening_state}
-use Rattle.tcmu_model.specs.Layout.{zeros, padded, mailbox_bytes, device_mailbox, data_start}
-use Rattle.tcmu_model.specs.Regions.{opening_region}
-use Rattle.tcmu_model.specs.TargetSteps.{opening_target}
-use Rattle.tcmu_model.specs.UserSteps.{flags_in, opening_user}
+use Rattle.region_model.specs.Layout.{mailbox_bytes, device_mailbox, data_start}
+use Rattle.tcmu_types.specs.ByteFields.{zeros, padded}
+use Rattle.region_model.specs.Regions.{opening_region}
+use Rattle.region_model.specs.TargetSteps.{opening_target}
+use Rattle.region_model.specs.UserSteps.{flags_in, opening_user}
 use Rattle.tcmu_model.specs.Owned.{ListsSound}
-use Rattle.tcmu_model.specs.Represents.{Represents}
-use Rattle.tcmu_model.proofs.Written.{length-padded}
-use Rattle.tcmu_model.proofs.PartLengths.{length-mailbox}
+use Rattle.region_model.specs.Represents.{Represents}
+use Rattle.tcmu_types.proofs.ByteFields.{length-padded}
+use Rattle.region_model.proofs.PartLengths.{length-mailbox}
 
 pub take-padded : (n k : ℕ) (xs : List ℕ) → length xs ≡ k → take k (padded n xs) ≡ xs
 unfolding padded

@@ -9,13 +9,15 @@ use Rattle.tcmu_model.specs.declared.state.CommandState.{CommandState}
 use Rattle.tcmu_model.specs.declared.state.CommandState.TheVariants.{Waiting, Handled, Parked, Placed, Lost}
 use Rattle.tcmu_model.specs.RingState.{serials_in, cleared_commands}
 use Rattle.tcmu_model.specs.Device.{Unfinished, DeviceState, has_state, is_at}
-use Rattle.tcmu_model.specs.Events.{answered, is_among, is_in_hand, turned}
-use Rattle.tcmu_model.specs.Sound.{IsSound, Every, Rise, dispatched_serials, finished}
+use Rattle.tcmu_model.specs.Events.{answered, is_in_hand, turned}
+use Rattle.tcmu_types.specs.Numbers.{is_among, Rise}
+use Rattle.tcmu_model.specs.Sound.{IsSound, dispatched_serials, finished}
+use Rattle.tcmu_types.specs.Lists.{Every}
 use Rattle.tcmu_model.proofs.Basics.{laid_rise, serials_split}
-use Rattle.tcmu_model.proofs.Counts.{state_at, state_is}
-use Rattle.tcmu_model.proofs.Everies.{every-back, every-both, every-filter, every-front, every-mapped, every-none, every-weaker, filter_all}
+use Rattle.tcmu_model.proofs.CommandStates.{state_at, state_is}
+use Rattle.tcmu_types.proofs.Everies.{every-back, every-both, every-filter, every-front, every-mapped, every-none, every-weaker, filter_all}
 use Rattle.tcmu_model.proofs.Facts.{apart_behind, waiting_undispatched}
-use Rattle.tcmu_model.proofs.Rises.{among-take, among_every, every-among, rise_from, rise_within}
+use Rattle.tcmu_types.proofs.Rises.{among-take, among_every, every-among, rise_from, rise_within}
 use Rattle.tcmu_model.proofs.Standing.{answered_rows, in_hand_rows}
 use Rattle.ring_laws.specs.Placed.{parked_in}
 use Rattle.ring_laws.proofs.PlacedAnswers.{serials_turned}

@@ -4,24 +4,22 @@ use Rattle.std.specs.Option.{is_some}
 use Rattle.std.proofs.lemmas.Bool.{cases_Bool, ne_eqb, eq-eqb}
 use Rattle.tcmu_types.specs.Data.{SettingsData}
 use Rattle.tcmu_model.specs.declared.state.CommandState.TheVariants.{Handled, Parked}
-use Rattle.tcmu_model.specs.Lists.{first_of, with_first, without_first}
+use Rattle.tcmu_types.specs.Lists.{first_of, with_first, without_first}
 use Rattle.tcmu_model.specs.Device.{Unfinished, DeviceState, is_at}
-use Rattle.tcmu_model.specs.Events.{in_state, is_among, is_in_hand, turned}
-use Rattle.tcmu_model.specs.Sound.{Differ}
+use Rattle.tcmu_model.specs.Events.{in_state, is_in_hand, turned}
+use Rattle.tcmu_types.specs.Numbers.{is_among, Differ}
 use Rattle.tcmu_model.specs.BlockLists.{Taken}
-use Rattle.tcmu_model.proofs.Counts.{state_at, serial_at}
-use Rattle.tcmu_model.specs.Sides.{GivenJob, InHand, PendingRow, UserState}
-use Rattle.tcmu_model.specs.Sides as sides
-use Rattle.tcmu_model.specs.Represents.{AreGiven, AreOut, IdsStand, JobsStand, id_of, is_out}
-use Rattle.tcmu_model.specs.UserSteps.{is_open_job}
-use Rattle.tcmu_model.specs.HandSteps.{hand_has, hand_responded}
+use Rattle.tcmu_model.proofs.CommandStates.{state_at, serial_at}
+use Rattle.region_model.specs.Sides.{GivenJob, InHand, PendingRow, UserState}
+use Rattle.region_model.specs.Sides as sides
+use Rattle.region_model.specs.Represents.{AreGiven, AreOut, IdsStand, JobsStand, id_of, is_out, IsJobOf}
+use Rattle.region_model.specs.UserSteps.{is_open_job, with_jobs, with_parked}
+use Rattle.region_model.specs.HandSteps.{hand_has, hand_responded}
 use Rattle.ring_laws.specs.Placed.{parked_in}
 use Rattle.ring_laws.proofs.Numbered.{can_answer}
 use Rattle.ring_laws.proofs.RespondedKept.{found-state, job_parked}
 use Rattle.ring_laws.proofs.TakenOut.{none_at}
 use Rattle.ring_laws.proofs.RespondedJobs.{one_serial, opens}
-use Rattle.tcmu_model.specs.UserSteps.{with_jobs, with_parked}
-use Rattle.tcmu_model.specs.Represents.{IsJobOf}
 use Rattle.tcmu_model.specs.Sound.{IsSound}
 
 -- ==== the jobs

@@ -5,19 +5,20 @@ use Rattle.std.proofs.lemmas.Bool.{cases_Bool, and_parts}
 use Rattle.tcmu_types.specs.Rules.{IsCommand}
 use Rattle.tcmu_model.specs.declared.state.CommandState.{CommandState}
 use Rattle.tcmu_model.specs.declared.state.CommandState.TheVariants.{Handled, Parked}
-use Rattle.tcmu_model.specs.Lists.{first_of}
+use Rattle.tcmu_types.specs.Lists.{first_of, Every}
 use Rattle.tcmu_model.specs.Lengths.{blocks_of, block_size}
 use Rattle.tcmu_model.specs.RingState.{Item, Laid, commands_in}
 use Rattle.tcmu_model.specs.RingState as ring
 use Rattle.tcmu_model.specs.Device.{Unfinished, DeviceState, has_serial, is_at}
-use Rattle.tcmu_model.specs.Events.{is_among, is_in_hand, in_state, turned}
-use Rattle.tcmu_model.specs.Sound.{IsSound, Every, Differ, ReplyFits}
+use Rattle.tcmu_model.specs.Events.{is_in_hand, in_state, turned}
+use Rattle.tcmu_types.specs.Numbers.{is_among, Differ}
+use Rattle.tcmu_model.specs.Sound.{IsSound, ReplyFits}
 use Rattle.tcmu_model.specs.BlockLists.{Taken, list_of, held_by}
-use Rattle.tcmu_model.proofs.Counts.{state_at, serial_at}
-use Rattle.tcmu_model.proofs.Everies.{every-with_first}
-use Rattle.tcmu_model.specs.Picture.{place_of, item_bytes, entry_of, request_of, ids_named}
-use Rattle.tcmu_model.specs.Sides.{Recorded, PendingRow, TargetState, UserState}
-use Rattle.tcmu_model.specs.Represents.{RingStands, IdsStand, NotesStand, BlocksOf, BlocksStand, TargetKeeps, UserKeeps, entry_at, id_in, ids_in, pending_of}
+use Rattle.tcmu_model.proofs.CommandStates.{state_at, serial_at}
+use Rattle.tcmu_types.proofs.Everies.{every-with_first}
+use Rattle.region_model.specs.Picture.{place_of, item_bytes, entry_of, request_of, ids_named}
+use Rattle.region_model.specs.Sides.{Recorded, PendingRow, TargetState, UserState}
+use Rattle.region_model.specs.Represents.{RingStands, IdsStand, NotesStand, BlocksOf, BlocksStand, TargetKeeps, UserKeeps, entry_at, id_in, ids_in, pending_of}
 use Rattle.tcmu_model.specs.Owned.{ListsSound}
 use Rattle.ring_laws.specs.Placed.{CanAnswer, CanFill, parked_in}
 use Rattle.ring_laws.proofs.AnswerBytes.{turned-found}

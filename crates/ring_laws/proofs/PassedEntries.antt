@@ -2,21 +2,23 @@
 use Rattle.std.proofs.Common.{◌≡◌, ◌≢◌, ℕ, ◌+◌, ◌-◌, ◌*◌, ◌%◌, ◌<◌, ◌≤◌, Bool, true, false, not, cond, eqb, ltb, leb, ◌==◌, List, length, zero, suc, Option, Some, None, Result, Ok, Err, refl, ap, ◌∙◌, arith, subst, ⊎_elim}
 use Rattle.std.specs.List.{list_all}
 use Rattle.std.proofs.lemmas.Bool.{cases_Bool, eqb-true, eqb-false}
-use Rattle.tcmu_model.proofs.EntriesThere.{least_eight}
-use Rattle.tcmu_model.specs.declared.mailbox.Mailbox.{Mailbox}
-use Rattle.tcmu_model.specs.declared.mailbox.MailboxFault.{MailboxFault}
-use Rattle.tcmu_model.specs.declared.mailbox.MailboxFault.TheVariants as mailbox
-use Rattle.tcmu_model.specs.declared.entry.EntryRef.{EntryRef}
-use Rattle.tcmu_model.specs.declared.entry.EntryRef.TheVariants as entry
-use Rattle.tcmu_model.specs.declared.entry.EntryFault.{EntryFault}
-use Rattle.tcmu_model.specs.declared.entry.EntryFault.TheVariants as fault
-use Rattle.tcmu_model.specs.Layout.{data_start, ring_start, field}
-use Rattle.tcmu_model.specs.MailboxReading.{mailbox_in, is_ring_size, judged, mailbox_read, IsRingSize}
-use Rattle.tcmu_model.specs.EntryReading.{op_at, len_at, id_at, iov_cnt_at, bidi_cnt_at, dif_cnt_at, cdb_off_at, kind_at, id_cnt_at, iov_at, lies_inside, first_outside, cdb_at, where_outside, with_cdb, command_read, tmr_read, limit_of, least_of, kind_read, sized_read, entry_read}
-use Rattle.tcmu_model.specs.Regions.{RegionState}
-use Rattle.tcmu_model.specs.UserNext.{iovs_in}
-use Rattle.tcmu_model.specs.UserSteps.{ring_size, of_size, user_mailbox}
-use Rattle.tcmu_model.proofs.Guards.{guard_ok, is_same, not_below, not_most, is_ring_sized}
+use Rattle.region_model.proofs.EntriesThere.{least_eight}
+use Rattle.region_model.specs.declared.mailbox.Mailbox.{Mailbox}
+use Rattle.region_model.specs.declared.mailbox.MailboxFault.{MailboxFault}
+use Rattle.region_model.specs.declared.mailbox.MailboxFault.TheVariants as mailbox
+use Rattle.region_model.specs.declared.entry.EntryRef.{EntryRef}
+use Rattle.region_model.specs.declared.entry.EntryRef.TheVariants as entry
+use Rattle.region_model.specs.declared.entry.EntryFault.{EntryFault}
+use Rattle.region_model.specs.declared.entry.EntryFault.TheVariants as fault
+use Rattle.region_model.specs.Layout.{data_start, ring_start}
+use Rattle.tcmu_types.specs.ByteFields.{field}
+use Rattle.region_model.specs.MailboxReading.{mailbox_in, is_ring_size, judged, mailbox_read, IsRingSize}
+use Rattle.region_model.specs.EntryReading.{op_at, len_at, id_at, iov_cnt_at, bidi_cnt_at, dif_cnt_at, cdb_off_at, kind_at, id_cnt_at, iov_at, lies_inside, first_outside, cdb_at, where_outside, with_cdb, command_read, tmr_read, limit_of, least_of, kind_read, sized_read, entry_read}
+use Rattle.region_model.specs.Regions.{RegionState}
+use Rattle.region_model.specs.UserNext.{iovs_in}
+use Rattle.region_model.specs.UserSteps.{ring_size, of_size, user_mailbox}
+use Rattle.tcmu_types.proofs.Guards.{guard_ok, is_same, not_below, not_most}
+use Rattle.region_model.proofs.RingSizes.{is_ring_sized}
 
 -- ==== a mailbox
 

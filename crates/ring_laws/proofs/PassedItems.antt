@@ -7,29 +7,31 @@ use Rattle.std.proofs.lemmas.List.{take-append-drop, drop-append-le, map-append,
 use Rattle.std.proofs.lemmas.List.Sums.{sum_by-cons}
 use Rattle.tcmu_types.specs.Data.{SettingsData}
 use Rattle.tcmu_types.specs.declared.dump.ItemKind.TheVariants as kind
-use Rattle.tcmu_model.specs.declared.entry.EntryRef.TheVariants as entry
+use Rattle.region_model.specs.declared.entry.EntryRef.TheVariants as entry
 use Rattle.tcmu_model.specs.RingState.{RingState, Item, Laid, lengths, head, used, is_pad, next_place}
 use Rattle.tcmu_model.specs.RingState as ring
 use Rattle.tcmu_model.specs.Device.{DeviceState}
 use Rattle.tcmu_model.specs.Events.{next_item}
-use Rattle.tcmu_model.specs.Sound.{Every, Along, IsItem, IsSound}
+use Rattle.tcmu_model.specs.Sound.{Along, IsItem, IsSound}
+use Rattle.tcmu_types.specs.Lists.{Every}
 use Rattle.tcmu_model.specs.BlockLists.{Taken}
-use Rattle.tcmu_model.specs.Layout.{ring_start, data_start, pad_bytes}
-use Rattle.tcmu_model.specs.EntryReading.{limit_of, entry_read}
-use Rattle.tcmu_model.specs.Picture.{place_of, kind_of}
-use Rattle.tcmu_model.specs.Regions.{RegionState, size_of}
-use Rattle.tcmu_model.specs.Sides.{Recorded, UserState}
-use Rattle.tcmu_model.specs.Represents.{RingStands, UserKeeps, entry_at, recorded}
-use Rattle.tcmu_model.specs.UserNext.{Nothing, next_within, next_of, nexted, with_passed}
-use Rattle.tcmu_model.proofs.Everies.{every-drop}
+use Rattle.region_model.specs.Layout.{ring_start, data_start, pad_bytes}
+use Rattle.region_model.specs.EntryReading.{limit_of, entry_read}
+use Rattle.region_model.specs.Picture.{place_of, kind_of}
+use Rattle.region_model.specs.Regions.{RegionState, size_of}
+use Rattle.region_model.specs.Sides.{Recorded, UserState}
+use Rattle.region_model.specs.Represents.{RingStands, UserKeeps, entry_at, recorded}
+use Rattle.region_model.specs.UserNext.{Nothing, next_within, next_of, nexted, with_passed}
+use Rattle.tcmu_types.proofs.Everies.{every-drop}
 use Rattle.tcmu_model.proofs.Indexed.{item_at}
-use Rattle.tcmu_model.proofs.Places.{next_within as next_inside, within, get_none}
+use Rattle.tcmu_model.proofs.Places.{next_within as next_inside}
+use Rattle.tcmu_types.proofs.Places.{within, get_none}
 use Rattle.ring_laws.specs.Placed.{HoldsItems}
 use Rattle.ring_laws.proofs.CleanedOne.{take-next, next-place}
 use Rattle.ring_laws.proofs.SoundRing.{holds}
 use Rattle.ring_laws.proofs.MailboxThere.{mailbox_of, device_mailbox_there}
 use Rattle.ring_laws.proofs.Places.{ends_within, used_is, lengths_more, get-dropped}
-use Rattle.tcmu_model.proofs.EntriesThere.{IsThere, pad_there}
+use Rattle.region_model.proofs.EntriesThere.{IsThere, pad_there}
 use Rattle.tcmu_model.proofs.Laying.{lengths-append}
 
 -- ==== how far an item may reach

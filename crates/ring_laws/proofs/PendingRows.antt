@@ -2,15 +2,14 @@
 use Rattle.std.proofs.Common.{◌≡◌, ℕ, ◌+◌, ◌-◌, ◌<◌, ◌≤◌, Bool, true, false, List, [], ◌∷◌, ◌++◌, length, map, refl, sym, ap, ◌∙◌, arith, subst, ⊎_elim, append_assoc, append-nil, length-append}
 use Rattle.std.proofs.lemmas.Bool.{cases_Bool, or_parts}
 use Rattle.std.proofs.lemmas.List.{map-append}
-use Rattle.tcmu_model.specs.Lists.{without_first}
-use Rattle.tcmu_model.specs.Events.{is_among}
+use Rattle.tcmu_types.specs.Lists.{without_first, Every}
+use Rattle.tcmu_types.specs.Numbers.{is_among, Differ}
 use Rattle.tcmu_model.specs.BlockLists.{least_free}
-use Rattle.tcmu_model.specs.Sound.{Every, Differ}
-use Rattle.tcmu_model.specs.Sides.{PendingRow}
-use Rattle.tcmu_model.specs.Represents.{IsId}
-use Rattle.tcmu_model.specs.TargetSteps.{blocks_held, is_due_at, expired_at}
-use Rattle.tcmu_model.proofs.Everies.{every-append, every-front, every-back, every-weaker, every-map, every-without_first, map_kept}
-use Rattle.tcmu_model.proofs.Rises.{among-append, differ-push}
+use Rattle.region_model.specs.Sides.{PendingRow}
+use Rattle.region_model.specs.Represents.{IsId}
+use Rattle.region_model.specs.TargetSteps.{blocks_held, is_due_at, expired_at}
+use Rattle.tcmu_types.proofs.Everies.{every-append, every-front, every-back, every-weaker, every-map, every-without_first, map_kept}
+use Rattle.tcmu_types.proofs.Rises.{among-append, differ-push}
 use Rattle.ring_laws.specs.Calls.{RowsSound}
 use Rattle.ring_laws.proofs.Free.{IsFree, length-least_free, least-are, least-differ}
 use Rattle.ring_laws.proofs.LaidLists.{differ-append}

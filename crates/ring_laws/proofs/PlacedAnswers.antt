@@ -9,15 +9,16 @@ use Rattle.tcmu_model.specs.RingState.{serials_in}
 use Rattle.tcmu_model.specs.RingState as ring
 use Rattle.tcmu_model.specs.Device.{Unfinished, DeviceState, is_at}
 use Rattle.tcmu_model.specs.Events.{turned}
-use Rattle.tcmu_model.specs.Sound.{Every, Differ}
+use Rattle.tcmu_types.specs.Numbers.{Differ}
+use Rattle.tcmu_types.specs.Lists.{Every}
 use Rattle.tcmu_model.specs.BlockLists.{Taken}
-use Rattle.tcmu_model.specs.Layout.{with_response}
-use Rattle.tcmu_model.specs.Regions.{RegionState}
-use Rattle.tcmu_model.specs.Picture.{place_of, told_length}
-use Rattle.tcmu_model.specs.Sides.{Recorded, PendingRow, TargetState, UserState, GivenJob, Carried}
-use Rattle.tcmu_model.specs.Sides as sides
-use Rattle.tcmu_model.specs.Represents.{NoteStands, RingStands, IdsStand, NotesStand, IsId, entry_at, ids_in, TargetKeeps, UserKeeps, pending_of, id_of, row_has, command_places}
-use Rattle.tcmu_model.specs.UserSteps.{Placing, placed_at, placed_one, with_payload}
+use Rattle.region_model.specs.Layout.{with_response}
+use Rattle.region_model.specs.Regions.{RegionState}
+use Rattle.region_model.specs.Picture.{place_of, told_length}
+use Rattle.region_model.specs.Sides.{Recorded, PendingRow, TargetState, UserState, GivenJob, Carried}
+use Rattle.region_model.specs.Sides as sides
+use Rattle.region_model.specs.Represents.{NoteStands, RingStands, IdsStand, NotesStand, IsId, entry_at, ids_in, TargetKeeps, UserKeeps, pending_of, id_of, row_has, command_places}
+use Rattle.region_model.specs.UserSteps.{Placing, placed_at, placed_one, with_payload}
 use Rattle.ring_laws.specs.Placed.{CanAnswer, CanPlace, placed_in}
 use Rattle.ring_laws.proofs.Numbered.{NextEntry, next-entry}
 use Rattle.ring_laws.proofs.AnswerBytes.{place-ring, place-ids, found-at, other-kept, answer_into}

@@ -7,21 +7,21 @@ use Rattle.std.proofs.lemmas.List.Folds.{list_any-append}
 use Rattle.tcmu_model.specs.declared.state.CommandState.{CommandState}
 use Rattle.tcmu_model.specs.declared.state.CommandState.TheVariants.{Parked, Placed}
 use Rattle.tcmu_model.specs.States.{same_state}
-use Rattle.tcmu_model.specs.Lists.{first_of}
+use Rattle.tcmu_types.specs.Lists.{first_of, Every}
 use Rattle.tcmu_model.specs.RingState.{serials_in, dispatched_commands}
 use Rattle.tcmu_model.specs.Device.{Unfinished, DeviceState, has_serial, has_state, is_at}
-use Rattle.tcmu_model.specs.Events.{in_state, is_among, is_in_hand, run_placed, turned}
+use Rattle.tcmu_model.specs.Events.{in_state, is_in_hand, run_placed, turned}
+use Rattle.tcmu_types.specs.Numbers.{is_among, Rise}
 use Rattle.tcmu_model.specs.Events as events
-use Rattle.tcmu_model.specs.Sound.{Every, Rise}
 use Rattle.tcmu_model.specs.BlockLists.{Taken}
-use Rattle.tcmu_model.specs.Regions.{RegionState}
-use Rattle.tcmu_model.proofs.Counts.{state_is}
-use Rattle.tcmu_model.proofs.Everies.{every-append, every-none, every-weaker}
-use Rattle.tcmu_model.proofs.Rises.{every-among, not_above, not_among, rise_seam}
-use Rattle.tcmu_model.specs.Sides.{GivenJob, PendingRow, UserState}
-use Rattle.tcmu_model.specs.Sides as sides
-use Rattle.tcmu_model.specs.Represents.{AreGiven, IsJobOf, command_places}
-use Rattle.tcmu_model.specs.UserSteps.{Placing, placed_at, placed_front, placed_one}
+use Rattle.region_model.specs.Regions.{RegionState}
+use Rattle.tcmu_model.proofs.CommandStates.{state_is}
+use Rattle.tcmu_types.proofs.Everies.{every-append, every-none, every-weaker}
+use Rattle.tcmu_types.proofs.Rises.{every-among, not_above, not_among, rise_seam}
+use Rattle.region_model.specs.Sides.{GivenJob, PendingRow, UserState}
+use Rattle.region_model.specs.Sides as sides
+use Rattle.region_model.specs.Represents.{AreGiven, IsJobOf, command_places}
+use Rattle.region_model.specs.UserSteps.{Placing, placed_at, placed_front, placed_one}
 use Rattle.ring_laws.specs.Placed.{CanAnswer, CanFill, CanPlace, placed_in}
 use Rattle.ring_laws.proofs.AnswerBlocks.{fill_placed}
 use Rattle.ring_laws.proofs.OrderedRows.{InOrder, not_parked, turned-behind}

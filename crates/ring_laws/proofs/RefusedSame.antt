@@ -8,9 +8,9 @@ use Rattle.tcmu_types.specs.declared.answer.Enter.{Enter}
 use Rattle.tcmu_types.specs.declared.answer.Enter.TheVariants as enter
 use Rattle.tcmu_model.specs.Device.{DeviceState}
 use Rattle.tcmu_model.specs.Events.{after_submit, after_enter}
-use Rattle.tcmu_model.specs.Regions.{RegionState}
-use Rattle.tcmu_model.specs.Sides.{TargetState}
-use Rattle.tcmu_model.specs.TargetSteps.{target_submitted, region_submitted, target_entered, region_entered}
+use Rattle.region_model.specs.Regions.{RegionState}
+use Rattle.region_model.specs.Sides.{TargetState}
+use Rattle.region_model.specs.TargetSteps.{target_submitted, region_submitted, target_entered, region_entered}
 use Rattle.ring_laws.specs.Refused.{enters_none, is_refusal}
 
 pub refused_same : (r : RegionState) (t : TargetState) (d : DeviceState) (c : CommandData) (id : ℕ) (a : Submit) → is_refusal a ≡ true → (after_submit d c a ≡ d) × (target_submitted t c id a ≡ t) × (region_submitted r t c id a ≡ r)

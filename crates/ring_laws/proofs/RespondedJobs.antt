@@ -8,20 +8,20 @@ use Rattle.tcmu_types.specs.declared.settings.Flags.{Flags}
 use Rattle.tcmu_types.specs.declared.answer.Respond.TheVariants as respond
 use Rattle.tcmu_model.specs.declared.state.CommandState.TheVariants.{Handled, Parked, Placed}
 use Rattle.tcmu_model.specs.declared.state.CommandState.TheVariants as state
-use Rattle.tcmu_model.specs.Lists.{first_of, without_first}
+use Rattle.tcmu_types.specs.Lists.{first_of, without_first}
 use Rattle.tcmu_model.specs.Device.{Unfinished, DeviceState, has_serial, has_state, is_at}
-use Rattle.tcmu_model.specs.Events.{after_respond, in_state, is_among, is_handled, is_in_hand, placed_by, respond_answer, turned}
+use Rattle.tcmu_model.specs.Events.{after_respond, in_state, is_handled, is_in_hand, placed_by, respond_answer, turned}
+use Rattle.tcmu_types.specs.Numbers.{is_among, Differ}
 use Rattle.tcmu_model.specs.Events as events
 use Rattle.tcmu_model.specs.RingState.{serials_in}
-use Rattle.tcmu_model.specs.Sound.{Differ}
 use Rattle.tcmu_model.specs.BlockLists.{Taken}
-use Rattle.tcmu_model.specs.Regions.{RegionState}
-use Rattle.tcmu_model.proofs.Counts.{state_at, serial_at}
-use Rattle.tcmu_model.specs.Sides.{GivenJob, InHand, PendingRow, UserState}
-use Rattle.tcmu_model.specs.Sides as sides
-use Rattle.tcmu_model.specs.Represents.{AreGiven, AreOut, IdsStand, IsGiven, JobsStand, id_of, is_out, row_has}
-use Rattle.tcmu_model.specs.UserSteps.{Placing, is_open_job, is_unanswered, placed_at, placed_or_parked, user_respond_answer, user_responded}
-use Rattle.tcmu_model.specs.HandSteps.{hand_has, hand_responded}
+use Rattle.region_model.specs.Regions.{RegionState}
+use Rattle.tcmu_model.proofs.CommandStates.{state_at, serial_at}
+use Rattle.region_model.specs.Sides.{GivenJob, InHand, PendingRow, UserState}
+use Rattle.region_model.specs.Sides as sides
+use Rattle.region_model.specs.Represents.{AreGiven, AreOut, IdsStand, IsGiven, JobsStand, id_of, is_out, row_has}
+use Rattle.region_model.specs.UserSteps.{Placing, is_open_job, is_unanswered, placed_at, placed_or_parked, user_respond_answer, user_responded}
+use Rattle.region_model.specs.HandSteps.{hand_has, hand_responded}
 use Rattle.ring_laws.specs.Placed.{answer_placed, parked_in, placed_in}
 use Rattle.ring_laws.specs.Responded.{CanRespond}
 use Rattle.ring_laws.proofs.Numbered.{can_answer}
@@ -30,7 +30,7 @@ use Rattle.ring_laws.proofs.ParkedKept.{can_answer_parked, found_parked}
 use Rattle.ring_laws.proofs.RespondedKept.{Responds, responds, can_place, found-state}
 use Rattle.ring_laws.proofs.TakenOut.{none_at}
 use Rattle.ring_laws.proofs.Matched.{unmatched}
-use Rattle.tcmu_model.proofs.Places.{any_first}
+use Rattle.tcmu_types.proofs.Firsts.{any_first}
 
 -- ==== ids name one serial each
 

@@ -7,30 +7,31 @@ use Rattle.tcmu_types.specs.Data.{ReplyData, SettingsData}
 use Rattle.tcmu_types.specs.declared.settings.Flags.{Flags}
 use Rattle.tcmu_model.specs.declared.state.CommandState.{CommandState}
 use Rattle.tcmu_model.specs.declared.state.CommandState.TheVariants.{Handled, Parked, Placed}
-use Rattle.tcmu_model.specs.Lists.{first_of, without_first}
+use Rattle.tcmu_types.specs.Lists.{first_of, without_first}
 use Rattle.tcmu_model.specs.RingState.{dispatched_commands, serials_in}
 use Rattle.tcmu_model.specs.Device.{Unfinished, DeviceState, is_at}
-use Rattle.tcmu_model.specs.Events.{Placing, after_respond, in_state, is_among, is_handled, is_in_hand, placed_by, turned}
+use Rattle.tcmu_model.specs.Events.{Placing, after_respond, in_state, is_handled, is_in_hand, placed_by, turned}
+use Rattle.tcmu_types.specs.Numbers.{is_among}
 use Rattle.tcmu_model.specs.Events as events
 use Rattle.tcmu_model.specs.Sound.{IsSound, awaits_answer}
 use Rattle.tcmu_model.specs.BlockLists.{Taken}
-use Rattle.tcmu_model.specs.Regions.{RegionState}
-use Rattle.tcmu_model.proofs.Counts.{state_at}
+use Rattle.region_model.specs.Regions.{RegionState}
+use Rattle.tcmu_model.proofs.CommandStates.{state_at}
 use Rattle.tcmu_model.proofs.Standing.{awaiting}
 use Rattle.tcmu_types.specs.Rules.{takes_payload}
-use Rattle.tcmu_model.specs.Picture.{data_in, payload_of}
-use Rattle.tcmu_model.specs.Sides.{GivenJob, InHand, PendingRow, Recorded, TargetState, UserState}
-use Rattle.tcmu_model.specs.Sides as sides
-use Rattle.tcmu_model.specs.Represents.{BlocksStand, IdsStand, IsJobOf, NotesStand, RingStands, TargetKeeps, UserKeeps}
-use Rattle.tcmu_model.specs.UserSteps.{is_open_job, placed_at, placed_one, placing_by, user_responded, with_payload}
-use Rattle.tcmu_model.specs.UserSteps as steps
+use Rattle.region_model.specs.Picture.{data_in, payload_of}
+use Rattle.region_model.specs.Sides.{GivenJob, InHand, PendingRow, Recorded, TargetState, UserState}
+use Rattle.region_model.specs.Sides as sides
+use Rattle.region_model.specs.Represents.{BlocksStand, IdsStand, IsJobOf, NotesStand, RingStands, TargetKeeps, UserKeeps}
+use Rattle.region_model.specs.UserSteps.{is_open_job, placed_at, placed_one, placing_by, user_responded, with_payload}
+use Rattle.region_model.specs.UserSteps as steps
 use Rattle.tcmu_model.specs.Owned.{ListsSound}
 use Rattle.ring_laws.specs.Placed.{CanAnswer, CanPlace, answer_placed, parked_in, placed_in}
 use Rattle.ring_laws.specs.Responded.{CanRespond}
 use Rattle.ring_laws.proofs.PlacedAnswers.{Into, goes_into, placing_of, ring_placed, ids_placed, notes_placed, target_placed, user_placed}
 use Rattle.ring_laws.proofs.AnswerBlocks.{blocks_placed}
 use Rattle.ring_laws.proofs.ParkedKept.{turned_in, lists_turned, lists_parked, ring_parked, ids_parked, notes_parked, blocks_parked, target_parked, side_parked, can_answer_parked, can_fill_parked, found_parked}
-use Rattle.tcmu_model.proofs.Places.{any_first}
+use Rattle.tcmu_types.proofs.Firsts.{any_first}
 
 -- ==== both sides place the one answer
 

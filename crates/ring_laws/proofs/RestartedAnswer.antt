@@ -10,15 +10,17 @@ use Rattle.tcmu_model.specs.declared.state.CommandState.{CommandState}
 use Rattle.tcmu_model.specs.declared.state.CommandState.TheVariants.{Waiting, Out, Handled, Parked, Placed, Lost}
 use Rattle.tcmu_model.specs.RingState.{published_commands, cleared_commands}
 use Rattle.tcmu_model.specs.Device.{Unfinished, DeviceState, has_serial, has_state}
-use Rattle.tcmu_model.specs.Events.{is_among, is_in_hand, is_losing, answered, count_in_hand, restart_answer}
-use Rattle.tcmu_model.specs.Sound.{IsSound, Every, Differ, is_right, state_fits, dispatched_serials}
+use Rattle.tcmu_model.specs.Events.{is_in_hand, is_losing, answered, count_in_hand, restart_answer}
+use Rattle.tcmu_types.specs.Numbers.{is_among, Differ}
+use Rattle.tcmu_model.specs.Sound.{IsSound, is_right, state_fits, dispatched_serials}
+use Rattle.tcmu_types.specs.Lists.{Every}
 use Rattle.tcmu_model.specs.BlockLists.{Taken}
 use Rattle.tcmu_model.proofs.Basics.{cleared_published, rows_rise}
-use Rattle.tcmu_model.proofs.Everies.{every-weaker, every-both, every-drop}
-use Rattle.tcmu_model.proofs.Rises.{among-append, count_differ}
+use Rattle.tcmu_types.proofs.Everies.{every-weaker, every-both, every-drop}
+use Rattle.tcmu_types.proofs.Rises.{among-append, count_differ}
 use Rattle.tcmu_model.proofs.Standing.{answered_rows, any_among, placed_there}
-use Rattle.tcmu_model.specs.Sides.{GivenJob, InHand, PendingRow, UserState}
-use Rattle.tcmu_model.specs.Represents.{AreGiven, AreOut, JobsStand, UserKeeps, is_out}
+use Rattle.region_model.specs.Sides.{GivenJob, InHand, PendingRow, UserState}
+use Rattle.region_model.specs.Represents.{AreGiven, AreOut, JobsStand, UserKeeps, is_out}
 use Rattle.ring_laws.specs.Restarted.{count_jobs, count_parked, restarted_answer}
 use Rattle.ring_laws.proofs.AnswerBlocks.{differ-right}
 use Rattle.ring_laws.proofs.GivenBack.{split-left}

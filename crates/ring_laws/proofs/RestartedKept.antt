@@ -6,17 +6,19 @@ use Rattle.tcmu_model.specs.declared.state.CommandState.{CommandState}
 use Rattle.tcmu_model.specs.declared.state.CommandState.TheVariants.{Waiting, Out, Handled, Parked, Placed, Lost}
 use Rattle.tcmu_model.specs.Lengths.{blocks_of, block_size}
 use Rattle.tcmu_model.specs.Device.{Unfinished, DeviceState, has_state}
-use Rattle.tcmu_model.specs.Events.{is_among, is_in_hand, lose, answered, after_restart}
-use Rattle.tcmu_model.specs.Sound.{IsSound, Every, Differ}
+use Rattle.tcmu_model.specs.Events.{is_in_hand, lose, answered, after_restart}
+use Rattle.tcmu_types.specs.Numbers.{is_among, Differ}
+use Rattle.tcmu_model.specs.Sound.{IsSound}
+use Rattle.tcmu_types.specs.Lists.{Every}
 use Rattle.tcmu_model.specs.BlockLists.{Taken, list_of, held_by}
-use Rattle.tcmu_model.specs.Layout.{data_start}
-use Rattle.tcmu_model.specs.Regions.{RegionState}
-use Rattle.tcmu_model.specs.Areas.{IsLent}
-use Rattle.tcmu_model.specs.Picture.{payload_of}
-use Rattle.tcmu_model.proofs.Everies.{every-map, every-append, every-front, every-back, every-filter, every-passes, map_kept}
-use Rattle.tcmu_model.specs.Sides.{Carried, Moved, Copied, GivenJob, InHand, JobState, Parked as ParkedJob, PendingRow, Recorded, TargetState, UserState}
-use Rattle.tcmu_model.specs.Represents.{AreGiven, AreOut, BlocksOf, BlocksStand, HaveData, IdsStand, JobsStand, NotesStand, RingStands, TargetKeeps, UserKeeps, is_out, pending_of}
-use Rattle.tcmu_model.specs.UserSteps.{region_abandoned, user_abandoned, with_job_back, with_parked_back}
+use Rattle.region_model.specs.Layout.{data_start}
+use Rattle.region_model.specs.Regions.{RegionState}
+use Rattle.region_model.specs.Areas.{IsLent}
+use Rattle.region_model.specs.Picture.{payload_of}
+use Rattle.tcmu_types.proofs.Everies.{every-map, every-append, every-front, every-back, every-filter, every-passes, map_kept}
+use Rattle.region_model.specs.Sides.{Carried, Moved, Copied, GivenJob, InHand, JobState, Parked as ParkedJob, PendingRow, Recorded, TargetState, UserState}
+use Rattle.region_model.specs.Represents.{AreGiven, AreOut, BlocksOf, BlocksStand, HaveData, IdsStand, JobsStand, NotesStand, RingStands, TargetKeeps, UserKeeps, is_out, pending_of}
+use Rattle.region_model.specs.UserSteps.{region_abandoned, user_abandoned, with_job_back, with_parked_back}
 use Rattle.tcmu_model.specs.Owned.{ListsSound}
 use Rattle.ring_laws.specs.Restarted.{region_restarted, region_with_hand}
 use Rattle.ring_laws.proofs.LaidBlocks.{among-filter, every-join}
@@ -26,7 +28,7 @@ use Rattle.ring_laws.proofs.HeldApart.{every-picked, picked-apart, picked-held, 
 use Rattle.ring_laws.proofs.JobsBack.{GoesBack, all_jobs_back}
 use Rattle.ring_laws.proofs.Lost.{lost_blind, lost_hand, lost_payload, held_lost, none_in_hand, answers_lost}
 use Rattle.ring_laws.proofs.Matched.{matched, unmatched}
-use Rattle.tcmu_model.proofs.Rises.{among-append}
+use Rattle.tcmu_types.proofs.Rises.{among-append}
 
 -- ==== the region but for its blocks
 

@@ -3,16 +3,17 @@ use Rattle.std.proofs.Common.{◌≡◌, ℕ, ◌+◌, ◌-◌, ◌%◌, ◌≤�
 use Rattle.std.proofs.lemmas.Bool.{cases_Bool}
 use Rattle.std.proofs.lemmas.List.{drop-append-le, take_all, map-append}
 use Rattle.tcmu_types.specs.Data.{CommandData, SettingsData}
-use Rattle.tcmu_model.specs.Lists.{first_of}
+use Rattle.tcmu_types.specs.Lists.{first_of}
 use Rattle.tcmu_model.specs.RingState.{RingState, Item, Laid, lengths, head, used, free, need, pads, with_item, commands_in, is_command}
 use Rattle.tcmu_model.specs.RingState as ring
 use Rattle.tcmu_model.specs.Device.{Unfinished, DeviceState, has_serial}
 use Rattle.tcmu_model.specs.BlockLists.{Taken, list_of}
-use Rattle.tcmu_model.specs.Layout.{le, put, ring_start, data_start, head_place, pad_bytes, mailbox_bytes, device_mailbox}
-use Rattle.tcmu_model.specs.Picture.{place_of, tail, item_bytes, entry_of, with_answer, request_of, ids_named}
-use Rattle.tcmu_model.specs.Sides.{Recorded}
-use Rattle.tcmu_model.specs.Represents.{RingStands, StandsAt, recorded, entry_at, id_in, ids_in}
-use Rattle.tcmu_model.specs.TargetSteps.{pads_of}
+use Rattle.region_model.specs.Layout.{ring_start, data_start, head_place, pad_bytes, mailbox_bytes, device_mailbox}
+use Rattle.tcmu_types.specs.ByteFields.{le, put}
+use Rattle.region_model.specs.Picture.{place_of, tail, item_bytes, entry_of, with_answer, request_of, ids_named}
+use Rattle.region_model.specs.Sides.{Recorded}
+use Rattle.region_model.specs.Represents.{RingStands, StandsAt, recorded, entry_at, id_in, ids_in}
+use Rattle.region_model.specs.TargetSteps.{pads_of}
 use Rattle.ring_laws.proofs.Bytes.{part}
 use Rattle.ring_laws.proofs.Layouts.{mailbox_moved}
 use Rattle.ring_laws.specs.Placed.{HoldsItems}

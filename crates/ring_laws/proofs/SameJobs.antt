@@ -3,11 +3,11 @@ use Rattle.std.proofs.Common.{◌≡◌, ℕ, List, [], ◌∷◌, length, ap, �
 use Rattle.tcmu_types.specs.Data.{SettingsData}
 use Rattle.tcmu_model.specs.declared.state.CommandState.TheVariants.{Parked}
 use Rattle.tcmu_model.specs.Device.{Unfinished, has_state}
-use Rattle.tcmu_model.specs.Sound.{Every}
+use Rattle.tcmu_types.specs.Lists.{Every}
 use Rattle.tcmu_model.specs.BlockLists.{Taken, list_of}
-use Rattle.tcmu_model.specs.Picture.{command_iovs}
-use Rattle.tcmu_model.specs.Sides.{GivenJob, InHand, JobState, PendingRow}
-use Rattle.tcmu_model.specs.Represents.{AreGiven, AreOut, IsJobOf, id_of}
+use Rattle.region_model.specs.Picture.{command_iovs}
+use Rattle.region_model.specs.Sides.{GivenJob, InHand, JobState, PendingRow}
+use Rattle.region_model.specs.Represents.{AreGiven, AreOut, IsJobOf, id_of}
 use Rattle.ring_laws.proofs.Matched.{match_left}
 
 -- rows and lists give the command the same id and the same blocks

@@ -3,11 +3,11 @@ use Rattle.std.proofs.Common.{◌≡◌, ◌≢◌, ℕ, ◌+◌, ◌-◌, ◌*�
 use Rattle.std.proofs.lemmas.Bool.{eqb-false, cases_lt, or_parts}
 use Rattle.std.proofs.lemmas.List.{take_at, take_all, take-append-drop, drop_all, nil_from_length}
 use Rattle.std.proofs.lemmas.Option.{slice_get_within}
-use Rattle.tcmu_model.specs.Events.{is_among}
-use Rattle.tcmu_model.specs.Sound.{Every, Differ}
-use Rattle.tcmu_model.specs.Layout.{zeros}
-use Rattle.tcmu_model.specs.Regions.{home}
-use Rattle.tcmu_model.specs.Areas.{block_bytes, bytes_along, over, written_along, IsHome}
+use Rattle.tcmu_types.specs.Numbers.{is_among, Differ}
+use Rattle.tcmu_types.specs.Lists.{Every}
+use Rattle.tcmu_types.specs.ByteFields.{zeros}
+use Rattle.region_model.specs.Regions.{home}
+use Rattle.region_model.specs.Areas.{block_bytes, bytes_along, over, written_along, IsHome}
 use Rattle.ring_laws.proofs.Layouts.{take-past}
 use Rattle.tcmu_types.proofs.Places.{get_append_left}
 

@@ -6,17 +6,18 @@ use Rattle.std.proofs.lemmas.Bool.{cases_Bool, false≢true, ne_eqb, eq-eqb}
 use Rattle.std.proofs.lemmas.List.{map-append}
 use Rattle.tcmu_types.specs.Data.{CommandData, ReplyData}
 use Rattle.tcmu_model.specs.declared.state.CommandState.TheVariants.{Waiting, Out}
-use Rattle.tcmu_model.specs.Lists.{first_of, with_first}
+use Rattle.tcmu_types.specs.Lists.{first_of, with_first, Every}
 use Rattle.tcmu_model.specs.RingState.{RingState, Item, Laid, is_pad, serial_in, serials_in, next_place, published_commands}
 use Rattle.tcmu_model.specs.RingState as ring
 use Rattle.tcmu_model.specs.Device.{Unfinished, DeviceState, has_serial, has_state, is_at}
-use Rattle.tcmu_model.specs.Events.{is_among, next_item, in_state, turned, answered}
-use Rattle.tcmu_model.specs.Sound.{Every, Rise, IsLaid, IsSound, dispatched_serials, is_right, state_fits}
+use Rattle.tcmu_model.specs.Events.{next_item, in_state, turned, answered}
+use Rattle.tcmu_types.specs.Numbers.{is_among, Rise}
+use Rattle.tcmu_model.specs.Sound.{IsLaid, IsSound, dispatched_serials, is_right, state_fits}
 use Rattle.tcmu_model.proofs.Basics.{laid_rise, rows_rise, serials_split}
-use Rattle.tcmu_model.proofs.Counts.{state_is}
-use Rattle.tcmu_model.proofs.Everies.{every-weaker, every-both, every-back, every-mapped}
+use Rattle.tcmu_model.proofs.CommandStates.{state_is}
+use Rattle.tcmu_types.proofs.Everies.{every-weaker, every-both, every-back, every-mapped}
 use Rattle.tcmu_model.proofs.Facts.{waiting_rows, waiting_undispatched}
-use Rattle.tcmu_model.proofs.Rises.{rise_seam, rise_within, not_among}
+use Rattle.tcmu_types.proofs.Rises.{rise_seam, rise_within, not_among}
 use Rattle.tcmu_model.proofs.Rows.{undispatched_waits}
 use Rattle.ring_laws.proofs.Places.{get-dropped}
 

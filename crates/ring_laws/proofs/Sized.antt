@@ -6,35 +6,36 @@ use Rattle.std.proofs.lemmas.Bool.{cases_Bool, cases_lt}
 use Rattle.tcmu_types.specs.Data.{SettingsData}
 use Rattle.tcmu_types.specs.declared.iovec.Iov.{Iov}
 use Rattle.tcmu_types.specs.declared.dump.ItemKind.TheVariants as kind
-use Rattle.tcmu_model.specs.declared.mailbox.Mailbox.{Mailbox}
-use Rattle.tcmu_model.specs.declared.mailbox.MailboxFault.{MailboxFault}
-use Rattle.tcmu_model.specs.declared.entry.EntryRef.{EntryRef}
-use Rattle.tcmu_model.specs.declared.entry.EntryRef.TheVariants as entry
-use Rattle.tcmu_model.specs.declared.entry.EntryFault.{EntryFault}
+use Rattle.region_model.specs.declared.mailbox.Mailbox.{Mailbox}
+use Rattle.region_model.specs.declared.mailbox.MailboxFault.{MailboxFault}
+use Rattle.region_model.specs.declared.entry.EntryRef.{EntryRef}
+use Rattle.region_model.specs.declared.entry.EntryRef.TheVariants as entry
+use Rattle.region_model.specs.declared.entry.EntryFault.{EntryFault}
 use Rattle.tcmu_model.specs.declared.state.CommandState.TheVariants as state
-use Rattle.tcmu_model.specs.Lists.{above_all, with_first, without_first}
+use Rattle.tcmu_types.specs.Lists.{with_first, without_first, Every}
+use Rattle.tcmu_types.specs.Numbers.{above_all}
 use Rattle.tcmu_model.specs.Lengths.{block_size}
 use Rattle.tcmu_model.specs.Device.{DeviceState, Unfinished, has_state}
 use Rattle.tcmu_model.specs.Events.{is_in_hand}
-use Rattle.tcmu_model.specs.Sound.{Every}
 use Rattle.tcmu_model.specs.BlockLists.{Taken}
-use Rattle.tcmu_model.specs.Layout.{put, ring_start, zeros}
-use Rattle.tcmu_model.specs.Iovecs.{scattered}
-use Rattle.tcmu_model.specs.EntryReading.{entry_read}
-use Rattle.tcmu_model.specs.Regions.{AreSized, HaveSize, RegionState, can_lend, home, named_by, opening_region, overlaid, blocks_over, wrote, copied_in, given_back, put_where, returned, size_of, without}
-use Rattle.tcmu_model.specs.Areas.{over, written_along}
-use Rattle.tcmu_model.specs.Sides.{Carried, Copied, GivenJob, InHand, JobState, Moved, Parked, PendingRow, TargetState, UserState}
-use Rattle.tcmu_model.specs.Represents.{AreGiven, AreOut, IsJobOf, JobsStand, is_out}
-use Rattle.tcmu_model.specs.TargetSteps.{blocks_held}
-use Rattle.tcmu_model.specs.TargetCleans.{region_cleaned, region_reset, target_cleaned}
-use Rattle.tcmu_model.specs.UserSteps.{Placing, is_open_job, lie_in_area, moving, placed_at, placed_front, placed_one, placing_by, region_abandoned, region_published, user_mailbox, user_responded, with_job_back, with_jobs, with_parked, with_parked_back, with_payload}
-use Rattle.tcmu_model.specs.UserNext.{Nexted, BadEntry, command_next, iovs_in, most_entries, next_of, next_within, nexted, note_next, region_lent, tmr_ids_in, with_passed, with_unknown}
-use Rattle.tcmu_model.proofs.Everies.{every-with_first}
-use Rattle.tcmu_model.proofs.Written.{length-put, length-zeros, put-nothing}
+use Rattle.region_model.specs.Layout.{ring_start}
+use Rattle.tcmu_types.specs.ByteFields.{put, zeros}
+use Rattle.region_model.specs.Iovecs.{scattered}
+use Rattle.region_model.specs.EntryReading.{entry_read}
+use Rattle.region_model.specs.Regions.{AreSized, HaveSize, RegionState, can_lend, home, named_by, opening_region, overlaid, blocks_over, wrote, copied_in, given_back, put_where, returned, size_of, without}
+use Rattle.region_model.specs.Areas.{over, written_along}
+use Rattle.region_model.specs.Sides.{Carried, Copied, GivenJob, InHand, JobState, Moved, Parked, PendingRow, TargetState, UserState}
+use Rattle.region_model.specs.Represents.{AreGiven, AreOut, IsJobOf, JobsStand, is_out}
+use Rattle.region_model.specs.TargetSteps.{blocks_held}
+use Rattle.region_model.specs.TargetCleans.{region_cleaned, region_reset, target_cleaned}
+use Rattle.region_model.specs.UserSteps.{Placing, is_open_job, lie_in_area, moving, placed_at, placed_front, placed_one, placing_by, region_abandoned, region_published, user_mailbox, user_responded, with_job_back, with_jobs, with_parked, with_parked_back, with_payload}
+use Rattle.region_model.specs.UserNext.{Nexted, BadEntry, command_next, iovs_in, most_entries, next_of, next_within, nexted, note_next, region_lent, tmr_ids_in, with_passed, with_unknown}
+use Rattle.tcmu_types.proofs.Everies.{every-with_first}
+use Rattle.tcmu_types.proofs.ByteFields.{length-put, length-zeros, put-nothing}
 use Rattle.ring_laws.specs.Restarted.{region_restarted, region_with_hand}
 use Rattle.ring_laws.specs.Sizes.{IsSized}
 use Rattle.ring_laws.proofs.AnswerData.{sizes-scattered}
-use Rattle.tcmu_model.proofs.Areas.{sized-take}
+use Rattle.region_model.proofs.Areas.{sized-take}
 
 -- ==== bytes written along blocks, and an area that grows
 

@@ -1,27 +1,25 @@
 -- A submit that queues a command.
 use Rattle.std.proofs.Common.{◌≡◌, ℕ, ◌+◌, ◌*◌, ◌/◌, ◌≤◌, ◌<◌, ◌==◌, ◌&&◌, true, false, List, length, map, refl, sym, ap, arith, ⊎_elim, eqb, ltb}
-use Rattle.std.proofs.lemmas.Bool.{cases_Bool, ltb-false}
+use Rattle.std.proofs.lemmas.Bool.{cases_Bool, ltb-false, leb-true, and_parts}
 use Rattle.tcmu_types.specs.Data.{CommandData}
 use Rattle.tcmu_model.specs.Lengths.{block_size}
-use Rattle.tcmu_model.specs.RingState.{RingState, Item, Laid, lengths, head, used, free, need, pads, with_item, commands_in, is_command}
+use Rattle.tcmu_model.specs.RingState.{RingState, Item, Laid, lengths, head, used, free, need, pads, with_item, commands_in, is_command, serials_in}
 use Rattle.tcmu_model.specs.RingState as ring
 use Rattle.tcmu_model.specs.Device.{DeviceState}
 use Rattle.tcmu_model.specs.BlockLists.{Taken, with_taken}
-use Rattle.tcmu_model.specs.Sides.{InHand, Recorded, TargetState, UserState}
-use Rattle.tcmu_model.specs.Represents.{RingStands, TargetKeeps, IsId, IdsStand}
-use Rattle.tcmu_model.specs.TargetSteps.{region_laid, target_laid}
-use Rattle.std.proofs.lemmas.Bool.{leb-true, and_parts}
+use Rattle.region_model.specs.Sides.{InHand, Recorded, TargetState, UserState}
+use Rattle.region_model.specs.Represents.{RingStands, TargetKeeps, IsId, IdsStand, BlocksStand, JobsStand, NotesStand, UserKeeps}
+use Rattle.region_model.specs.TargetSteps.{region_laid, target_laid, region_submitted, target_submitted}
 use Rattle.tcmu_types.specs.declared.answer.Submit.TheVariants as submit
-use Rattle.tcmu_model.specs.RingState.{serials_in}
-use Rattle.tcmu_model.specs.Events.{is_among, with_command, after_submit, submit_answer, queued_or_full, queued_or_delayed, fits_ring, fits_blocks, entry_length_in, blocks_in, free_blocks, held_blocks}
-use Rattle.tcmu_model.specs.Regions.{RegionState, AreSized}
-use Rattle.tcmu_model.specs.Sound.{IsSound, Every}
+use Rattle.tcmu_model.specs.Events.{with_command, after_submit, submit_answer, queued_or_full, queued_or_delayed, fits_ring, fits_blocks, entry_length_in, blocks_in, free_blocks, held_blocks}
+use Rattle.tcmu_types.specs.Numbers.{is_among}
+use Rattle.region_model.specs.Regions.{RegionState, AreSized}
+use Rattle.tcmu_model.specs.Sound.{IsSound}
+use Rattle.tcmu_types.specs.Lists.{Every}
 use Rattle.tcmu_model.proofs.Basics.{laid_rise}
-use Rattle.tcmu_model.proofs.Rises.{rise_within}
-use Rattle.tcmu_model.proofs.Everies.{every-weaker}
+use Rattle.tcmu_types.proofs.Rises.{rise_within}
+use Rattle.tcmu_types.proofs.Everies.{every-weaker}
 use Rattle.tcmu_model.specs.Owned.{ListsSound, HasRoom}
-use Rattle.tcmu_model.specs.Represents.{BlocksStand, JobsStand, NotesStand, UserKeeps}
-use Rattle.tcmu_model.specs.TargetSteps.{region_submitted, target_submitted}
 use Rattle.ring_laws.proofs.RingLaid.{stands-by}
 use Rattle.ring_laws.proofs.LaidBlocks.{blocks_stand_laid}
 use Rattle.ring_laws.proofs.LaidLists.{lists_sound_laid}

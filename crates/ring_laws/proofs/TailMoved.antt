@@ -12,15 +12,16 @@ use Rattle.tcmu_model.specs.Device.{DeviceState}
 use Rattle.tcmu_model.specs.Events.{publishable, publish_answer, after_publish}
 use Rattle.tcmu_model.specs.Sound.{IsSound}
 use Rattle.tcmu_model.specs.BlockLists.{Taken}
-use Rattle.tcmu_model.specs.Layout.{le, put, zeros, ring_start, data_start, tail_place, mailbox_bytes, device_mailbox}
-use Rattle.tcmu_model.specs.Regions.{RegionState}
-use Rattle.tcmu_model.proofs.Written.{length-le, length-put}
+use Rattle.region_model.specs.Layout.{ring_start, data_start, tail_place, mailbox_bytes, device_mailbox}
+use Rattle.tcmu_types.specs.ByteFields.{le, put, zeros}
+use Rattle.region_model.specs.Regions.{RegionState}
+use Rattle.tcmu_types.proofs.ByteFields.{length-le, length-put}
 use Rattle.tcmu_model.proofs.Facts.{publishable_fits}
-use Rattle.tcmu_model.specs.Picture.{place_of, tail}
-use Rattle.tcmu_model.specs.Sides.{Recorded, PendingRow, TargetState, UserState, InHand}
-use Rattle.tcmu_model.specs.Represents.{RingStands, IdsStand, NotesStand, BlocksStand, JobsStand, TargetKeeps, UserKeeps, recorded, entry_at, id_at, ids_in, NoteStands}
+use Rattle.region_model.specs.Picture.{place_of, tail}
+use Rattle.region_model.specs.Sides.{Recorded, PendingRow, TargetState, UserState, InHand}
+use Rattle.region_model.specs.Represents.{RingStands, IdsStand, NotesStand, BlocksStand, JobsStand, TargetKeeps, UserKeeps, recorded, entry_at, id_at, ids_in, NoteStands}
 use Rattle.tcmu_model.specs.Owned.{ListsSound}
-use Rattle.tcmu_model.specs.UserSteps.{is_cmd, movable, moving, moving_items, user_publish_answer, user_published, region_published}
+use Rattle.region_model.specs.UserSteps.{is_cmd, movable, moving, moving_items, user_publish_answer, user_published, region_published}
 use Rattle.ring_laws.proofs.Bytes.{part-written_behind}
 use Rattle.ring_laws.proofs.Layouts.{take-written_inside, add-mod}
 use Rattle.ring_laws.proofs.RingLaid.{stands-by}

@@ -9,17 +9,16 @@ use Rattle.tcmu_types.specs.Data.{CommandData, SettingsData}
 use Rattle.tcmu_model.specs.Lengths.{blocks_of, entry_length}
 use Rattle.tcmu_model.specs.RingState.{RingState, Item, Laid, lengths, head, used, free, need, pads, with_item, commands_in, is_command}
 use Rattle.tcmu_model.specs.RingState as ring
-use Rattle.tcmu_model.specs.Device.{Unfinished, DeviceState}
+use Rattle.tcmu_model.specs.Device.{Unfinished, DeviceState, Delayed}
 use Rattle.tcmu_model.specs.BlockLists.{Taken, list_of, held_by}
-use Rattle.tcmu_model.specs.Sides.{TargetState}
-use Rattle.tcmu_model.specs.Represents.{RingStands, TargetKeeps}
-use Rattle.tcmu_model.specs.TargetSteps.{used_in, free_in, need_in, blocks_held, length_in}
+use Rattle.region_model.specs.Sides.{TargetState}
+use Rattle.region_model.specs.Represents.{RingStands, TargetKeeps}
+use Rattle.region_model.specs.TargetSteps.{used_in, free_in, need_in, blocks_held, length_in, target_submit_answer, submit_or_full, submit_or_delay, target_enter_answer, enter_or_full, blocks_free, blocks_wanted, fits_in, target_block_answer}
 use Rattle.tcmu_types.specs.declared.answer.Submit.{Submit}
-use Rattle.tcmu_model.specs.Device.{Delayed}
 use Rattle.tcmu_model.specs.Events.{submit_answer, queued_or_full, queued_or_delayed, enter_answer, entered_or_full, entry_length_in, blocks_in, free_blocks, fits_ring, fits_blocks, block_answer}
-use Rattle.tcmu_model.specs.Sound.{IsSound, Every}
+use Rattle.tcmu_model.specs.Sound.{IsSound}
+use Rattle.tcmu_types.specs.Lists.{Every}
 use Rattle.tcmu_model.specs.Owned.{ListsSound}
-use Rattle.tcmu_model.specs.TargetSteps.{target_submit_answer, submit_or_full, submit_or_delay, target_enter_answer, enter_or_full, blocks_free, blocks_wanted, fits_in, target_block_answer}
 use Rattle.ring_laws.proofs.Agree.{Agrees, agrees, held-same}
 
 pub held_length : (pages : ℕ) (lists : List Taken) (us : List Unfinished) → Every (λ (u : Unfinished). length (list_of lists u.serial) ≡ blocks_of pages u.command) us → length (held_by lists us) ≡ sum_by (λ (u : Unfinished). blocks_of pages u.command) us

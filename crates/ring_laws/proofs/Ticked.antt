@@ -2,22 +2,22 @@
 use Rattle.std.proofs.Common.{◌≡◌, ℕ, ◌<◌, Bool, true, false, not, cond, List, [], ◌∷◌, ◌++◌, length, take, drop, map, filter, refl, sym, ap, ◌∙◌, Option, Some, None, slice_get, subst, ⊎_elim, eqb}
 use Rattle.std.proofs.lemmas.Bool.{cases_Bool}
 use Rattle.tcmu_types.specs.Data.{SettingsData, DoneData}
-use Rattle.tcmu_model.specs.Lists.{first_of}
+use Rattle.tcmu_types.specs.Lists.{first_of, Every}
 use Rattle.tcmu_model.specs.Lengths.{blocks_of, block_size}
 use Rattle.tcmu_model.specs.RingState.{Item, Laid, commands_in, serials_in}
 use Rattle.tcmu_model.specs.RingState as ring
 use Rattle.tcmu_model.specs.Device.{Unfinished, Delayed, DeviceState, has_serial, has_state}
 use Rattle.tcmu_model.specs.declared.state.CommandState.TheVariants.{Parked}
-use Rattle.tcmu_model.specs.Events.{is_among, is_in_hand, is_due, expire, later, has_left, departure, expiry, tick_completions, tick_answer, after_tick, after_block}
-use Rattle.tcmu_model.specs.Sound.{Every, Differ}
+use Rattle.tcmu_model.specs.Events.{is_in_hand, is_due, expire, later, has_left, departure, expiry, tick_completions, tick_answer, after_tick, after_block}
+use Rattle.tcmu_types.specs.Numbers.{is_among, Differ}
 use Rattle.tcmu_model.specs.BlockLists.{Taken, list_of, held_by}
-use Rattle.tcmu_model.specs.Pending.{PendingData}
-use Rattle.tcmu_model.proofs.Everies.{every-map}
-use Rattle.tcmu_model.specs.Picture.{place_of, item_bytes, entry_of, with_answer, request_of, ids_named}
-use Rattle.tcmu_model.specs.Regions.{RegionState}
-use Rattle.tcmu_model.specs.Sides.{Recorded, PendingRow, GivenJob, JobState, InHand, TargetState, UserState}
-use Rattle.tcmu_model.specs.Represents.{RingStands, IdsStand, NotesStand, BlocksOf, BlocksStand, JobsStand, AreGiven, AreOut, IsGiven, IsOut, is_out, IsJobOf, IsId, id_of, row_has, has_id, serial_with, TargetKeeps, UserKeeps, entry_at, id_in, ids_in, pending_of}
-use Rattle.tcmu_model.specs.TargetSteps.{is_due_at, expired_at, checked, ticked_log, target_tick_answer, target_ticked, target_blocked}
+use Rattle.region_model.specs.Pending.{PendingData}
+use Rattle.tcmu_types.proofs.Everies.{every-map}
+use Rattle.region_model.specs.Picture.{place_of, item_bytes, entry_of, with_answer, request_of, ids_named}
+use Rattle.region_model.specs.Regions.{RegionState}
+use Rattle.region_model.specs.Sides.{Recorded, PendingRow, GivenJob, JobState, InHand, TargetState, UserState}
+use Rattle.region_model.specs.Represents.{RingStands, IdsStand, NotesStand, BlocksOf, BlocksStand, JobsStand, AreGiven, AreOut, IsGiven, IsOut, is_out, IsJobOf, IsId, id_of, row_has, has_id, serial_with, TargetKeeps, UserKeeps, entry_at, id_in, ids_in, pending_of}
+use Rattle.region_model.specs.TargetSteps.{is_due_at, expired_at, checked, ticked_log, target_tick_answer, target_ticked, target_blocked}
 use Rattle.tcmu_model.specs.Owned.{ListsSound}
 use Rattle.ring_laws.proofs.NoteIds.{note_id_same, note_stands_by}
 use Rattle.ring_laws.proofs.Matched.{match_left}

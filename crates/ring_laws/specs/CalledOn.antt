@@ -1,9 +1,9 @@
 -- The target's calls on one region: between two of them the user side writes any bytes and lends any blocks, and the target alone moves the area's end.
 use Rattle.std.specs.Prelude.{◌≡◌, List, [], ◌∷◌, length}
-use Rattle.tcmu_model.specs.Regions.{RegionState}
-use Rattle.tcmu_model.specs.Sides.{TargetState}
-use Rattle.tcmu_model.specs.TargetSteps.{target_submit_answer, region_submitted, target_enter_answer, region_entered, target_tmr_answer, region_noted}
-use Rattle.tcmu_model.specs.TargetCleans.{region_cleaned, region_reset}
+use Rattle.region_model.specs.Regions.{RegionState}
+use Rattle.region_model.specs.Sides.{TargetState}
+use Rattle.region_model.specs.TargetSteps.{target_submit_answer, region_submitted, target_enter_answer, region_entered, target_tmr_answer, region_noted}
+use Rattle.region_model.specs.TargetCleans.{region_cleaned, region_reset}
 use Rattle.ring_laws.specs.Calls.{TargetCall, Submits, Enters, Notes, Ticks, Blocks, Cleans, Resets, CallMade, CanCall, target_called}
 
 -- the area has as many blocks, of the same size, whatever they and the bytes before them hold

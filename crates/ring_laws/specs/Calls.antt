@@ -7,20 +7,20 @@ use Rattle.tcmu_types.specs.declared.answer.Submit.{Submit}
 use Rattle.tcmu_types.specs.declared.answer.Submit.TheVariants as submit
 use Rattle.tcmu_types.specs.declared.answer.Enter.TheVariants as enter
 use Rattle.tcmu_types.specs.declared.dump.ItemKind.TheVariants as kind
-use Rattle.tcmu_model.specs.Lists.{first_of}
-use Rattle.tcmu_model.specs.Layout.{ring_start}
-use Rattle.tcmu_model.specs.EntryReading.{response_at}
+use Rattle.tcmu_types.specs.Lists.{first_of, Every}
+use Rattle.region_model.specs.Layout.{ring_start}
+use Rattle.region_model.specs.EntryReading.{response_at}
 use Rattle.tcmu_model.specs.Lengths.{blocks_of}
 use Rattle.tcmu_model.specs.Device.{Delayed}
-use Rattle.tcmu_model.specs.Events.{is_among}
-use Rattle.tcmu_model.specs.Sound.{Every, Differ, Rise, delayed_serials, is_delayed_at, times_logged}
-use Rattle.tcmu_model.specs.Regions.{RegionState, size_of}
-use Rattle.tcmu_model.specs.Pending.{PendingData}
-use Rattle.tcmu_model.specs.Areas.{bytes_along}
-use Rattle.tcmu_model.specs.Sides.{PendingRow, Recorded, TargetState}
-use Rattle.tcmu_model.specs.Represents.{IsId, has_id, row_has}
-use Rattle.tcmu_model.specs.TargetSteps.{blocks_held, target_submit_answer, target_submitted, target_enter_answer, target_entered, target_tmr_answer, target_noted, target_ticked, target_blocked}
-use Rattle.tcmu_model.specs.TargetCleans.{target_cleaned, region_cleaned, reset_logs, target_reset}
+use Rattle.tcmu_types.specs.Numbers.{is_among, Differ, Rise}
+use Rattle.tcmu_model.specs.Sound.{delayed_serials, is_delayed_at, times_logged}
+use Rattle.region_model.specs.Regions.{RegionState, size_of}
+use Rattle.region_model.specs.Pending.{PendingData}
+use Rattle.region_model.specs.Areas.{bytes_along}
+use Rattle.region_model.specs.Sides.{PendingRow, Recorded, TargetState}
+use Rattle.region_model.specs.Represents.{IsId, has_id, row_has}
+use Rattle.region_model.specs.TargetSteps.{blocks_held, target_submit_answer, target_submitted, target_enter_answer, target_entered, target_tmr_answer, target_noted, target_ticked, target_blocked}
+use Rattle.region_model.specs.TargetCleans.{target_cleaned, region_cleaned, reset_logs, target_reset}
 
 -- ==== calls
 

@@ -1,14 +1,15 @@
 -- What the target reads of an answered entry when it cleans, and what a clean rests on.
 use Rattle.std.specs.Prelude.{◌≡◌, ℕ, List, Option, unwrap_or}
 use Rattle.tcmu_types.specs.Data.{ReplyData}
-use Rattle.tcmu_model.specs.declared.entry.Response.{Response}
+use Rattle.region_model.specs.declared.entry.Response.{Response}
 use Rattle.tcmu_model.specs.Device.{DeviceState}
 use Rattle.tcmu_model.specs.Sound.{IsSound}
 use Rattle.tcmu_model.specs.BlockLists.{Taken}
-use Rattle.tcmu_model.specs.Layout.{padded, sense_buffer, length_flag}
-use Rattle.tcmu_model.specs.Regions.{RegionState}
-use Rattle.tcmu_model.specs.Sides.{TargetState}
-use Rattle.tcmu_model.specs.Represents.{RingStands, IdsStand, BlocksStand, TargetKeeps}
+use Rattle.region_model.specs.Layout.{sense_buffer, length_flag}
+use Rattle.tcmu_types.specs.ByteFields.{padded}
+use Rattle.region_model.specs.Regions.{RegionState}
+use Rattle.region_model.specs.Sides.{TargetState}
+use Rattle.region_model.specs.Represents.{RingStands, IdsStand, BlocksStand, TargetKeeps}
 use Rattle.tcmu_model.specs.Owned.{ListsSound}
 
 -- the response of a reply, with the id in its entry and the length that it tells

@@ -6,10 +6,10 @@ use Rattle.tcmu_model.specs.Device.{Unfinished, DeviceState}
 use Rattle.tcmu_model.specs.Events.{after_dispatch, command_out}
 use Rattle.tcmu_model.specs.Sound.{IsSound}
 use Rattle.tcmu_model.specs.BlockLists.{Taken}
-use Rattle.tcmu_model.specs.Regions.{RegionState}
-use Rattle.tcmu_model.specs.Sides.{PendingRow, TargetState, UserState, InHand}
-use Rattle.tcmu_model.specs.Represents.{RingStands, IdsStand, NotesStand, BlocksStand, JobsStand, UserKeeps, IsJobOf, id_of}
-use Rattle.tcmu_model.specs.UserNext.{NextAnswer, Job, Note, Nothing}
+use Rattle.region_model.specs.Regions.{RegionState}
+use Rattle.region_model.specs.Sides.{PendingRow, TargetState, UserState, InHand}
+use Rattle.region_model.specs.Represents.{RingStands, IdsStand, NotesStand, BlocksStand, JobsStand, UserKeeps, IsJobOf, id_of}
+use Rattle.region_model.specs.UserNext.{NextAnswer, Job, Note, Nothing}
 use Rattle.tcmu_model.specs.Owned.{ListsSound}
 
 -- the user side of an attached device, with its region and the jobs in hand: of the points, those that next reads

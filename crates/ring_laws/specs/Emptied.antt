@@ -2,9 +2,9 @@
 use Rattle.std.specs.Prelude.{ℕ, ◌==◌, List, if◌then◌else◌}
 use Rattle.tcmu_types.specs.declared.answer.Reset.{Reset}
 use Rattle.tcmu_types.specs.declared.answer.Reset.TheVariants as reset
-use Rattle.tcmu_model.specs.Regions.{RegionState}
-use Rattle.tcmu_model.specs.Sides.{InHand, TargetState, UserState}
-use Rattle.tcmu_model.specs.TargetCleans.{target_reset_answer}
+use Rattle.region_model.specs.Regions.{RegionState}
+use Rattle.region_model.specs.Sides.{InHand, TargetState, UserState}
+use Rattle.region_model.specs.TargetCleans.{target_reset_answer}
 use Rattle.ring_laws.specs.Restarted.{count_jobs}
 
 -- only where the target is blocked, and no job is in hand or parked

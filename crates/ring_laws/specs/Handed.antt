@@ -1,8 +1,8 @@
 -- The jobs in hand, by what is still owed of each.
 use Rattle.std.specs.Prelude.{ℕ, ◌&&◌, not, Bool}
 use Rattle.std.specs.Option.{is_some}
-use Rattle.tcmu_model.specs.Sides.{InHand}
-use Rattle.tcmu_model.specs.HandSteps.{hand_has}
+use Rattle.region_model.specs.Sides.{InHand}
+use Rattle.region_model.specs.HandSteps.{hand_has}
 
 -- the job of a serial, without its reply
 abbrev pub is_asked : ℕ → InHand → Bool

@@ -3,18 +3,19 @@ use Rattle.std.specs.Prelude.{◌≡◌, ℕ, ◌+◌, ◌%◌, ◌≤◌, ◌<�
 use Rattle.tcmu_model.specs.declared.state.CommandState.TheVariants.{Handled, Parked, Placed}
 use Rattle.tcmu_types.specs.Rules.{IsCommand}
 use Rattle.tcmu_model.specs.Lengths.{blocks_of}
-use Rattle.tcmu_model.specs.Lists.{first_of}
+use Rattle.tcmu_types.specs.Lists.{first_of, Every}
 use Rattle.tcmu_model.specs.RingState.{RingState, Item, lengths, used, is_command, published_commands, dispatched_commands}
 use Rattle.tcmu_model.specs.Device.{Unfinished, DeviceState, is_at}
 use Rattle.tcmu_model.specs.Events.{turned}
-use Rattle.tcmu_model.specs.Sound.{Every, Differ, ReplyFits}
+use Rattle.tcmu_model.specs.Sound.{ReplyFits}
+use Rattle.tcmu_types.specs.Numbers.{Differ}
 use Rattle.tcmu_model.specs.BlockLists.{Taken, list_of, held_by}
-use Rattle.tcmu_model.specs.Regions.{RegionState}
-use Rattle.tcmu_model.specs.Picture.{place_of}
-use Rattle.tcmu_model.specs.Sides.{PendingRow, GivenJob, UserState}
-use Rattle.tcmu_model.specs.Sides as sides
-use Rattle.tcmu_model.specs.Represents.{IsJobOf, command_places}
-use Rattle.tcmu_model.specs.UserSteps.{Placing, placed_one}
+use Rattle.region_model.specs.Regions.{RegionState}
+use Rattle.region_model.specs.Picture.{place_of}
+use Rattle.region_model.specs.Sides.{PendingRow, GivenJob, UserState}
+use Rattle.region_model.specs.Sides as sides
+use Rattle.region_model.specs.Represents.{IsJobOf, command_places}
+use Rattle.region_model.specs.UserSteps.{Placing, placed_one}
 
 -- the ring holds its items whole, and keeps a byte free
 pub record HoldsItems (r : RingState) : Type 0 where

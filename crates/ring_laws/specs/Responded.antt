@@ -2,13 +2,14 @@
 use Rattle.std.specs.Prelude.{◌≡◌, ℕ, List, length, take, drop, map, Some}
 use Rattle.std.specs.List.{filter}
 use Rattle.tcmu_model.specs.declared.state.CommandState.TheVariants.{Handled}
-use Rattle.tcmu_model.specs.Lists.{first_of}
+use Rattle.tcmu_types.specs.Lists.{first_of}
 use Rattle.tcmu_model.specs.Device.{Unfinished, DeviceState, is_at}
 use Rattle.tcmu_model.specs.Events.{is_in_hand}
-use Rattle.tcmu_model.specs.Sound.{IsSound, Differ}
+use Rattle.tcmu_model.specs.Sound.{IsSound}
+use Rattle.tcmu_types.specs.Numbers.{Differ}
 use Rattle.tcmu_model.specs.BlockLists.{Taken}
-use Rattle.tcmu_model.specs.Sides.{Parked, PendingRow, UserState}
-use Rattle.tcmu_model.specs.Represents.{AreGiven, IsJobOf, command_places}
+use Rattle.region_model.specs.Sides.{Parked, PendingRow, UserState}
+use Rattle.region_model.specs.Represents.{AreGiven, IsJobOf, command_places}
 use Rattle.tcmu_model.specs.Owned.{ListsSound}
 
 -- a handled command, whose job comes with its reply to the user side, which knows its job and those of the others

@@ -2,9 +2,9 @@
 use Rattle.std.specs.Prelude.{ℕ, ◌+◌, ◌-◌, Bool, List, [], ◌∷◌, length, if◌then◌else◌}
 use Rattle.std.specs.List.{count_by}
 use Rattle.std.specs.Option.{is_some}
-use Rattle.tcmu_model.specs.Regions.{RegionState}
-use Rattle.tcmu_model.specs.Sides.{GivenJob, InHand, UserState}
-use Rattle.tcmu_model.specs.UserSteps.{region_abandoned, with_job_back}
+use Rattle.region_model.specs.Regions.{RegionState}
+use Rattle.region_model.specs.Sides.{GivenJob, InHand, UserState}
+use Rattle.region_model.specs.UserSteps.{region_abandoned, with_job_back}
 
 -- the blocks of all jobs in hand go back
 abbrev pub region_with_hand : RegionState → List InHand → RegionState

@@ -1,10 +1,10 @@
 -- What the target's own record of the ring keeps over any bytes.
 use Rattle.std.specs.Prelude.{◌≡◌, ℕ, ◌+◌, ◌%◌, ◌<◌, ◌≤◌, true, length}
 use Rattle.std.specs.List.{count_by}
-use Rattle.tcmu_model.specs.Sound.{Every}
-use Rattle.tcmu_model.specs.Sides.{TargetState}
-use Rattle.tcmu_model.specs.TargetSteps.{used_in}
-use Rattle.tcmu_model.specs.UserSteps.{is_cmd}
+use Rattle.tcmu_types.specs.Lists.{Every}
+use Rattle.region_model.specs.Sides.{TargetState}
+use Rattle.region_model.specs.TargetSteps.{used_in}
+use Rattle.region_model.specs.UserSteps.{is_cmd}
 
 -- a place in a ring, where an entry may begin
 pub record IsPlace (ring at : ℕ) : Type 0 where

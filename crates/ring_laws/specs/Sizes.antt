@@ -1,6 +1,6 @@
 -- The blocks of a region.
 use Rattle.tcmu_model.specs.Lengths.{block_size}
-use Rattle.tcmu_model.specs.Regions.{AreSized, RegionState}
+use Rattle.region_model.specs.Regions.{AreSized, RegionState}
 
 -- each block that is at home has the size of a block
 abbrev pub IsSized : RegionState → Type 0

@@ -1,16 +1,16 @@
 -- What the user side keeps over any bytes that the target left, and which bytes of the region it changes.
 use Rattle.std.specs.Prelude.{◌≡◌, ◌≢◌, ◌⊎◌, ℕ, ◌+◌, ◌-◌, ◌%◌, ◌≤◌, ◌<◌, List, drop, length, slice_get, Option, Some}
 use Rattle.std.specs.List.{count_by, sum_by}
-use Rattle.tcmu_model.specs.Layout.{ring_start, data_start, tail_place}
-use Rattle.tcmu_model.specs.MailboxReading.{IsRingSize}
-use Rattle.tcmu_model.specs.EntryReading.{op_at}
+use Rattle.region_model.specs.Layout.{ring_start, data_start, tail_place}
+use Rattle.region_model.specs.MailboxReading.{IsRingSize}
+use Rattle.region_model.specs.EntryReading.{op_at}
 use Rattle.tcmu_model.specs.Lengths.{block_size}
-use Rattle.tcmu_model.specs.Regions.{HaveSize, RegionState, numbers_of}
-use Rattle.tcmu_model.specs.Sound.{Every}
-use Rattle.tcmu_model.specs.Sides.{JobState, Moved, Parked, UserState}
+use Rattle.region_model.specs.Regions.{HaveSize, RegionState, numbers_of}
+use Rattle.tcmu_types.specs.Lists.{Every}
+use Rattle.region_model.specs.Sides.{JobState, Moved, Parked, UserState}
 use Rattle.ring_laws.specs.RingKept.{IsPlace}
-use Rattle.tcmu_model.specs.UserSteps.{is_cmd}
-use Rattle.tcmu_model.specs.UserNext.{NextAnswer, Job, Note, Nothing, BadMailbox, BadEntry, region_lent}
+use Rattle.region_model.specs.UserSteps.{is_cmd}
+use Rattle.region_model.specs.UserNext.{NextAnswer, Job, Note, Nothing, BadMailbox, BadEntry, region_lent}
 
 -- ==== the user side's own records
 

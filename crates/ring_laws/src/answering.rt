@@ -5,10 +5,10 @@ ghost use Rattle.tcmu_model.specs.Device.{DeviceState};
 ghost use Rattle.tcmu_model.specs.Events.{block_answer, enter_answer, submit_answer};
 ghost use Rattle.tcmu_model.specs.BlockLists.{Taken};
 ghost use Rattle.tcmu_model.specs.Sound.{IsSound};
-ghost use Rattle.tcmu_model.specs.Sides.{TargetState};
-ghost use Rattle.tcmu_model.specs.TargetSteps.{target_block_answer, target_enter_answer, target_submit_answer};
+ghost use Rattle.region_model.specs.Sides.{TargetState};
+ghost use Rattle.region_model.specs.TargetSteps.{target_block_answer, target_enter_answer, target_submit_answer};
 ghost use Rattle.tcmu_model.specs.Owned.{ListsSound};
-ghost use Rattle.tcmu_model.specs.Represents.{RingStands, TargetKeeps};
+ghost use Rattle.region_model.specs.Represents.{RingStands, TargetKeeps};
 
 /// The target answers as the device does: to a command, to the first delayed one that would enter, and to block and unblock. The answers of
 /// other events stand in the laws of those events.

@@ -1,14 +1,14 @@
 //! What the user side keeps, and what it changes of the region, over any bytes that the target left there.
 ghost use Rattle.std.specs.Prelude.{◌≡◌, ◌*◌, ◌+◌, ℕ, length, true, Err, Ok};
 ghost use Rattle.std.specs.List.{count_by, list_any};
-ghost use Rattle.tcmu_model.specs.declared.entry.EntryFault.{EntryFault};
-ghost use Rattle.tcmu_model.specs.declared.mailbox.Mailbox.{Mailbox};
-ghost use Rattle.tcmu_model.specs.declared.mailbox.MailboxFault.{MailboxFault};
-ghost use Rattle.tcmu_model.specs.EntryReading.{entry_read};
-ghost use Rattle.tcmu_model.specs.UserNext.{BadEntry, BadMailbox, Job, Nothing, nexted};
-ghost use Rattle.tcmu_model.specs.Regions.{RegionState, size_of};
-ghost use Rattle.tcmu_model.specs.Sides.{JobState, Parked, UserState};
-ghost use Rattle.tcmu_model.specs.UserSteps.{is_open_job, is_unanswered, lie_in_area, region_published, region_reattached, user_abandoned, user_attached, user_mailbox, user_published, user_responded};
+ghost use Rattle.region_model.specs.declared.entry.EntryFault.{EntryFault};
+ghost use Rattle.region_model.specs.declared.mailbox.Mailbox.{Mailbox};
+ghost use Rattle.region_model.specs.declared.mailbox.MailboxFault.{MailboxFault};
+ghost use Rattle.region_model.specs.EntryReading.{entry_read};
+ghost use Rattle.region_model.specs.UserNext.{BadEntry, BadMailbox, Job, Nothing, nexted};
+ghost use Rattle.region_model.specs.Regions.{RegionState, size_of};
+ghost use Rattle.region_model.specs.Sides.{JobState, Parked, UserState};
+ghost use Rattle.region_model.specs.UserSteps.{is_open_job, is_unanswered, lie_in_area, region_published, region_reattached, user_abandoned, user_attached, user_mailbox, user_published, user_responded};
 ghost use Rattle.ring_laws.specs.CalledOn.{SameSizes};
 ghost use Rattle.ring_laws.specs.Sizes.{IsSized};
 ghost use Rattle.ring_laws.specs.UserKept.{AreWholeJobs, HasPages, HasRing, IsFault, IsWholeJob, OnlyAnswers, OnlySetsBits, OnlyTail, UserCounts, UserSound, UsesEntries, blocks_behind};

@@ -3,13 +3,13 @@ ghost use Rattle.std.specs.Prelude.{◌≡◌, List, Ok};
 ghost use Rattle.tcmu_model.specs.RingState.{head};
 ghost use Rattle.tcmu_model.specs.Device.{DeviceState};
 ghost use Rattle.tcmu_model.specs.BlockLists.{Taken};
-ghost use Rattle.tcmu_model.specs.Layout.{device_mailbox};
-ghost use Rattle.tcmu_model.specs.Regions.{RegionState};
+ghost use Rattle.region_model.specs.Layout.{device_mailbox};
+ghost use Rattle.region_model.specs.Regions.{RegionState};
 ghost use Rattle.tcmu_model.specs.Sound.{IsSound};
-ghost use Rattle.tcmu_model.specs.Picture.{tail};
-ghost use Rattle.tcmu_model.specs.Sides.{Recorded, UserState};
-ghost use Rattle.tcmu_model.specs.Represents.{RingStands};
-ghost use Rattle.tcmu_model.specs.UserSteps.{region_abandoned, region_reattached, user_attached, user_mailbox};
+ghost use Rattle.region_model.specs.Picture.{tail};
+ghost use Rattle.region_model.specs.Sides.{Recorded, UserState};
+ghost use Rattle.region_model.specs.Represents.{RingStands};
+ghost use Rattle.region_model.specs.UserSteps.{region_abandoned, region_reattached, user_attached, user_mailbox};
 ghost use Rattle.ring_laws.specs.Attached.{attached_user};
 
 /// The mailbox reads back as the device's, so no call of the user side finds a bad one. It is attached with the ring, the pages and the

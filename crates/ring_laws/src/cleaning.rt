@@ -5,16 +5,16 @@ ghost use Rattle.tcmu_types.specs.Rules.{IsCommand};
 ghost use Rattle.tcmu_model.specs.declared.state.CommandState.TheVariants.{Placed};
 ghost use Rattle.tcmu_model.specs.Device.{DeviceState, Unfinished};
 ghost use Rattle.tcmu_model.specs.Events.{after_clean, clean_answer, completions};
-ghost use Rattle.tcmu_model.specs.Regions.{RegionState};
+ghost use Rattle.region_model.specs.Regions.{RegionState};
 ghost use Rattle.tcmu_model.specs.Sound.{IsSound, ReplyFits};
 ghost use Rattle.tcmu_model.specs.BlockLists.{Taken, list_of};
-ghost use Rattle.tcmu_model.specs.Layout.{ring_start};
-ghost use Rattle.tcmu_model.specs.EntryReading.{response_at};
-ghost use Rattle.tcmu_model.specs.Picture.{answered_entry, payload_of, told_length};
-ghost use Rattle.tcmu_model.specs.Represents.{BlocksStand, HaveData, IdsStand, JobsStand, NotesStand, RingStands, TargetKeeps, UserKeeps, entry_at, pending_of};
-ghost use Rattle.tcmu_model.specs.TargetCleans.{Logged, completions_read, region_cleaned, target_clean_answer, target_cleaned};
+ghost use Rattle.region_model.specs.Layout.{ring_start};
+ghost use Rattle.region_model.specs.EntryReading.{response_at};
+ghost use Rattle.region_model.specs.Picture.{answered_entry, payload_of, told_length};
+ghost use Rattle.region_model.specs.Represents.{BlocksStand, HaveData, IdsStand, JobsStand, NotesStand, RingStands, TargetKeeps, UserKeeps, entry_at, pending_of};
+ghost use Rattle.region_model.specs.TargetCleans.{Logged, completions_read, region_cleaned, target_clean_answer, target_cleaned};
 ghost use Rattle.ring_laws.specs.Cleaned.{CanClean, response_of};
-ghost use Rattle.tcmu_model.specs.Sides.{InHand, TargetState, UserState};
+ghost use Rattle.region_model.specs.Sides.{InHand, TargetState, UserState};
 ghost use Rattle.tcmu_model.specs.Owned.{ListsSound};
 
 /// The response in an entry is read from its first 112 bytes, and reads as it was written, where its status is a byte and its length a

@@ -5,10 +5,10 @@ ghost use Rattle.tcmu_types.specs.declared.answer.Submit.TheVariants.{Delayed};
 ghost use Rattle.tcmu_model.specs.Device.{DeviceState};
 ghost use Rattle.tcmu_model.specs.Events.{after_submit};
 ghost use Rattle.tcmu_model.specs.BlockLists.{Taken};
-ghost use Rattle.tcmu_model.specs.Regions.{RegionState};
-ghost use Rattle.tcmu_model.specs.Sides.{InHand, PendingRow, Recorded, TargetState, UserState};
-ghost use Rattle.tcmu_model.specs.Represents.{RingStands, IdsStand, NotesStand, BlocksStand, JobsStand, TargetKeeps, UserKeeps};
-ghost use Rattle.tcmu_model.specs.TargetSteps.{region_submitted, target_submitted};
+ghost use Rattle.region_model.specs.Regions.{RegionState};
+ghost use Rattle.region_model.specs.Sides.{InHand, PendingRow, Recorded, TargetState, UserState};
+ghost use Rattle.region_model.specs.Represents.{RingStands, IdsStand, NotesStand, BlocksStand, JobsStand, TargetKeeps, UserKeeps};
+ghost use Rattle.region_model.specs.TargetSteps.{region_submitted, target_submitted};
 ghost use Rattle.tcmu_model.specs.Owned.{ListsSound};
 
 /// A submit that delays its command writes nothing into the region; the target has the command behind those that are delayed, and every

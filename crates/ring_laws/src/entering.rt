@@ -2,14 +2,15 @@
 ghost use Rattle.std.specs.Prelude.{◌≡◌, ℕ, false, List, ◌∷◌, map};
 ghost use Rattle.tcmu_types.specs.declared.answer.Enter.TheVariants.{Entered};
 ghost use Rattle.tcmu_model.specs.Device.{Delayed, DeviceState};
-ghost use Rattle.tcmu_model.specs.Events.{after_enter, enter_answer, is_among};
+ghost use Rattle.tcmu_model.specs.Events.{after_enter, enter_answer};
+ghost use Rattle.tcmu_types.specs.Numbers.{is_among};
 ghost use Rattle.tcmu_model.specs.BlockLists.{Taken, with_taken};
-ghost use Rattle.tcmu_model.specs.Regions.{RegionState};
+ghost use Rattle.region_model.specs.Regions.{RegionState};
 ghost use Rattle.tcmu_model.specs.Sound.{IsSound};
-ghost use Rattle.tcmu_model.specs.Sides.{InHand, TargetState, UserState};
-ghost use Rattle.tcmu_model.specs.TargetSteps.{region_entered, target_entered};
+ghost use Rattle.region_model.specs.Sides.{InHand, TargetState, UserState};
+ghost use Rattle.region_model.specs.TargetSteps.{region_entered, target_entered};
 ghost use Rattle.tcmu_model.specs.Owned.{ListsSound};
-ghost use Rattle.tcmu_model.specs.Represents.{BlocksStand, IdsStand, IsId, JobsStand, NotesStand, RingStands, TargetKeeps, UserKeeps};
+ghost use Rattle.region_model.specs.Represents.{BlocksStand, IdsStand, IsId, JobsStand, NotesStand, RingStands, TargetKeeps, UserKeeps};
 ghost use Rattle.ring_laws.specs.Sizes.{IsSized};
 
 /// The first delayed command enters: the serial of the answer is its own, and every point is kept, as laying does.

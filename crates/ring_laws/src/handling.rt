@@ -4,11 +4,11 @@ ghost use Rattle.tcmu_types.specs.Data.{ReplyData};
 ghost use Rattle.tcmu_model.specs.Device.{Unfinished, DeviceState};
 ghost use Rattle.tcmu_model.specs.Events.{after_handle, command_out};
 ghost use Rattle.tcmu_model.specs.BlockLists.{Taken};
-ghost use Rattle.tcmu_model.specs.Regions.{RegionState};
+ghost use Rattle.region_model.specs.Regions.{RegionState};
 ghost use Rattle.tcmu_model.specs.Sound.{IsSound};
-ghost use Rattle.tcmu_model.specs.Sides.{InHand, PendingRow, Recorded, TargetState, UserState};
-ghost use Rattle.tcmu_model.specs.Represents.{RingStands, IdsStand, NotesStand, BlocksStand, JobsStand, TargetKeeps, UserKeeps};
-ghost use Rattle.tcmu_model.specs.HandSteps.{hand_answered};
+ghost use Rattle.region_model.specs.Sides.{InHand, PendingRow, Recorded, TargetState, UserState};
+ghost use Rattle.region_model.specs.Represents.{RingStands, IdsStand, NotesStand, BlocksStand, JobsStand, TargetKeeps, UserKeeps};
+ghost use Rattle.region_model.specs.HandSteps.{hand_answered};
 ghost use Rattle.tcmu_model.specs.Owned.{ListsSound};
 
 /// A command that is out gets its reply, which stands in no entry yet; its blocks stay lent. The job in hand under its serial has the

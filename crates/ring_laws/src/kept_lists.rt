@@ -2,8 +2,8 @@
 ghost use Rattle.std.specs.Prelude.{ℕ, List, Option};
 ghost use Rattle.tcmu_model.specs.Device.{DeviceState};
 ghost use Rattle.tcmu_model.specs.BlockLists.{Taken, kept_lists};
-ghost use Rattle.tcmu_model.specs.Sides.{InHand, PendingRow, Recorded, TargetState, UserState};
-ghost use Rattle.tcmu_model.specs.Represents.{RingStands, BlocksStand, JobsStand, TargetKeeps};
+ghost use Rattle.region_model.specs.Sides.{InHand, PendingRow, Recorded, TargetState, UserState};
+ghost use Rattle.region_model.specs.Represents.{RingStands, BlocksStand, JobsStand, TargetKeeps};
 ghost use Rattle.tcmu_model.specs.Owned.{ListsSound};
 
 /// No point looks at a list that goes, so what holds with all lists holds with those that an event keeps.

@@ -1,18 +1,19 @@
 //! What laying a command keeps, at a submit or when it enters.
 ghost use Rattle.std.specs.Prelude.{◌≡◌, ◌<◌, ℕ, false, List, map};
 ghost use Rattle.tcmu_types.specs.Data.{CommandData};
-ghost use Rattle.tcmu_model.specs.Areas.{IsHome};
-ghost use Rattle.tcmu_model.specs.Lists.{above_all};
+ghost use Rattle.region_model.specs.Areas.{IsHome};
+ghost use Rattle.tcmu_types.specs.Numbers.{above_all, is_among};
 ghost use Rattle.tcmu_model.specs.RingState.{serials_in};
 ghost use Rattle.tcmu_model.specs.Device.{DeviceState};
-ghost use Rattle.tcmu_model.specs.Events.{is_among, with_command};
+ghost use Rattle.tcmu_model.specs.Events.{with_command};
 ghost use Rattle.tcmu_model.specs.BlockLists.{Taken, with_taken};
-ghost use Rattle.tcmu_model.specs.Regions.{RegionState, grown_to, size_of};
-ghost use Rattle.tcmu_model.specs.Sound.{Every, IsSound};
-ghost use Rattle.tcmu_model.specs.Sides.{InHand, TargetState, UserState};
-ghost use Rattle.tcmu_model.specs.TargetSteps.{blocks_given, region_laid, target_laid};
+ghost use Rattle.region_model.specs.Regions.{RegionState, grown_to, size_of};
+ghost use Rattle.tcmu_model.specs.Sound.{IsSound};
+ghost use Rattle.tcmu_types.specs.Lists.{Every};
+ghost use Rattle.region_model.specs.Sides.{InHand, TargetState, UserState};
+ghost use Rattle.region_model.specs.TargetSteps.{blocks_given, region_laid, target_laid};
 ghost use Rattle.tcmu_model.specs.Owned.{HasRoom, ListsSound};
-ghost use Rattle.tcmu_model.specs.Represents.{BlocksStand, IdsStand, IsId, JobsStand, NotesStand, RingStands, TargetKeeps, UserKeeps};
+ghost use Rattle.region_model.specs.Represents.{BlocksStand, IdsStand, IsId, JobsStand, NotesStand, RingStands, TargetKeeps, UserKeeps};
 ghost use Rattle.ring_laws.specs.Sizes.{IsSized};
 
 /// A command is laid, at a submit or when it enters, under an id that none has. The ring stands, with the ids in it; a note's id that is

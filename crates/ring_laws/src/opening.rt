@@ -3,11 +3,11 @@ ghost use Rattle.std.specs.Prelude.{[]};
 ghost use Rattle.tcmu_types.specs.Data.{SettingsData};
 ghost use Rattle.tcmu_types.specs.Rules.{IsSettings};
 ghost use Rattle.tcmu_model.specs.Device.{opening_state};
-ghost use Rattle.tcmu_model.specs.Regions.{opening_region};
-ghost use Rattle.tcmu_model.specs.TargetSteps.{opening_target};
-ghost use Rattle.tcmu_model.specs.UserSteps.{opening_user};
+ghost use Rattle.region_model.specs.Regions.{opening_region};
+ghost use Rattle.region_model.specs.TargetSteps.{opening_target};
+ghost use Rattle.region_model.specs.UserSteps.{opening_user};
 ghost use Rattle.tcmu_model.specs.Owned.{ListsSound};
-ghost use Rattle.tcmu_model.specs.Represents.{Represents};
+ghost use Rattle.region_model.specs.Represents.{Represents};
 
 /// A region as it opens represents the device as it opens, with no block list.
 pub fn opening_law()

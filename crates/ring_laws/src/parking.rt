@@ -1,16 +1,16 @@
 //! What a device keeps as a handled command is parked, before answers are placed.
 ghost use Rattle.std.specs.Prelude.{◌≡◌, ℕ, List, Option, Some};
 ghost use Rattle.tcmu_model.specs.declared.state.CommandState.TheVariants.{Handled, Parked};
-ghost use Rattle.tcmu_model.specs.Lists.{first_of, with_first};
+ghost use Rattle.tcmu_types.specs.Lists.{first_of, with_first};
 ghost use Rattle.tcmu_model.specs.Device.{DeviceState, Unfinished, is_at};
 ghost use Rattle.tcmu_model.specs.Events.{in_state};
 ghost use Rattle.tcmu_model.specs.BlockLists.{Taken};
 ghost use Rattle.tcmu_model.specs.Sound.{IsSound};
-ghost use Rattle.tcmu_model.specs.Sides.{InHand, PendingRow, Recorded, TargetState, UserState};
-ghost use Rattle.tcmu_model.specs.Sides as sides;
-ghost use Rattle.tcmu_model.specs.HandSteps.{hand_responded};
-ghost use Rattle.tcmu_model.specs.UserSteps.{is_open_job, with_jobs, with_parked};
-ghost use Rattle.tcmu_model.specs.Represents.{BlocksStand, IdsStand, IsJobOf, JobsStand, NotesStand, RingStands, TargetKeeps, UserKeeps};
+ghost use Rattle.region_model.specs.Sides.{InHand, PendingRow, Recorded, TargetState, UserState};
+ghost use Rattle.region_model.specs.Sides as sides;
+ghost use Rattle.region_model.specs.HandSteps.{hand_responded};
+ghost use Rattle.region_model.specs.UserSteps.{is_open_job, with_jobs, with_parked};
+ghost use Rattle.region_model.specs.Represents.{BlocksStand, IdsStand, IsJobOf, JobsStand, NotesStand, RingStands, TargetKeeps, UserKeeps};
 ghost use Rattle.tcmu_model.specs.Owned.{ListsSound};
 ghost use Rattle.ring_laws.specs.Placed.{CanAnswer, CanFill, parked_in};
 

@@ -2,10 +2,10 @@
 ghost use Rattle.std.specs.Prelude.{◌≡◌, ℕ, List, length, take, drop};
 ghost use Rattle.tcmu_model.specs.Device.{Unfinished, DeviceState};
 ghost use Rattle.tcmu_model.specs.BlockLists.{Taken};
-ghost use Rattle.tcmu_model.specs.Regions.{RegionState};
+ghost use Rattle.region_model.specs.Regions.{RegionState};
 ghost use Rattle.tcmu_model.specs.Sound.{IsSound};
-ghost use Rattle.tcmu_model.specs.Sides.{Parked, Recorded, PendingRow, GivenJob, TargetState, UserState};
-ghost use Rattle.tcmu_model.specs.Represents.{RingStands, IdsStand, NotesStand, BlocksStand, TargetKeeps, UserKeeps, command_places};
+ghost use Rattle.region_model.specs.Sides.{Parked, Recorded, PendingRow, GivenJob, TargetState, UserState};
+ghost use Rattle.region_model.specs.Represents.{RingStands, IdsStand, NotesStand, BlocksStand, TargetKeeps, UserKeeps, command_places};
 ghost use Rattle.tcmu_model.specs.Owned.{ListsSound};
 ghost use Rattle.ring_laws.specs.Placed.{CanAnswer, CanFill, CanPlace, placed_in, answer_placed};
 

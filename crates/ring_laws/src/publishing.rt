@@ -3,12 +3,12 @@ ghost use Rattle.std.specs.Prelude.{◌≡◌, ℕ, true, List};
 ghost use Rattle.tcmu_model.specs.Device.{DeviceState};
 ghost use Rattle.tcmu_model.specs.Events.{after_publish, publish_answer};
 ghost use Rattle.tcmu_model.specs.BlockLists.{Taken};
-ghost use Rattle.tcmu_model.specs.Regions.{RegionState};
+ghost use Rattle.region_model.specs.Regions.{RegionState};
 ghost use Rattle.tcmu_model.specs.Sound.{IsSound};
-ghost use Rattle.tcmu_model.specs.Sides.{InHand, PendingRow, Recorded, TargetState, UserState};
-ghost use Rattle.tcmu_model.specs.Represents.{RingStands, IdsStand, NotesStand, BlocksStand, JobsStand, TargetKeeps, UserKeeps};
+ghost use Rattle.region_model.specs.Sides.{InHand, PendingRow, Recorded, TargetState, UserState};
+ghost use Rattle.region_model.specs.Represents.{RingStands, IdsStand, NotesStand, BlocksStand, JobsStand, TargetKeeps, UserKeeps};
 ghost use Rattle.tcmu_model.specs.Owned.{ListsSound};
-ghost use Rattle.tcmu_model.specs.UserSteps.{region_published, user_publish_answer, user_published};
+ghost use Rattle.region_model.specs.UserSteps.{region_published, user_publish_answer, user_published};
 
 /// The user side of an attached device moves the tail just as far as the device does, and answers the same. The ring stands with the new
 /// tail in its mailbox; ids, notes, blocks, jobs, both sides' records and the block lists are kept.

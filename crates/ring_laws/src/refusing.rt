@@ -5,9 +5,9 @@ ghost use Rattle.tcmu_types.specs.declared.answer.Enter.{Enter};
 ghost use Rattle.tcmu_types.specs.declared.answer.Submit.{Submit};
 ghost use Rattle.tcmu_model.specs.Device.{DeviceState};
 ghost use Rattle.tcmu_model.specs.Events.{after_enter, after_submit};
-ghost use Rattle.tcmu_model.specs.Regions.{RegionState};
-ghost use Rattle.tcmu_model.specs.Sides.{TargetState};
-ghost use Rattle.tcmu_model.specs.TargetSteps.{region_entered, region_submitted, target_entered, target_submitted};
+ghost use Rattle.region_model.specs.Regions.{RegionState};
+ghost use Rattle.region_model.specs.Sides.{TargetState};
+ghost use Rattle.region_model.specs.TargetSteps.{region_entered, region_submitted, target_entered, target_submitted};
 ghost use Rattle.ring_laws.specs.Refused.{enters_none, is_refusal};
 
 /// A submit that is refused, and an enter at which no command enters, leave device, target and region as they are.

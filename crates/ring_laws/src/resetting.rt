@@ -4,12 +4,12 @@ ghost use Rattle.tcmu_types.specs.declared.answer.Reset.TheVariants.{HandlersOut
 ghost use Rattle.tcmu_model.specs.Device.{DeviceState};
 ghost use Rattle.tcmu_model.specs.Events.{after_reset, reset_answer};
 ghost use Rattle.tcmu_model.specs.BlockLists.{Taken, kept_lists};
-ghost use Rattle.tcmu_model.specs.Regions.{RegionState};
+ghost use Rattle.region_model.specs.Regions.{RegionState};
 ghost use Rattle.tcmu_model.specs.Sound.{IsSound};
-ghost use Rattle.tcmu_model.specs.Sides.{InHand, PendingRow, TargetState, UserState};
-ghost use Rattle.tcmu_model.specs.Represents.{BlocksStand, IdsStand, JobsStand, NotesStand, RingStands, TargetKeeps, UserKeeps};
-ghost use Rattle.tcmu_model.specs.TargetCleans.{region_reset, target_reset, target_reset_answer};
-ghost use Rattle.tcmu_model.specs.UserSteps.{opening_user, region_reattached, user_attached};
+ghost use Rattle.region_model.specs.Sides.{InHand, PendingRow, TargetState, UserState};
+ghost use Rattle.region_model.specs.Represents.{BlocksStand, IdsStand, JobsStand, NotesStand, RingStands, TargetKeeps, UserKeeps};
+ghost use Rattle.region_model.specs.TargetCleans.{region_reset, target_reset, target_reset_answer};
+ghost use Rattle.region_model.specs.UserSteps.{opening_user, region_reattached, user_attached};
 ghost use Rattle.tcmu_model.specs.Owned.{ListsSound};
 ghost use Rattle.ring_laws.specs.Cleaned.{CanClean};
 ghost use Rattle.ring_laws.specs.Emptied.{reset_answered};

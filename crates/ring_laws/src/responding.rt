@@ -3,11 +3,11 @@ ghost use Rattle.std.specs.Prelude.{◌≡◌, ℕ, List};
 ghost use Rattle.tcmu_model.specs.Device.{DeviceState, Unfinished};
 ghost use Rattle.tcmu_model.specs.Events.{after_respond, respond_answer};
 ghost use Rattle.tcmu_model.specs.BlockLists.{Taken};
-ghost use Rattle.tcmu_model.specs.Regions.{RegionState};
-ghost use Rattle.tcmu_model.specs.Sides.{InHand, Parked, PendingRow, Recorded, TargetState, UserState};
-ghost use Rattle.tcmu_model.specs.Represents.{BlocksStand, IdsStand, JobsStand, NotesStand, RingStands, TargetKeeps, UserKeeps};
-ghost use Rattle.tcmu_model.specs.UserSteps.{user_respond_answer, user_responded};
-ghost use Rattle.tcmu_model.specs.HandSteps.{hand_responded};
+ghost use Rattle.region_model.specs.Regions.{RegionState};
+ghost use Rattle.region_model.specs.Sides.{InHand, Parked, PendingRow, Recorded, TargetState, UserState};
+ghost use Rattle.region_model.specs.Represents.{BlocksStand, IdsStand, JobsStand, NotesStand, RingStands, TargetKeeps, UserKeeps};
+ghost use Rattle.region_model.specs.UserSteps.{user_respond_answer, user_responded};
+ghost use Rattle.region_model.specs.HandSteps.{hand_responded};
 ghost use Rattle.tcmu_model.specs.Owned.{ListsSound};
 ghost use Rattle.ring_laws.specs.Responded.{CanRespond};
 

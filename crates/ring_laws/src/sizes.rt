@@ -3,12 +3,12 @@ ghost use Rattle.std.specs.Prelude.{◌≡◌, ℕ, List};
 ghost use Rattle.tcmu_types.specs.Data.{SettingsData};
 ghost use Rattle.tcmu_model.specs.Device.{DeviceState, Unfinished};
 ghost use Rattle.tcmu_model.specs.BlockLists.{Taken};
-ghost use Rattle.tcmu_model.specs.Regions.{RegionState, opening_region};
-ghost use Rattle.tcmu_model.specs.Sides.{InHand, JobState, Parked, PendingRow, TargetState, UserState};
-ghost use Rattle.tcmu_model.specs.Represents.{IsJobOf, JobsStand};
-ghost use Rattle.tcmu_model.specs.TargetCleans.{region_cleaned, region_reset};
-ghost use Rattle.tcmu_model.specs.UserNext.{nexted};
-ghost use Rattle.tcmu_model.specs.UserSteps.{region_abandoned, region_published, user_responded, with_job_back};
+ghost use Rattle.region_model.specs.Regions.{RegionState, opening_region};
+ghost use Rattle.region_model.specs.Sides.{InHand, JobState, Parked, PendingRow, TargetState, UserState};
+ghost use Rattle.region_model.specs.Represents.{IsJobOf, JobsStand};
+ghost use Rattle.region_model.specs.TargetCleans.{region_cleaned, region_reset};
+ghost use Rattle.region_model.specs.UserNext.{nexted};
+ghost use Rattle.region_model.specs.UserSteps.{region_abandoned, region_published, user_responded, with_job_back};
 ghost use Rattle.ring_laws.specs.Sizes.{IsSized};
 
 /// Each block at home keeps the size of a block, whatever the bytes are. For a respond, and for jobs that go back, the jobs have to stand:

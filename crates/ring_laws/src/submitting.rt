@@ -3,14 +3,15 @@ ghost use Rattle.std.specs.Prelude.{◌≡◌, ℕ, false, List, map};
 ghost use Rattle.tcmu_types.specs.Data.{CommandData};
 ghost use Rattle.tcmu_types.specs.declared.answer.Submit.TheVariants.{Queued};
 ghost use Rattle.tcmu_model.specs.Device.{DeviceState};
-ghost use Rattle.tcmu_model.specs.Events.{after_submit, is_among, submit_answer};
+ghost use Rattle.tcmu_model.specs.Events.{after_submit, submit_answer};
+ghost use Rattle.tcmu_types.specs.Numbers.{is_among};
 ghost use Rattle.tcmu_model.specs.BlockLists.{Taken, with_taken};
-ghost use Rattle.tcmu_model.specs.Regions.{RegionState};
+ghost use Rattle.region_model.specs.Regions.{RegionState};
 ghost use Rattle.tcmu_model.specs.Sound.{IsSound};
-ghost use Rattle.tcmu_model.specs.Sides.{InHand, TargetState, UserState};
-ghost use Rattle.tcmu_model.specs.TargetSteps.{region_submitted, target_submitted};
+ghost use Rattle.region_model.specs.Sides.{InHand, TargetState, UserState};
+ghost use Rattle.region_model.specs.TargetSteps.{region_submitted, target_submitted};
 ghost use Rattle.tcmu_model.specs.Owned.{ListsSound};
-ghost use Rattle.tcmu_model.specs.Represents.{BlocksStand, IdsStand, IsId, JobsStand, NotesStand, RingStands, TargetKeeps, UserKeeps};
+ghost use Rattle.region_model.specs.Represents.{BlocksStand, IdsStand, IsId, JobsStand, NotesStand, RingStands, TargetKeeps, UserKeeps};
 ghost use Rattle.ring_laws.specs.Sizes.{IsSized};
 
 /// A submit that queues a command keeps every point, as laying does.

@@ -3,10 +3,10 @@ ghost use Rattle.std.specs.Prelude.{◌≡◌, ℕ, Bool, List, Option, map};
 ghost use Rattle.tcmu_model.specs.Device.{DeviceState};
 ghost use Rattle.tcmu_model.specs.Events.{after_block, after_tick, later, tick_answer};
 ghost use Rattle.tcmu_model.specs.BlockLists.{Taken};
-ghost use Rattle.tcmu_model.specs.Regions.{RegionState};
-ghost use Rattle.tcmu_model.specs.Sides.{InHand, PendingRow, Recorded, TargetState, UserState};
-ghost use Rattle.tcmu_model.specs.Represents.{RingStands, IdsStand, NotesStand, BlocksStand, JobsStand, TargetKeeps, UserKeeps};
-ghost use Rattle.tcmu_model.specs.TargetSteps.{expired_at, target_blocked, target_tick_answer, target_ticked};
+ghost use Rattle.region_model.specs.Regions.{RegionState};
+ghost use Rattle.region_model.specs.Sides.{InHand, PendingRow, Recorded, TargetState, UserState};
+ghost use Rattle.region_model.specs.Represents.{RingStands, IdsStand, NotesStand, BlocksStand, JobsStand, TargetKeeps, UserKeeps};
+ghost use Rattle.region_model.specs.TargetSteps.{expired_at, target_blocked, target_tick_answer, target_ticked};
 ghost use Rattle.tcmu_model.specs.Owned.{ListsSound};
 
 /// The target lets the same commands expire and leave, logs the same completions and answers the same. An expired command keeps its id,

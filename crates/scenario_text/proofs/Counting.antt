@@ -5,11 +5,11 @@ use Rattle.std.proofs.lemmas.List.{get_or-set_same, get_or-set_other, length-set
 use Rattle.std.proofs.lemmas.List.Sums.{sum_by_push}
 use Rattle.std.proofs.lemmas.Bool.{cond-true, cond-false, ltb-false, eqb-true, eqb-false, eq-eqb, ne_eqb, or_parts}
 use Rattle.tcmu_types.specs.Data.{CommandData}
-use Rattle.tcmu_model.specs.ScenarioData.{ScenarioData, DeviceLineData, LineData, command_of}
-use Rattle.tcmu_model.specs.Scenario.{with_name, with_initiator, initiators, initiators_from, is_dump, bytes_in, bytes_out, small_at, breaks_dump, breaks_many, with_line}
-use Rattle.tcmu_model.specs.declared.faults.Why.TheVariants as why
+use Rattle.text_model.specs.ScenarioData.{ScenarioData, DeviceLineData, LineData, command_of}
+use Rattle.text_model.specs.Scenario.{with_name, with_initiator, initiators, initiators_from, is_dump, bytes_in, bytes_out, small_at, breaks_dump, breaks_many, with_line}
+use Rattle.text_model.specs.declared.faults.Why.TheVariants as why
 use Rattle.scenario_text.specs.Counts.{Counted, noted, dump_by, many_by, one_if}
-use Rattle.tcmu_model.proofs.ScenarioLaws.{initiators_push}
+use Rattle.text_model.proofs.ScenarioLaws.{initiators_push}
 
 -- by the command of the line, if it has one
 abbrev noted_by : List (List (List ℕ)) → ℕ → Option CommandData → List (List (List ℕ))

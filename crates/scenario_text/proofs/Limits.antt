@@ -1,15 +1,15 @@
 -- What is read keeps what the reading keeps.
 use Rattle.std.proofs.Common.{◌≡◌, ◌≤◌, ◌+◌, ℕ, List, [], ◌∷◌, length, Ok, Err, sym, ap, ◌∙◌, subst}
 use Rattle.std.proofs.lemmas.Bool.{cond-false, le-ltb}
-use Rattle.tcmu_model.specs.ScenarioData.{ScenarioData}
-use Rattle.tcmu_model.specs.Said.{Said, Opens, Adds}
-use Rattle.tcmu_model.specs.Fields.{pieces}
-use Rattle.tcmu_model.specs.Scenario.{with_text, with_lines, nothing_yet, scenario_of}
-use Rattle.tcmu_model.specs.Script.{ScriptData, script_of}
-use Rattle.tcmu_model.specs.ScenarioRules.{IsScenario, IsScript}
-use Rattle.tcmu_model.proofs.ScenarioLaws.{scenario_is}
-use Rattle.tcmu_model.proofs.ScriptLaws.{script_is}
-use Rattle.tcmu_model.proofs.SaidLaws.{IsSaid}
+use Rattle.text_model.specs.ScenarioData.{ScenarioData}
+use Rattle.text_model.specs.Said.{Said, Opens, Adds}
+use Rattle.tcmu_types.specs.Fields.{pieces}
+use Rattle.text_model.specs.Scenario.{with_text, with_lines, nothing_yet, scenario_of}
+use Rattle.text_model.specs.Script.{ScriptData, script_of}
+use Rattle.text_model.specs.ScenarioRules.{IsScenario, IsScript}
+use Rattle.text_model.proofs.ScenarioLaws.{scenario_is}
+use Rattle.text_model.proofs.ScriptLaws.{script_is}
+use Rattle.text_model.proofs.SaidLaws.{IsSaid}
 use Rattle.scenario_text.specs.Giving.{HasPlace}
 
 -- a line opens a device with a new name, or speaks of a device that is there

@@ -3,11 +3,11 @@ use Rattle.std.proofs.Common.{◌≡◌, ℕ, suc, Bool, true, false, true≢fal
 use Rattle.std.specs.List.{list_any, position_or_len}
 use Rattle.std.specs.Cmp.Lexicographic.{bytes_decides, nat_list_eq_equiv}
 use Rattle.tcmu_types.specs.Naming.{is_name}
-use Rattle.tcmu_model.specs.ScenarioData.{DeviceLineData, ScenarioData}
-use Rattle.tcmu_model.specs.Said.{has_name}
-use Rattle.tcmu_model.specs.Scenario.{with_name}
-use Rattle.tcmu_model.proofs.Everies.{every-append, every-weaker, every-none}
-use Rattle.tcmu_model.proofs.Firsts.{none_any, any_at, is_first}
+use Rattle.text_model.specs.ScenarioData.{DeviceLineData, ScenarioData}
+use Rattle.text_model.specs.Said.{has_name}
+use Rattle.text_model.specs.Scenario.{with_name}
+use Rattle.tcmu_types.proofs.Everies.{every-append, every-weaker, every-none}
+use Rattle.tcmu_types.proofs.Firsts.{none_any, any_at, is_first}
 use Rattle.indexmap.specs.IndexSet.{insert_key}
 use Rattle.scenario_text.specs.Counts.{AreNames, IsNewName, place_in}
 

@@ -2,10 +2,10 @@
 use Rattle.std.specs.Prelude.{◌≡◌, ℕ, ◌≤◌, Bool, false, IsTrue, map, ◌&&◌, ◌||◌, not, nat_lt, List, [], length, Option, Some, None, bytes_eq, if◌then◌else◌, slice_index_or, slice_set}
 use Rattle.std.specs.List.{list_any, position, sum_by, count_by}
 use Rattle.tcmu_types.specs.Naming.{is_name}
-use Rattle.tcmu_model.specs.Sound.{Every}
-use Rattle.tcmu_model.specs.Said.{has_name}
-use Rattle.tcmu_model.specs.ScenarioData.{DeviceLineData, LineData, ScenarioData, command_of}
-use Rattle.tcmu_model.specs.Scenario.{with_name, initiators, is_dump, small_at, bytes_in, bytes_out}
+use Rattle.tcmu_types.specs.Lists.{Every}
+use Rattle.text_model.specs.Said.{has_name}
+use Rattle.text_model.specs.ScenarioData.{DeviceLineData, LineData, ScenarioData, command_of}
+use Rattle.text_model.specs.Scenario.{with_name, initiators, is_dump, small_at, bytes_in, bytes_out}
 
 -- a name that no device of these has
 pub record IsNewName (s : ScenarioData) (d : DeviceLineData) : Type 0 where

@@ -1,9 +1,9 @@
 -- What a reader answers is what reading gives, but where memory was wanting.
 use Rattle.std.specs.Prelude.{◌≡◌, ◌<◌, length, Result, Ok, Err}
-use Rattle.tcmu_model.specs.declared.faults.Why.{Why}
-use Rattle.tcmu_model.specs.ScenarioData.{ScenarioData}
-use Rattle.tcmu_model.specs.Said.{Said, Opens, Adds}
-use Rattle.tcmu_model.specs.Scenario.{Bad}
+use Rattle.text_model.specs.declared.faults.Why.{Why}
+use Rattle.text_model.specs.ScenarioData.{ScenarioData}
+use Rattle.text_model.specs.Said.{Said, Opens, Adds}
+use Rattle.text_model.specs.Scenario.{Bad}
 use Rattle.scenario_text.specs.Counts.{IsNewName}
 use Rattle.scenario_text.specs.declared.kinds.LineFault.{LineFault}
 use Rattle.scenario_text.specs.declared.kinds.LineFault.TheVariants as line

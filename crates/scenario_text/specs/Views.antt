@@ -1,7 +1,7 @@
 -- What lines say, without the room of their lists.
 use Rattle.std.specs.Prelude.{List, [], ◌∷◌, Option, Some, None}
 use Rattle.tcmu_types.specs.Views.{event_data}
-use Rattle.tcmu_model.specs.ScenarioData.{LineWhat, Makes, Drains, Dumps}
+use Rattle.text_model.specs.ScenarioData.{LineWhat, Makes, Drains, Dumps}
 use Rattle.scenario_text.specs.declared.kinds.LineKind.{LineKind}
 use Rattle.scenario_text.specs.declared.kinds.LineKind.TheVariants as kind
 

@@ -1,6 +1,6 @@
 //! What the limits of a scenario count: initiators, dumps, and bytes in each direction.
 ghost use Rattle.std.specs.Prelude.{◌≡◌, ◌<◌, [], length, OnOk, slice_index_or};
-ghost use Rattle.tcmu_model.specs.Scenario.{is_dump, bytes_in, bytes_out};
+ghost use Rattle.text_model.specs.Scenario.{is_dump, bytes_in, bytes_out};
 ghost use Rattle.scenario_text.specs.Counts.{noted};
 
 use crate::kinds::{Line, LineKind};

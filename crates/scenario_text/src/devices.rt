@@ -2,8 +2,8 @@
 //! at most 16 of them, so a file is found by a scan.
 ghost use Rattle.std.specs.Prelude.{◌≡◌};
 ghost use Rattle.std.specs.List.{list_any};
-ghost use Rattle.tcmu_model.specs.Said.{same_file};
-ghost use Rattle.tcmu_model.specs.Scenario.{is_small, small_at};
+ghost use Rattle.text_model.specs.Said.{same_file};
+ghost use Rattle.text_model.specs.Scenario.{is_small, small_at};
 ghost use Rattle.device_config.specs.Views.{medium_data};
 
 use crate::kinds::DeviceLine;

@@ -5,7 +5,7 @@ ghost use Rattle.scenario_text.specs.declared.kinds.LineFault.TheVariants as lin
 use device_config::Config;
 use std::alloc::AllocFailed;
 use std::marker::Model;
-use tcmu_model::Why;
+use text_model::Why;
 use tcmu_types::{Command, Event, Listed, Name, NoMemory, Settings};
 use thiserror::Error;
 
@@ -18,7 +18,7 @@ pub struct DeviceLine {
 }
 
 impl Model for DeviceLine {
-    ghost use Rattle.tcmu_model.specs.ScenarioData.{DeviceLineData};
+    ghost use Rattle.text_model.specs.ScenarioData.{DeviceLineData};
 
     ghost Value = { DeviceLineData };
 
@@ -41,7 +41,7 @@ pub struct Line {
 }
 
 impl Model for Line {
-    ghost use Rattle.tcmu_model.specs.ScenarioData.{LineData};
+    ghost use Rattle.text_model.specs.ScenarioData.{LineData};
     ghost use Rattle.scenario_text.specs.Views.{kind_data};
 
     ghost Value = { LineData };
@@ -63,7 +63,7 @@ pub struct Scenario {
 }
 
 impl Model for Scenario {
-    ghost use Rattle.tcmu_model.specs.ScenarioData.{ScenarioData};
+    ghost use Rattle.text_model.specs.ScenarioData.{ScenarioData};
 
     ghost Value = { ScenarioData };
 
@@ -84,7 +84,7 @@ pub struct InitLine {
 }
 
 impl Model for InitLine {
-    ghost use Rattle.tcmu_model.specs.Script.{InitLineData};
+    ghost use Rattle.text_model.specs.Script.{InitLineData};
 
     ghost Value = { InitLineData };
 
@@ -105,7 +105,7 @@ pub struct Script {
 impl Model for Script {
     ghost use Rattle.std.specs.Prelude.{map};
     ghost use Rattle.tcmu_types.specs.Views.{event_data};
-    ghost use Rattle.tcmu_model.specs.Script.{ScriptData};
+    ghost use Rattle.text_model.specs.Script.{ScriptData};
 
     ghost Value = { ScriptData };
 

@@ -19,4 +19,4 @@ pub use kinds::{
 };
 pub use reading::{MOST_TEXT, read_scenario};
 pub use scripts::script;
-pub use tcmu_model::Why;
+pub use text_model::Why;

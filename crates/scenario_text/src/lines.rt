@@ -2,13 +2,14 @@
 ghost use Rattle.std.specs.Prelude.{◌≡◌, ◌==◌, ◌||◌, ◌&&◌, not, ◌+◌, [], ◌∷◌, length, Some, None, IfSome, IfNone};
 ghost use Rattle.std.specs.List.{list_all, position};
 ghost use Rattle.std.specs.Option.{option_map};
-ghost use Rattle.tcmu_model.specs.Lines.{is_blank, is_allowed, before_hash, fields_of, one_field, two_fields, three_fields, submit_fields, payload_field, payload_fields, InBytes, OutRuns, device_fields, last_field, last_fields};
-ghost use Rattle.tcmu_model.specs.Words.{verb_of};
+ghost use Rattle.text_model.specs.Lines.{one_field, two_fields, three_fields, submit_fields, payload_field, payload_fields, InBytes, OutRuns, device_fields, last_field, last_fields};
+ghost use Rattle.tcmu_types.specs.Fields.{is_blank, is_allowed, before_hash, fields_of};
+ghost use Rattle.text_model.specs.Words.{verb_of};
 ghost use Rattle.scenario_text.specs.LineViews.{payload_data, submit_data, last_data, device_data};
 
 use device_config::fields::{after_word, is_text};
 use std::marker::Model;
-use tcmu_model::Verb;
+use text_model::Verb;
 
 fn is_blank(b: u8) -> bool
     ensures { result ≡ is_blank b }
@@ -73,7 +74,7 @@ pub fn next_field(text: &[u8]) -> Option<(&[u8], &[u8])>
 }
 
 /// The verb that a word is, in lower case alone.
-#[tactic(auto, unfolding(tcmu_model::specs::Words::verb_of))]
+#[tactic(auto, unfolding(text_model::specs::Words::verb_of))]
 pub fn verb_of(word: &[u8]) -> Option<Verb>
     ensures { result ≡ verb_of word.now }
 {
@@ -178,7 +179,7 @@ fn payload_fields(text: &[u8]) -> Option<Payload<'_>>
 }
 
 /// The fields of a submit line behind its verb; None where there are fewer or more, or the last is neither `in=` nor `out=`.
-#[tactic(auto, unfolding(tcmu_model::specs::Lines::submit_fields))]
+#[tactic(auto, unfolding(text_model::specs::Lines::submit_fields))]
 pub fn submit_fields(text: &[u8]) -> Option<SubmitWords<'_>>
     ensures { option_map submit_data result ≡ submit_fields (fields_of text.now) }
 {
@@ -263,7 +264,7 @@ pub struct DeviceWords<'a> {
 }
 
 /// The fields of a device line behind its verb; None where there are fewer or more, or one lacks its key or stands out of order.
-#[tactic(auto, unfolding(tcmu_model::specs::Lines::device_fields))]
+#[tactic(auto, unfolding(text_model::specs::Lines::device_fields))]
 pub fn device_fields(text: &[u8]) -> Option<DeviceWords<'_>>
     ensures { option_map device_data result ≡ device_fields (fields_of text.now) }
 {

@@ -1,6 +1,6 @@
 //! Names in the order in which they first came, found by their hashes.
 ghost use Rattle.std.specs.Prelude.{◌≡◌, ◌<◌, [], length, IfSome, OnOk};
-ghost use Rattle.tcmu_model.specs.Scenario.{with_name};
+ghost use Rattle.text_model.specs.Scenario.{with_name};
 ghost use Rattle.scenario_text.specs.Counts.{place_in};
 
 use indexmap::IndexSet;

@@ -1,8 +1,8 @@
 //! Reading a whole text, line by line.
 ghost use Rattle.std.specs.Prelude.{◌≡◌, ◌<◌, IfOk};
-ghost use Rattle.tcmu_model.specs.Lines.{fields_of};
-ghost use Rattle.tcmu_model.specs.Scenario.{is_not_yet, with_rules, with_said, with_fields, with_text, scenario_of};
-ghost use Rattle.tcmu_model.specs.ScenarioRules.{IsScenario};
+ghost use Rattle.tcmu_types.specs.Fields.{fields_of};
+ghost use Rattle.text_model.specs.Scenario.{is_not_yet, with_rules, with_said, with_fields, with_text, scenario_of};
+ghost use Rattle.text_model.specs.ScenarioRules.{IsScenario};
 ghost use Rattle.scenario_text.specs.Giving.{LineGives, Gives, HasPlace, said_data};
 
 use crate::counts::is_dump;
@@ -12,12 +12,12 @@ use crate::said::{SaidLine, said_by};
 use crate::so_far::SoFar;
 use device_config::fields::cut;
 use std::alloc::Global;
-use tcmu_model::Why;
+use text_model::Why;
 
 /// The most bytes of a scenario.
 pub const MOST_TEXT: usize = 4_194_304;
 
-#[tactic(auto, unfolding(tcmu_model::specs::Scenario::is_not_yet))]
+#[tactic(auto, unfolding(text_model::specs::Scenario::is_not_yet))]
 fn is_not_yet(so_far: &SoFar, said: &SaidLine) -> bool
     ensures { result ≡ is_not_yet so_far.now (said_data said.now) }
 {
@@ -37,7 +37,7 @@ fn with_rules(alloc: Global, so_far: SoFar, said: SaidLine) -> Result<SoFar, Lin
     }
 }
 
-#[tactic(auto, unfolding(tcmu_model::specs::Scenario::with_said))]
+#[tactic(auto, unfolding(text_model::specs::Scenario::with_said))]
 fn with_said(alloc: Global, so_far: SoFar, said: SaidLine) -> Result<SoFar, LineFault>
     requires { HasPlace so_far (said_data said) }
     ensures { LineGives (λ x. x) result (with_said so_far (said_data said)) }
@@ -50,7 +50,7 @@ fn with_said(alloc: Global, so_far: SoFar, said: SaidLine) -> Result<SoFar, Line
     Ok(more)
 }
 
-#[tactic(auto, unfolding(tcmu_model::specs::Scenario::with_fields))]
+#[tactic(auto, unfolding(text_model::specs::Scenario::with_fields))]
 fn with_fields(alloc: Global, so_far: SoFar, text: &[u8]) -> Result<SoFar, LineFault>
     ensures { LineGives (λ x. x) result (with_fields so_far (fields_of text.now)) }
 {
@@ -62,7 +62,7 @@ fn with_fields(alloc: Global, so_far: SoFar, text: &[u8]) -> Result<SoFar, LineF
     with_said(alloc, so_far, said)
 }
 
-#[tactic(auto, unfolding(tcmu_model::specs::Scenario::with_text))]
+#[tactic(auto, unfolding(text_model::specs::Scenario::with_text))]
 fn with_text(alloc: Global, so_far: SoFar, text: &[u8]) -> Result<SoFar, LineFault>
     ensures { LineGives (λ x. x) result (with_text so_far text.now) }
 {
@@ -75,7 +75,7 @@ fn with_text(alloc: Global, so_far: SoFar, text: &[u8]) -> Result<SoFar, LineFau
 
 /// What the bytes say where they are a scenario, and else the first bad line with the first rule that it breaks. `NoMemory` may
 /// come in place of either.
-#[tactic(auto, unfolding(tcmu_model::specs::Scenario::scenario_of))]
+#[tactic(auto, unfolding(text_model::specs::Scenario::scenario_of))]
 pub fn read_scenario(alloc: Global, bytes: &[u8]) -> Result<Scenario, ScenarioFault>
     ensures reading { Gives result (scenario_of bytes.now) }
     ensures limits { IfOk result IsScenario }

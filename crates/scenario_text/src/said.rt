@@ -4,10 +4,10 @@ ghost use Rattle.std.specs.Option.{option_map};
 ghost use Rattle.tcmu_types.specs.Views.{event_data};
 ghost use Rattle.tcmu_types.specs.Rules.{is_directed};
 ghost use Rattle.tcmu_types.specs.Events as ev;
-ghost use Rattle.tcmu_model.specs.Lines.{fields_of};
-ghost use Rattle.tcmu_model.specs.Fields.{number_of, only_if};
-ghost use Rattle.tcmu_model.specs.ScenarioData.{Makes};
-ghost use Rattle.tcmu_model.specs.Said.{Adds, new_name, is_own, device_config, ring_of, qfull_of, pages_of, settings_of, payload_of, device_line, submit_line, plain_line, number_at, number_line, tmr_line, said_by};
+ghost use Rattle.tcmu_types.specs.Fields.{fields_of, only_if};
+ghost use Rattle.tcmu_types.specs.Decimals.{number_of};
+ghost use Rattle.text_model.specs.ScenarioData.{Makes};
+ghost use Rattle.text_model.specs.Said.{Adds, new_name, is_own, device_config, ring_of, qfull_of, pages_of, settings_of, payload_of, device_line, submit_line, plain_line, number_at, number_line, tmr_line, said_by};
 ghost use Rattle.scenario_text.specs.Giving.{LineGives, said_data};
 ghost use Rattle.scenario_text.specs.LineViews.{payload_data, device_data};
 ghost use Rattle.scenario_text.specs.Views.{kind_data};
@@ -20,7 +20,7 @@ use crate::so_far::SoFar;
 use device_config::fields::{cdb_of, flags_of, name_of, number_of, runs_of, serials_of};
 use device_config::{Config, config_of_bytes};
 use std::alloc::Global;
-use tcmu_model::{ConfigFault, Verb, Why};
+use text_model::{ConfigFault, Verb, Why};
 use tcmu_types::{
     Bytes, Cdb, Command, Event, MOST_PAYLOAD, MOST_RING, Name, NoMemory, PAGE, Settings,
 };
@@ -43,7 +43,7 @@ fn is_own(so_far: &SoFar, name: &[u8], config: &Config) -> bool
 }
 
 /// The config of a device of this name, in a file of its own.
-#[tactic(auto, unfolding(tcmu_model::specs::Said::device_config))]
+#[tactic(auto, unfolding(text_model::specs::Said::device_config))]
 fn device_config(
     alloc: Global,
     so_far: &SoFar,
@@ -64,7 +64,7 @@ fn device_config(
     }
 }
 
-#[tactic(auto, unfolding(tcmu_model::specs::Said::ring_of))]
+#[tactic(auto, unfolding(text_model::specs::Said::ring_of))]
 fn ring_of(text: &[u8]) -> Option<u32>
     ensures { result ≡ ring_of text.now }
 {
@@ -110,7 +110,7 @@ fn pages_of(blocks: u32, text: Option<&[u8]>) -> Option<u32>
 }
 
 /// The settings of a device line.
-#[tactic(auto, unfolding(tcmu_model::specs::Said::settings_of))]
+#[tactic(auto, unfolding(text_model::specs::Said::settings_of))]
 fn settings_of(f: &DeviceWords<'_>) -> Result<Settings, Why>
     ensures { result ≡ settings_of (device_data f.now) }
 {
@@ -130,7 +130,7 @@ fn settings_of(f: &DeviceWords<'_>) -> Result<Settings, Why>
     })
 }
 
-#[tactic(auto, unfolding(tcmu_model::specs::Said::new_name))]
+#[tactic(auto, unfolding(text_model::specs::Said::new_name))]
 fn new_name(so_far: &SoFar, text: &[u8]) -> Option<Name>
     ensures { result ≡ new_name so_far.now text.now }
 {
@@ -141,7 +141,7 @@ fn new_name(so_far: &SoFar, text: &[u8]) -> Option<Name>
     Some(name)
 }
 
-#[tactic(auto, unfolding(tcmu_model::specs::Said::device_line))]
+#[tactic(auto, unfolding(text_model::specs::Said::device_line))]
 fn device_line(alloc: Global, so_far: &SoFar, text: &[u8]) -> Result<SaidLine, LineFault>
     ensures { LineGives said_data result (device_line so_far.now (fields_of text.now)) }
 {
@@ -184,7 +184,7 @@ fn directed(init: Name, tag: u32, cdb: Cdb, sent: Bytes, in_len: u32) -> Option<
     Command::new(init, tag, cdb, sent, in_len)
 }
 
-#[tactic(auto, unfolding(tcmu_model::specs::Said::submit_line))]
+#[tactic(auto, unfolding(text_model::specs::Said::submit_line))]
 fn submit_line(alloc: Global, so_far: &SoFar, text: &[u8]) -> Result<SaidLine, LineFault>
     ensures { LineGives said_data result (submit_line so_far.now (fields_of text.now)) }
 {
@@ -198,7 +198,7 @@ fn submit_line(alloc: Global, so_far: &SoFar, text: &[u8]) -> Result<SaidLine, L
     Ok(event_line(device, Event::Submit(command)))
 }
 
-#[tactic(auto, unfolding(tcmu_model::specs::Said::plain_line))]
+#[tactic(auto, unfolding(text_model::specs::Said::plain_line))]
 fn plain_line(so_far: &SoFar, what: LineKind, text: &[u8]) -> Result<SaidLine, LineFault>
     ensures { LineGives said_data result (plain_line so_far.now (kind_data what) (fields_of text.now)) }
 {
@@ -207,7 +207,7 @@ fn plain_line(so_far: &SoFar, what: LineKind, text: &[u8]) -> Result<SaidLine, L
     Ok(SaidLine::Adds(Line { device, what }))
 }
 
-#[tactic(auto, unfolding(tcmu_model::specs::Said::number_at))]
+#[tactic(auto, unfolding(text_model::specs::Said::number_at))]
 fn number_at(so_far: &SoFar, low: u32, high: u32, text: &[u8]) -> Result<(u32, u32), Why>
     ensures value { result ≡ number_at so_far.now low high (fields_of text.now) }
     ensures most { IfOk result (λ x. x.1 ≤ high) }
@@ -227,7 +227,7 @@ fn event_line(device: u32, event: Event) -> SaidLine
     })
 }
 
-#[tactic(auto, unfolding(tcmu_model::specs::Said::tmr_line))]
+#[tactic(auto, unfolding(text_model::specs::Said::tmr_line))]
 fn tmr_line(alloc: Global, so_far: &SoFar, text: &[u8]) -> Result<SaidLine, LineFault>
     ensures { LineGives said_data result (tmr_line so_far.now (fields_of text.now)) }
 {
@@ -267,7 +267,7 @@ fn reset_line(so_far: &SoFar, text: &[u8]) -> Result<SaidLine, LineFault>
 }
 
 /// What the line of this verb says, by the fields behind it.
-#[tactic(auto, unfolding(tcmu_model::specs::Said::said_by))]
+#[tactic(auto, unfolding(text_model::specs::Said::said_by))]
 pub fn said_by(
     alloc: Global,
     so_far: &SoFar,

@@ -3,9 +3,9 @@ ghost use Rattle.std.specs.Prelude.{◌≡◌, [], ◌∷◌, map, IfOk, OnOk, S
 ghost use Rattle.std.specs.List.{flat_map};
 ghost use Rattle.std.specs.Option.{option_map};
 ghost use Rattle.tcmu_types.specs.Views.{event_data};
-ghost use Rattle.tcmu_model.specs.Scenario.{with_initiator, initiators};
-ghost use Rattle.tcmu_model.specs.ScenarioRules.{IsScenario, IsScript};
-ghost use Rattle.tcmu_model.specs.Script.{sent_by, is_admin, admin_of, init_line, script_of};
+ghost use Rattle.text_model.specs.Scenario.{with_initiator, initiators};
+ghost use Rattle.text_model.specs.ScenarioRules.{IsScenario, IsScript};
+ghost use Rattle.text_model.specs.Script.{sent_by, is_admin, admin_of, init_line, script_of};
 ghost use Rattle.scenario_text.specs.Views.{as_list};
 
 use crate::kinds::{Commands, Events, InitLine, InitLines, Line, LineKind, Scenario, Script};
@@ -154,7 +154,7 @@ fn init_lines(
 
 /// What the initiators of a device send, in the order of their first submits, and what its administration does. A device that is
 /// not there has none of either. It goes over the lines once for each initiator.
-#[tactic(auto, unfolding(tcmu_model::specs::Script::script_of))]
+#[tactic(auto, unfolding(text_model::specs::Script::script_of))]
 pub fn script(alloc: Global, scenario: &Scenario, device: u32) -> Result<Script, NoMemory>
     ensures value { IfOk result (λ script. script ≡ script_of scenario.now device) }
     ensures limits { IsScenario scenario.now → IfOk result IsScript }

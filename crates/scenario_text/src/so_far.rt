@@ -1,8 +1,8 @@
 //! A scenario while its lines are read, with what its limits count.
 ghost use Rattle.std.specs.Prelude.{◌≡◌, ◌≤◌, ◌<◌, length, Some, None};
 ghost use Rattle.std.specs.List.{list_any};
-ghost use Rattle.tcmu_model.specs.Said.{has_name, device_at, same_file};
-ghost use Rattle.tcmu_model.specs.Scenario.{with_line, with_device, nothing_yet};
+ghost use Rattle.text_model.specs.Said.{has_name, device_at, same_file};
+ghost use Rattle.text_model.specs.Scenario.{with_line, with_device, nothing_yet};
 ghost use Rattle.device_config.specs.Views.{medium_data};
 ghost use Rattle.scenario_text.specs.Counts.{dump_by, many_by, one_if, IsNewName};
 ghost use Rattle.scenario_text.specs.Giving.{LineGives};
@@ -14,7 +14,7 @@ use crate::names::Names;
 use device_config::MediumKind;
 use std::alloc::Global;
 use std::marker::Model;
-use tcmu_model::Why;
+use text_model::Why;
 use tcmu_types::Name;
 
 /// The scenario so far, with the names of its devices and of the initiators of each.
@@ -30,7 +30,7 @@ pub struct SoFar {
 }
 
 impl Model for SoFar {
-    ghost use Rattle.tcmu_model.specs.ScenarioData.{ScenarioData};
+    ghost use Rattle.text_model.specs.ScenarioData.{ScenarioData};
     ghost use Rattle.scenario_text.specs.Counts.{Counted, AreNames};
 
     ghost Value = { ScenarioData };
@@ -113,7 +113,7 @@ impl SoFar {
     }
 
     /// With this line after the others.
-    #[tactic(auto, unfolding(tcmu_model::specs::Scenario::with_line))]
+    #[tactic(auto, unfolding(text_model::specs::Scenario::with_line))]
     pub fn with_line(self, line: Line) -> Result<SoFar, LineFault>
         requires { line.device < length self.devices }
         ensures { LineGives (λ x. x) result (with_line self line) }
@@ -152,7 +152,7 @@ impl SoFar {
     }
 
     /// With this device after the others.
-    #[tactic(auto, unfolding(tcmu_model::specs::Scenario::with_device))]
+    #[tactic(auto, unfolding(text_model::specs::Scenario::with_device))]
     pub fn with_device(self, alloc: Global, device: DeviceLine) -> Result<SoFar, LineFault>
         requires { IsNewName self device }
         ensures { LineGives (λ x. x) result (with_device self device) }

@@ -3,7 +3,7 @@ use Rattle.std.proofs.Common.{◌≡◌, ℕ, zero, suc, ◌<◌, List, [], ◌�
 use lib.Dec.{T}
 use Rattle.std.specs.Prelude.{slice_get, option_map}
 use Rattle.std.proofs.lemmas.List.{length-take, length-drop}
-use Rattle.tcmu_model.specs.Regions.{AreSized, fitted, home, is_home}
+use Rattle.region_model.specs.Regions.{AreSized, fitted, home, is_home}
 use Rattle.shm_region.proofs.Sized.{sized-set-none, sized-set, sized-get}
 
 length-fitted : (old new : List ℕ) → length (fitted old new) ≡ length old

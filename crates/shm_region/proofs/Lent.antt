@@ -6,7 +6,7 @@ use Rattle.iovec_scatter.proofs.Steps.{rest_of}
 use Rattle.std.proofs.lemmas.Grind.{take_at_read}
 use Rattle.std.proofs.lemmas.Bool.Decides.{nat_tests}
 use Rattle.tcmu_types.specs.declared.iovec.Iov.{Iov}
-use Rattle.tcmu_model.specs.Regions.{RegionState, size_of, home, is_home, put_where, put_home, returned, HaveSize, can_take, taken, without, numbers_from, numbers_of, first_block, block_count, starts_block, are_whole, can_lend, named_by, StartsBlock, AreWhole, AreHome, IsOther, AreOnce, CanLend}
+use Rattle.region_model.specs.Regions.{RegionState, size_of, home, is_home, put_where, put_home, returned, HaveSize, can_take, taken, without, numbers_from, numbers_of, first_block, block_count, starts_block, are_whole, can_lend, named_by, StartsBlock, AreWhole, AreHome, IsOther, AreOnce, CanLend}
 use Rattle.shm_region.proofs.Sized.{set-set}
 use Rattle.std.proofs.lemmas.Bool.{and_from, and_parts}
 

@@ -8,9 +8,9 @@ use Rattle.std.proofs.Math.Seq.{drop-cons}
 use Rattle.std.proofs.lemmas.Grind.{take-set_at}
 use Rattle.std.proofs.lemmas.Option.{slice_get-get_or}
 use Rattle.std.proofs.lemmas.List.{take_min, take_rest, drop_all, take_all, length-take, drop-set-lt}
-use Rattle.tcmu_model.specs.Layout.{put}
-use Rattle.tcmu_model.proofs.Written.{put-nothing, length-put}
-use Rattle.tcmu_model.specs.Regions.{RegionState, size_of, home, overlaid, blocks_over}
+use Rattle.tcmu_types.specs.ByteFields.{put}
+use Rattle.tcmu_types.proofs.ByteFields.{put-nothing, length-put}
+use Rattle.region_model.specs.Regions.{RegionState, size_of, home, overlaid, blocks_over}
 use Rattle.shm_region.proofs.Sized.{set-set}
 
 take_none : (xs : List ℕ) (n : ℕ) → n ≡ 0 → take n xs ≡ []

@@ -1,7 +1,7 @@
 -- What blocks that are given back leave as it is.
 use Rattle.std.proofs.Common.{◌≡◌, ◌≢◌, ℕ, zero, suc, List, [], ◌∷◌, Option, Some, None, refl, ap, ◌∙◌}
 use Rattle.std.specs.Prelude.{slice_get}
-use Rattle.tcmu_model.specs.Regions.{home, put_where, put_home, returned, IsOther}
+use Rattle.region_model.specs.Regions.{home, put_where, put_home, returned, IsOther}
 
 put_more : (x : Option (List ℕ)) (xs : List (Option (List ℕ))) (n : ℕ) (p : List ℕ) → put_home (x ∷ xs) (suc n) p ≡ x ∷ put_home xs n p
 put_more x xs n p = by_place (slice_get xs n)

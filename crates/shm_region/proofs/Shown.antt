@@ -8,10 +8,10 @@ use Rattle.std.proofs.lemmas.Grind.{div_ceil_times}
 use Rattle.std.proofs.lemmas.Bool.{cases_lt}
 use Rattle.std.proofs.lemmas.List.{drop-drop, drop_all, drop-append-le, take-append-le, length-drop, length-take, drop-replicate, take-replicate, take-append-drop, take_all, append-nil}
 use Rattle.tcmu_types.specs.declared.iovec.Iov.{Iov}
-use Rattle.tcmu_model.specs.Layout.{put, zeros}
-use Rattle.tcmu_model.specs.Iovecs.{EndBelow, along, total_of}
-use Rattle.tcmu_model.specs.Regions.{RegionState, IsRegion, AreSized, size_of, home, shown, bytes_of, overlaid, blocks_over, wrote, LieInRegion}
-use Rattle.tcmu_model.proofs.Written.{length-zeros, put-put, length-put, take-put}
+use Rattle.tcmu_types.specs.ByteFields.{put, zeros}
+use Rattle.region_model.specs.Iovecs.{EndBelow, along, total_of}
+use Rattle.region_model.specs.Regions.{RegionState, IsRegion, AreSized, size_of, home, shown, bytes_of, overlaid, blocks_over, wrote, LieInRegion}
+use Rattle.tcmu_types.proofs.ByteFields.{length-zeros, put-put, length-put, take-put}
 use Rattle.iovec_scatter.proofs.Steps.{rest_of, first_part}
 use Rattle.shm_region.proofs.Over.{over_past, over_before, length-overlaid}
 

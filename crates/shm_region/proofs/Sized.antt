@@ -1,8 +1,8 @@
 -- Blocks keep their size.
 use Rattle.std.proofs.Common.{◌≡◌, ℕ, zero, suc, ◌+◌, ◌*◌, ◌^◌, ◌<◌, List, [], ◌∷◌, ◌++◌, length, set, get_or, Bool, true, false, cond, IfSome, length-append, Option, Some, None, refl, ap, ◌∙◌, sym, arith}
 use Rattle.std.specs.Prelude.{slice_get}
-use Rattle.tcmu_model.specs.Layout.{zeros}
-use Rattle.tcmu_model.specs.Regions.{AreSized, IsRegion, RegionState, size_of, cleared, home}
+use Rattle.tcmu_types.specs.ByteFields.{zeros}
+use Rattle.region_model.specs.Regions.{AreSized, IsRegion, RegionState, size_of, cleared, home}
 
 pub sized-set-none : (size k : ℕ) (xs : List (Option (List ℕ))) → AreSized size xs → AreSized size (set xs k None)
 sized-set-none size k [] h = tt

@@ -1,9 +1,9 @@
 -- Where the data area begins.
 use Rattle.std.specs.Prelude.{◌≡◌, ℕ, ◌+◌, ◌%◌, ◌<◌, ◌≤◌, length}
 use Rattle.tcmu_types.specs.Data.{SettingsData}
-use Rattle.tcmu_model.specs.Layout.{ring_start, data_start}
-use Rattle.tcmu_model.specs.MailboxReading.{IsRingSize}
-use Rattle.tcmu_model.specs.Regions.{opening_region}
+use Rattle.region_model.specs.Layout.{ring_start, data_start}
+use Rattle.region_model.specs.MailboxReading.{IsRingSize}
+use Rattle.region_model.specs.Regions.{opening_region}
 
 -- n is the least multiple of a step that is not below a number
 pub record IsLeastMultiple (step low n : ℕ) : Type 0 where

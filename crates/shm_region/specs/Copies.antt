@@ -1,8 +1,8 @@
 -- What copying in leaves, and when it is copied out again.
 use Rattle.std.specs.Prelude.{◌≡◌, ℕ, ◌+◌, ◌*◌, ◌<◌, ◌≤◌, List, [], ◌∷◌, length, take, drop}
 use Rattle.tcmu_types.specs.declared.iovec.Iov.{Iov}
-use Rattle.tcmu_model.specs.Iovecs.{along, total_of}
-use Rattle.tcmu_model.specs.Regions.{RegionState, IsRegion, IsLent, LieInRegion, size_of, bytes_of, copied_in}
+use Rattle.region_model.specs.Iovecs.{along, total_of}
+use Rattle.region_model.specs.Regions.{RegionState, IsRegion, IsLent, LieInRegion, size_of, bytes_of, copied_in}
 
 -- no byte stands both among the n from a on and among the m from b on
 abbrev pub ShareNone : ℕ → ℕ → ℕ → ℕ → Type 0

@@ -1,7 +1,7 @@
 -- What a region is after its front, or a block of it, was lent.
 use Rattle.std.specs.Prelude.{ℕ, List, Option, option_map}
 use Rattle.std.specs.Borrow.{Lends, LendsIf, MutBor, Fml, u8, Array}
-use Rattle.tcmu_model.specs.Regions.{RegionState, fitted, with_block, block_at}
+use Rattle.region_model.specs.Regions.{RegionState, fitted, with_block, block_at}
 use Rattle.shm_region.specs.contracts.region.Region.{the_row}
 
 -- the region ends with the front that was left behind r

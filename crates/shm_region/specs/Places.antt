@@ -3,7 +3,7 @@ use Rattle.std.specs.Prelude.{ℕ, List, Option, Some, option_map}
 use Rattle.std.specs.Borrow.{Lends, MutBor, Fml, u8, Array}
 use Rattle.std.specs.contracts.option.Option.{the_row as option_row}
 use Rattle.iovec_scatter.specs.contracts.block.Block.{the_row as block_row}
-use Rattle.tcmu_model.specs.Regions.{fitted}
+use Rattle.region_model.specs.Regions.{fitted}
 
 -- the place ends with the block that was left behind r
 abbrev pub LendsHome : MutBor (Option (List ℕ)) → MutBor (List ℕ) → Fml

@@ -1,7 +1,7 @@
 -- What giving blocks back leaves as it is.
 use Rattle.std.specs.Prelude.{◌≡◌, ℕ, List, Some, slice_get}
 use Rattle.tcmu_types.specs.declared.iovec.Iov.{Iov}
-use Rattle.tcmu_model.specs.Regions.{RegionState, IsOther, block_at, given_back, named_by}
+use Rattle.region_model.specs.Regions.{RegionState, IsOther, block_at, given_back, named_by}
 
 -- a block that is at home stays as it is, also where a part comes for its place
 abbrev pub BackLeavesHome : Type 0

@@ -1,8 +1,8 @@
 //! Bytes copied along iovecs, by byte offsets in the region. A lent block reads as zeros, and is not changed.
 ghost use Rattle.std.specs.Prelude.{◌≡◌, ◌+◌, ◌-◌, ◌^◌, ◌<◌, ◌≤◌, length, take, drop, min};
-ghost use Rattle.tcmu_model.specs.Layout.{put};
-ghost use Rattle.tcmu_model.specs.Iovecs.{EndBelow, total_of, along};
-ghost use Rattle.tcmu_model.specs.Regions.{bytes_of, wrote, copied_in, LieInRegion};
+ghost use Rattle.tcmu_types.specs.ByteFields.{put};
+ghost use Rattle.region_model.specs.Iovecs.{EndBelow, total_of, along};
+ghost use Rattle.region_model.specs.Regions.{bytes_of, wrote, copied_in, LieInRegion};
 
 use crate::Region;
 use mailbox_bytes::fields::{put_bytes, put_zeros};

@@ -2,7 +2,7 @@
 ghost use Rattle.shm_region.specs.AreaStart.{AreaBeginsAtPage, OpensAtArea};
 ghost use Rattle.shm_region.specs.Copies.{CopiesBack, CopiesBeside};
 ghost use Rattle.shm_region.specs.Returns.{BackLeavesHome, BackLeavesOthers};
-ghost use Rattle.tcmu_model.specs.Regions.{LendsAndTakesBack};
+ghost use Rattle.region_model.specs.Regions.{LendsAndTakesBack};
 
 /// What was lent and is given back stands where it stood.
 pub fn lends_and_takes_back()

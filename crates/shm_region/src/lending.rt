@@ -1,7 +1,7 @@
 //! Blocks lent and given back. They move: no byte of them is copied.
 ghost use Rattle.std.specs.Prelude.{◌≡◌, ◌↔◌, [], ◌+◌, ◌-◌, ◌*◌, ◌^◌, ◌<◌, ◌≤◌, ◌++◌, length, take, drop, true, nat_lt, Some, None, if◌then◌else◌};
 ghost use Rattle.std.specs.Bool.{OnTrue, OnFalse};
-ghost use Rattle.tcmu_model.specs.Regions.{size_of, can_take, taken, without, returned, HaveSize, numbers_from, first_block, block_count, starts_block, are_whole, can_lend, named_by, lent, parts_of, given_back, CanLend};
+ghost use Rattle.region_model.specs.Regions.{size_of, can_take, taken, without, returned, HaveSize, numbers_from, first_block, block_count, starts_block, are_whole, can_lend, named_by, lent, parts_of, given_back, CanLend};
 
 use crate::Region;
 use iovec_scatter::Parts;

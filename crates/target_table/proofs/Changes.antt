@@ -7,15 +7,15 @@ use Rattle.std.proofs.lemmas.List.{get_or-set_same, get_or-set_other, get_or_app
 use Rattle.std.proofs.lemmas.List.Folds.{list_any-append}
 use Rattle.std.proofs.lemmas.Bool.{cases_eq, cases_lt, cases_Bool, eqb-true, eqb-false, or_parts, false≢true}
 use Rattle.std.proofs.lemmas.Option.{none-some}
-use Rattle.tcmu_model.specs.Lists.{first_of, without_first, with_first}
-use Rattle.tcmu_model.specs.Events.{is_among}
-use Rattle.tcmu_model.specs.Pending.{PendingData}
+use Rattle.tcmu_types.specs.Lists.{first_of, without_first, with_first}
+use Rattle.tcmu_types.specs.Numbers.{is_among}
+use Rattle.region_model.specs.Pending.{PendingData}
 use Rattle.target_table.specs.declared.table.Ranked.{Ranked}
 use Rattle.target_table.specs.Rows.{Row, TableData, has_id, is_waiting, id_of, pending_of, with_expired, AllPrecede, IdsDiffer, IsTable, ExpiredFirst, without, without_found}
 use Rattle.target_table.specs.Kept.{place_of, at_id, or_none, row_at, rows_of, Stands, AllStand, is_ranked, IsFree, IsDistinct, IsKept}
 use Rattle.target_table.proofs.Ordered.{order-added, ids-added, differ-added, expired-added, order-without, ids-without, differ-without, length-without, some-expired, expired-without, waiting-without, order-expired, ids-expired, differ-expired, length-expired, expired-more, expired-most, first-any, or-true, eqb-not}
 use Rattle.target_table.proofs.Places.{row_of, row-found, any-row, there, length-rows, eqb-self, at-one, rank-of}
-use Rattle.tcmu_model.proofs.Rises.{among-append}
+use Rattle.tcmu_types.proofs.Rises.{among-append}
 
 -- ==== other places
 

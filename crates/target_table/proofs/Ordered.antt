@@ -3,8 +3,8 @@ use Rattle.std.proofs.Common.{◌≡◌, ◌≢◌, ℕ, ◌+◌, ◌-◌, ◌�
 use Rattle.std.specs.List.{list_any}
 use Rattle.std.proofs.lemmas.Bool.{cases_Bool, eqb-false, or_parts}
 use Rattle.std.proofs.Math.Bool.{and-false}
-use Rattle.tcmu_model.specs.Lists.{first_of, without_first, with_first}
-use Rattle.tcmu_model.specs.Pending.{PendingData}
+use Rattle.tcmu_types.specs.Lists.{first_of, without_first, with_first}
+use Rattle.region_model.specs.Pending.{PendingData}
 use Rattle.target_table.specs.Rows.{Row, has_id, is_waiting, is_due, has_passed, with_expired, NotAfter, Precedes, AllPrecede, PrecedesAll, AreInOrder, IdsDiffer, AreIds, ExpiredFirst}
 
 no-row : {r : Row} → ◌≡◌ {A = Option Row} None (Some r) → ⊥

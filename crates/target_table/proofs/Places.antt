@@ -4,8 +4,8 @@ use Rattle.std.specs.List.{list_any}
 use Rattle.std.specs.Option.{option_map, IfNone}
 use Rattle.std.proofs.lemmas.List.{get_or_past, set-get_or}
 use Rattle.std.proofs.lemmas.Bool.{cases_eq, cases_Bool, eqb-true, leb-true, false≢true}
-use Rattle.tcmu_model.specs.Lists.{first_of, without_first}
-use Rattle.tcmu_model.specs.Pending.{PendingData}
+use Rattle.tcmu_types.specs.Lists.{first_of, without_first}
+use Rattle.region_model.specs.Pending.{PendingData}
 use Rattle.target_table.specs.declared.table.Ranked.{Ranked}
 use Rattle.std.specs.List.Sorted.{IsNonDecreasingBy, IsPartitionPoint}
 use Rattle.std.proofs.lemmas.Option.{none-some}

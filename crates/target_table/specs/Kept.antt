@@ -1,8 +1,8 @@
 -- What the fields of the table keep: places, the ids of free places, and serials with ids in rising order.
 use Rattle.std.specs.Prelude.{◌≡◌, ℕ, ◌+◌, ◌-◌, ◌≤◌, ◌==◌, Bool, true, false, List, [], ◌∷◌, length, map, slice_index_or, Option, Some, None, if◌then◌else◌}
 use Rattle.std.specs.List.{list_any}
-use Rattle.tcmu_model.specs.Pending.{PendingData}
-use Rattle.tcmu_model.specs.Events.{is_among}
+use Rattle.region_model.specs.Pending.{PendingData}
+use Rattle.tcmu_types.specs.Numbers.{is_among}
 use Rattle.target_table.specs.declared.table.Ranked.{Ranked}
 use Rattle.target_table.specs.Rows.{Row, IsTable}
 

@@ -2,8 +2,8 @@
 use Rattle.std.specs.Prelude.{◌≡◌, ℕ, ◌+◌, ◌-◌, ◌≤◌, ◌<◌, ◌==◌, ◌&&◌, nat_lt, nat_le, not, Bool, true, false, suc, zero, List, [], ◌∷◌, length, Option, Some, None, if◌then◌else◌}
 use Rattle.std.specs.List.{list_any}
 use Rattle.std.specs.Option.{option_map}
-use Rattle.tcmu_model.specs.Lists.{first_of, without_first}
-use Rattle.tcmu_model.specs.Pending.{PendingData}
+use Rattle.tcmu_types.specs.Lists.{first_of, without_first}
+use Rattle.region_model.specs.Pending.{PendingData}
 
 pub record Row : Type 0 where
   pub id : ℕ

@@ -6,10 +6,11 @@ use Rattle.std.proofs.lemmas.List.Sums.{sum_by-cons}
 use Rattle.tcmu_types.specs.Data.{DoneData}
 use Rattle.tcmu_model.specs.RingState.{serials_in}
 use Rattle.tcmu_model.specs.Device.{Unfinished, Delayed, DeviceState}
-use Rattle.tcmu_model.specs.Events.{is_among}
-use Rattle.tcmu_model.specs.Sound.{Every, Rise, Differ, times_logged, times_open, is_accepted, is_open_at, is_delayed_at, IsSound}
-use Rattle.tcmu_model.proofs.Everies.{every-weaker, every-both, every-mapped}
-use Rattle.tcmu_model.proofs.Rises.{rise_within, among_every}
+use Rattle.tcmu_types.specs.Numbers.{is_among, Rise, Differ}
+use Rattle.tcmu_model.specs.Sound.{times_logged, times_open, is_accepted, is_open_at, is_delayed_at, IsSound}
+use Rattle.tcmu_types.specs.Lists.{Every}
+use Rattle.tcmu_types.proofs.Everies.{every-weaker, every-both, every-mapped}
+use Rattle.tcmu_types.proofs.Rises.{rise_within, among_every}
 use Rattle.tcmu_model.proofs.Basics.{rows_rise, rows_among}
 use Rattle.tcmu_model.proofs.Facts.{delayed_above}
 

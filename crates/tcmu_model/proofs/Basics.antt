@@ -6,11 +6,12 @@ use Rattle.std.proofs.lemmas.List.{take-append-drop}
 use Rattle.std.proofs.lemmas.List.Sums.{sum_by-cons}
 use Rattle.tcmu_model.specs.RingState.{RingState, Item, Laid, Pad, Cmd, Tmr, is_command, commands_in, serial_in, serials_in, cleared_commands, published_commands}
 use Rattle.tcmu_model.specs.Device.{Unfinished, DeviceState}
-use Rattle.tcmu_model.specs.Events.{is_among}
-use Rattle.tcmu_model.specs.Sound.{Every, Rise, finished, delayed_serials, dispatched_serials, SerialsSound, AnswersSound, RingSound}
+use Rattle.tcmu_types.specs.Numbers.{is_among, Rise}
+use Rattle.tcmu_model.specs.Sound.{finished, delayed_serials, dispatched_serials, SerialsSound, AnswersSound, RingSound}
+use Rattle.tcmu_types.specs.Lists.{Every}
 use Rattle.tcmu_model.proofs.Fronts.{commands_more}
-use Rattle.tcmu_model.proofs.Everies.{every-weaker, every-front, every-filter, every-passes, every-mapped}
-use Rattle.tcmu_model.proofs.Rises.{rise_front, rise_filter, among-append, among_every, every-among}
+use Rattle.tcmu_types.proofs.Everies.{every-weaker, every-front, every-filter, every-passes, every-mapped}
+use Rattle.tcmu_types.proofs.Rises.{rise_front, rise_filter, among-append, among_every, every-among}
 use Rattle.tcmu_model.proofs.Laying.{serials-append}
 
 pub laid_rise : (d : DeviceState) → SerialsSound d → Rise 0 (serials_in d.ring.laid) d.accepted

@@ -8,15 +8,15 @@ use Rattle.tcmu_types.specs.Events.{EventData, AnswerData, EntryData}
 use Rattle.tcmu_types.specs.Events as ev
 use Rattle.tcmu_types.specs.declared.answer.Handle.TheVariants as handle
 use Rattle.tcmu_model.specs.declared.state.CommandState.TheVariants.{Out, Placed}
-use Rattle.tcmu_model.specs.Lists.{first_of}
+use Rattle.tcmu_types.specs.Lists.{first_of, Every}
 use Rattle.tcmu_model.specs.RingState.{Item, Laid, Cmd}
 use Rattle.tcmu_model.specs.Device.{Unfinished, DeviceState, Device, is_at}
 use Rattle.tcmu_model.specs.Events.{with_command, enter_answer, after_enter, dispatch_answer, after_dispatch, after_handle, respond_answer, after_respond, publish_answer, after_publish, Books, finish, finish_all, completions, books, answered, clean_answer, after_clean}
 use Rattle.tcmu_model.specs.Steps.{HandlerRelation, asked, moved, Makes, Step}
 use Rattle.tcmu_model.specs.Drain.{drain_event, Drains}
-use Rattle.tcmu_model.specs.Sound.{Every, IsLaid, Along, IsItem, IsSound, times_logged, times_open, is_open_at, is_delayed_at}
+use Rattle.tcmu_model.specs.Sound.{IsLaid, Along, IsItem, IsSound, times_logged, times_open, is_open_at, is_delayed_at}
 use Rattle.tcmu_model.specs.Work.{work, Outcome, HasOutcomes, Ends}
-use Rattle.tcmu_model.proofs.Everies.{every-first}
+use Rattle.tcmu_types.proofs.Everies.{every-first}
 use Rattle.tcmu_model.proofs.Draining.{Choice, handles, responds, publishes, cleans, enters, dispatches, chosen_attached, work_falls}
 use Rattle.tcmu_model.proofs.Runs.{sound_step}
 use Rattle.tcmu_model.proofs.Drained.{drained}

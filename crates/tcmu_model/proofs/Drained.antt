@@ -8,17 +8,18 @@ use Rattle.std.proofs.lemmas.List.Sums.{sum_by-cons}
 use Rattle.tcmu_types.specs.declared.stat.Todo.{Todo}
 use Rattle.tcmu_model.specs.declared.state.CommandState.{CommandState}
 use Rattle.tcmu_model.specs.declared.state.CommandState.TheVariants.{Waiting, Out, Handled, Parked, Placed, Lost}
-use Rattle.tcmu_model.specs.Lists.{first_of}
+use Rattle.tcmu_types.specs.Lists.{first_of, Every}
 use Rattle.tcmu_model.specs.States.{same_state}
 use Rattle.tcmu_model.specs.RingState.{lengths, used, commands_in, serials_in, cleared_commands, published_commands}
 use Rattle.tcmu_model.specs.Device.{Unfinished, Delayed, DeviceState, has_state}
-use Rattle.tcmu_model.specs.Events.{is_among, publishable, held_blocks, free_blocks, blocks_in, entry_length_in, fits_ring, fits_blocks}
+use Rattle.tcmu_model.specs.Events.{publishable, held_blocks, free_blocks, blocks_in, entry_length_in, fits_ring, fits_blocks}
+use Rattle.tcmu_types.specs.Numbers.{is_among}
 use Rattle.tcmu_model.specs.Drain.{least_serial, can_enter, chosen, drain_event}
-use Rattle.tcmu_model.specs.Sound.{Every, CanWait, finished, dispatched_serials, state_fits, is_right, parked_rightly, IsSound}
-use Rattle.tcmu_model.proofs.Places.{none_first}
+use Rattle.tcmu_model.specs.Sound.{CanWait, finished, dispatched_serials, state_fits, is_right, parked_rightly, IsSound}
+use Rattle.tcmu_types.proofs.Firsts.{none_first}
 use Rattle.tcmu_model.proofs.Draining.{all_todo, todo_attached}
-use Rattle.tcmu_model.proofs.Everies.{every-weaker, every-map, every-both, none-every}
-use Rattle.tcmu_model.proofs.Rises.{count_differ, among-take, every-among}
+use Rattle.tcmu_types.proofs.Everies.{every-weaker, every-map, every-both, none-every}
+use Rattle.tcmu_types.proofs.Rises.{count_differ, among-take, every-among}
 use Rattle.tcmu_model.proofs.Laying.{empty_takes}
 use Rattle.tcmu_model.proofs.SoundLaying.{entry_least}
 use Rattle.tcmu_model.proofs.Basics.{laid_rise, rows_among, commands_serials, placed_every}

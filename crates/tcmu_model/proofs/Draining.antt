@@ -8,14 +8,15 @@ use Rattle.tcmu_types.specs.Events as ev
 use Rattle.tcmu_types.specs.declared.stat.Todo.{Todo}
 use Rattle.tcmu_types.specs.declared.answer.Handle.TheVariants as handle
 use Rattle.tcmu_model.specs.declared.state.CommandState.TheVariants.{Out, Handled}
-use Rattle.tcmu_model.specs.Lists.{first_of}
+use Rattle.tcmu_types.specs.Lists.{first_of}
 use Rattle.tcmu_model.specs.Device.{Unfinished, DeviceState, Device, has_state, is_at}
 use Rattle.tcmu_model.specs.Events.{publishable, is_handled, after_enter, after_respond, after_publish, after_clean, after_dispatch, enter_answer}
 use Rattle.tcmu_model.specs.Steps.{HandlerRelation, Step, Makes, moved}
 use Rattle.tcmu_model.specs.Drain.{least_serial, can_enter, todo_of, chosen, drain_event}
 use Rattle.tcmu_model.specs.Sound.{IsSound}
 use Rattle.tcmu_model.specs.Work.{work}
-use Rattle.tcmu_model.proofs.Places.{first_in_state, none_first}
+use Rattle.tcmu_model.proofs.Places.{first_in_state}
+use Rattle.tcmu_types.proofs.Firsts.{none_first}
 use Rattle.tcmu_model.proofs.Falls.{falls_handle, falls_respond, falls_publish, falls_clean, falls_enter, falls_dispatch}
 
 -- what a list of things to do says where an event is chosen

@@ -13,11 +13,13 @@ use Rattle.tcmu_model.specs.declared.state.CommandState.TheVariants.{Waiting, Ou
 use Rattle.tcmu_model.specs.States.{same_state}
 use Rattle.tcmu_model.specs.RingState.{Item, Laid, Pad, Cmd, Tmr, lengths, used, is_command, commands_in, serials_in, cleared_commands, published_commands, dispatched_commands, front_with}
 use Rattle.tcmu_model.specs.Device.{Unfinished, Delayed, DeviceState, has_state}
-use Rattle.tcmu_model.specs.Events.{is_among, publishable}
-use Rattle.tcmu_model.specs.Sound.{Every, Rise, Along, IsItem, finished, delayed_serials, dispatched_serials, state_fits, is_right, SerialsSound, AnswersSound, IsSound}
+use Rattle.tcmu_model.specs.Events.{publishable}
+use Rattle.tcmu_types.specs.Numbers.{is_among, Rise}
+use Rattle.tcmu_model.specs.Sound.{Along, IsItem, finished, delayed_serials, dispatched_serials, state_fits, is_right, SerialsSound, AnswersSound, IsSound}
+use Rattle.tcmu_types.specs.Lists.{Every}
 use Rattle.tcmu_model.proofs.Fronts.{front_holds, front_longest, front_short}
-use Rattle.tcmu_model.proofs.Everies.{every-weaker, every-take, every-drop, filter_same, filter_all, filter_twice, map_filter}
-use Rattle.tcmu_model.proofs.Rises.{rise_front, rise_seam, count_differ, differ-take, not_among, among_every, every-among}
+use Rattle.tcmu_types.proofs.Everies.{every-weaker, every-take, every-drop, filter_same, filter_all, filter_twice, map_filter}
+use Rattle.tcmu_types.proofs.Rises.{rise_front, rise_seam, count_differ, differ-take, not_among, among_every, every-among}
 use Rattle.tcmu_model.proofs.SoundLaying.{entry_least}
 use Rattle.tcmu_model.proofs.Basics.{laid_rise, serials_split, placed_every, commands_serials, cleared_placed}
 

@@ -7,16 +7,20 @@ use Rattle.std.proofs.lemmas.List.Sums.{sum_by_push}
 use Rattle.tcmu_types.specs.Data.{ReplyData}
 use Rattle.tcmu_model.specs.declared.state.CommandState.{CommandState}
 use Rattle.tcmu_model.specs.declared.state.CommandState.TheVariants.{Waiting, Out, Handled, Parked, Placed}
-use Rattle.tcmu_model.specs.Lists.{first_of, with_first}
+use Rattle.tcmu_types.specs.Lists.{first_of, with_first}
 use Rattle.tcmu_model.specs.RingState.{Item, Laid, Pad, Cmd, Tmr, pad, pads, with_item, next_place}
 use Rattle.tcmu_model.specs.Device.{Unfinished, Delayed, DeviceState, is_at}
-use Rattle.tcmu_model.specs.Events.{entry_length_in, waiting, with_command, is_among, with_placed, run_placed, placed_by, placing, is_handled, with_parked, in_state, Placing, after_respond, command_out, with_reply, after_handle, publishable, after_publish, Books, finish, finish_all, books, answered, cleaned_books, after_clean, after_enter, enter_answer, fits_ring, fits_blocks, next_item, after_item, after_dispatch}
+use Rattle.tcmu_model.specs.Events.{entry_length_in, waiting, with_command, with_placed, run_placed, placed_by, placing, is_handled, with_parked, in_state, Placing, after_respond, command_out, with_reply, after_handle, publishable, after_publish, Books, finish, finish_all, books, answered, cleaned_books, after_clean, after_enter, enter_answer, fits_ring, fits_blocks, next_item, after_item, after_dispatch}
+use Rattle.tcmu_types.specs.Numbers.{is_among}
 use Rattle.tcmu_model.specs.Drain.{can_enter}
 use Rattle.tcmu_model.specs.Sound.{RingSound}
 use Rattle.tcmu_model.specs.Work.{weight, work}
-use Rattle.tcmu_model.proofs.Counts.{sum-with_first_less, sum-with_first_same, sum-without_first, state_at}
+use Rattle.tcmu_model.proofs.CommandStates.{state_at}
+use Rattle.tcmu_types.proofs.Counts.{sum-with_first_less, sum-with_first_same, sum-without_first}
 use Rattle.tcmu_model.proofs.Fronts.{front_short}
-use Rattle.tcmu_model.proofs.Places.{any_first, next_within, within, get_none}
+use Rattle.tcmu_model.proofs.Places.{next_within}
+use Rattle.tcmu_types.proofs.Places.{within, get_none}
+use Rattle.tcmu_types.proofs.Firsts.{any_first}
 
 weighs : (s : ℕ) (t : CommandState) (u : Unfinished) → is_at s t u ≡ true → weight u ≡ weight (in_state t u)
 weighs s t u h = let e : u.state ≡ t = state_at s t u h in ap (λ x. weight (record u { state = x })) e

@@ -3,12 +3,7 @@ use Rattle.std.proofs.Common.{◌≡◌, ℕ, ◌+◌, List, [], ◌∷◌, take
 use Rattle.std.proofs.lemmas.List.Sums.{sum_by-cons}
 use Rattle.tcmu_model.specs.RingState.{Item, lengths}
 use Rattle.tcmu_model.specs.Device.{DeviceState}
-use Rattle.tcmu_model.specs.Sound.{Every, Along, IsItem, IsSound}
-
-pub every_at : {X : Type 0} (P : X → Type 0) (xs : List X) (i : ℕ) (x : X) → Every P xs → slice_get xs i ≡ Some x → P x
-every_at P [] i x e h = absurd (cc)
-every_at P (y ∷ xs) zero x e h = let q : y ≡ x = cc in subst P q e.0
-every_at P (y ∷ xs) (suc i) x e h = every_at P xs i x e.1 h
+use Rattle.tcmu_model.specs.Sound.{Along, IsItem, IsSound}
 
 pub along_at : (P : ℕ → Item → Type 0) (start : ℕ) (is : List Item) (i : ℕ) (x : Item) → Along P start is → slice_get is i ≡ Some x → P (start + lengths (take i is)) x
 along_at P start [] i x e h = absurd (cc)

@@ -19,15 +19,15 @@ use Rattle.tcmu_types.specs.declared.answer.Tmr.TheVariants as tmr
 use Rattle.tcmu_model.specs.declared.state.CommandState.{CommandState}
 use Rattle.tcmu_model.specs.declared.state.CommandState.TheVariants.{Waiting, Out, Handled, Parked, Placed, Lost}
 use Rattle.tcmu_model.specs.MediumState.{MediumState}
-use Rattle.tcmu_model.specs.Lists.{first_of, with_first, without_first}
+use Rattle.tcmu_types.specs.Lists.{first_of, with_first, without_first, Every}
 use Rattle.tcmu_model.specs.RingState.{Item, Laid, Pad, Cmd, Tmr, serials_in}
 use Rattle.tcmu_model.specs.Device.{Unfinished, Delayed, DeviceState, Device, is_at, has_state, opening}
-use Rattle.tcmu_model.specs.Events.{with_command, with_delayed, with_note, after_submit, after_entering, after_enter, in_state, next_item, passed, after_item, after_dispatch, with_reply, after_handle, is_among, Placing, with_placed, run_placed, placed_by, placing, is_handled, with_parked, after_respond, publishable, after_publish, completion, completions, Books, finish, finish_all, answered, books, after_clean, later, is_due, has_left, expire, expiry, departure, tick_completions, after_tick, after_block, is_open, closing, check_condition, reset_completion, reset_completions, emptied, count_in_hand, clean_answer, reset_answer, after_reset, is_losing, lose, after_restart, after_tmr}
+use Rattle.tcmu_model.specs.Events.{with_command, with_delayed, with_note, after_submit, after_entering, after_enter, in_state, next_item, passed, after_item, after_dispatch, with_reply, after_handle, Placing, with_placed, run_placed, placed_by, placing, is_handled, with_parked, after_respond, publishable, after_publish, completion, completions, Books, finish, finish_all, answered, books, after_clean, later, is_due, has_left, expire, expiry, departure, tick_completions, after_tick, after_block, is_open, closing, check_condition, reset_completion, reset_completions, emptied, count_in_hand, clean_answer, reset_answer, after_reset, is_losing, lose, after_restart, after_tmr}
+use Rattle.tcmu_types.specs.Numbers.{is_among}
 use Rattle.tcmu_model.specs.Steps.{HandlerRelation, moved, Makes, Handles, Step, Run}
-use Rattle.tcmu_model.specs.Sound.{Every}
 use Rattle.tcmu_model.specs.Journals.{Has, WasDelayed, WasAccepted, HasReplied, HasTicked, WasReset, IsAnswered, IsClosed, IsExplained, IsKnown, IsOfJournal, expired, left, reset}
-use Rattle.tcmu_model.proofs.Counts.{serial_at}
-use Rattle.tcmu_model.proofs.Everies.{every-weaker, every-map, every-append, every-filter, every-with_first, every-without_first, every-first}
+use Rattle.tcmu_model.proofs.CommandStates.{serial_at}
+use Rattle.tcmu_types.proofs.Everies.{every-weaker, every-map, every-append, every-filter, every-with_first, every-without_first, every-first}
 use Rattle.tcmu_model.proofs.SoundEvents.{reset_serial}
 
 -- ==== a longer journal

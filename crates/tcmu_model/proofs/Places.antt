@@ -1,30 +1,14 @@
 -- Where the first item that passes a test stands, and that the ring's next item is there.
-use Rattle.std.proofs.Common.{◌≡◌, ℕ, ◌-◌, ◌<◌, ◌≤◌, Bool, true, false, List, [], ◌∷◌, length, drop, slice_get, Some, None, refl, arith, suc, zero, ⊎_elim, subst, eqb}
+use Rattle.std.proofs.Common.{◌≡◌, ℕ, ◌-◌, ◌<◌, true, false, List, [], ◌∷◌, length, drop, Some, refl, arith, suc, zero, ⊎_elim, subst, eqb}
 use Rattle.std.specs.List.{list_any, prefix_len}
 use Rattle.std.proofs.lemmas.Bool.{cases_Bool, or_right, and_from, eq-eqb}
 use Rattle.std.proofs.lemmas.List.{length-drop}
 use Rattle.tcmu_model.specs.declared.state.CommandState.{CommandState}
 use Rattle.tcmu_model.specs.States.{same_state}
-use Rattle.tcmu_model.specs.Lists.{first_of}
+use Rattle.tcmu_types.specs.Lists.{first_of}
 use Rattle.tcmu_model.specs.RingState.{RingState, Item, is_pad, next_place}
 use Rattle.tcmu_model.specs.Device.{Unfinished, has_state, is_at}
 use Rattle.tcmu_model.specs.Sound.{EndsInAnItem}
-
-pub any_first : {X : Type 0} (p : X → Bool) (xs : List X) (x : X) → first_of p xs ≡ Some x → list_any p xs ≡ true
-any_first p [] x h = absurd (cc)
-any_first p (y ∷ xs) x h =
-    ⊎_elim
-    (λ (e : p y ≡ true). rw e refl)
-    (λ (e : p y ≡ false). let k : first_of p xs ≡ Some x = rw e at h in rw e (any_first p xs x k))
-    (cases_Bool (p y))
-
-pub none_first : {X : Type 0} (p : X → Bool) (xs : List X) → first_of p xs ≡ None → list_any p xs ≡ false
-none_first p [] h = refl
-none_first p (y ∷ xs) h =
-    ⊎_elim
-    (λ (e : p y ≡ true). let k : Some y ≡ None = rw e at h in absurd (cc))
-    (λ (e : p y ≡ false). let k : first_of p xs ≡ None = rw e at h in rw e (none_first p xs k))
-    (cases_Bool (p y))
 
 -- the first in a state is there under its serial
 pub first_in_state : (t : CommandState) (us : List Unfinished) (u : Unfinished) → first_of (has_state t) us ≡ Some u → list_any (is_at u.serial t) us ≡ true
@@ -64,13 +48,3 @@ next_within r h l =
     let n : length (drop r.dispatched r.laid) ≡ length r.laid - r.dispatched = length-drop r.dispatched r.laid in
     let k : prefix_len is_pad (drop r.dispatched r.laid) < length (drop r.dispatched r.laid) = pads_within (drop r.dispatched r.laid) (ends-drop r.dispatched r.laid h) (omega (arith, n, l)) in
     omega (arith, n, k)
-
-pub within : {X : Type 0} (xs : List X) (i : ℕ) (x : X) → slice_get xs i ≡ Some x → i < length xs
-within [] i x h = absurd (cc)
-within (y ∷ xs) zero x h = omega arith
-within (y ∷ xs) (suc i) x h = omega (arith, within xs i x h)
-
-pub get_none : {X : Type 0} (xs : List X) (i : ℕ) → slice_get xs i ≡ None → length xs ≤ i
-get_none [] i h = omega arith
-get_none (y ∷ xs) zero h = absurd (cc)
-get_none (y ∷ xs) (suc i) h = omega (arith, get_none xs i h)

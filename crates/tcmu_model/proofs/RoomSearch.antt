@@ -3,7 +3,7 @@ use Rattle.std.proofs.Common.{◌≡◌, ℕ, ◌+◌, ◌-◌, ◌<◌, true, f
 use Rattle.std.proofs.lemmas.List.{drop-map}
 use Rattle.std.proofs.lemmas.List.Folds.{fold-map}
 use Rattle.tcmu_model.specs.RingState.{items_of, lengths, Pad}
-use Rattle.tcmu_model.specs.Events.{is_among}
+use Rattle.tcmu_types.specs.Numbers.{is_among}
 use Rattle.tcmu_model.specs.BlockLists.{free_from}
 
 pub sum_of_items : (lens : List ℕ) → lengths (items_of lens) ≡ sum lens

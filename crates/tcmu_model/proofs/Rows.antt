@@ -6,10 +6,10 @@ use Rattle.std.proofs.lemmas.List.Sums.{sum_by-cons}
 use Rattle.tcmu_types.specs.Data.{CommandData}
 use Rattle.tcmu_model.specs.declared.state.CommandState.{CommandState}
 use Rattle.tcmu_model.specs.declared.state.CommandState.TheVariants.{Waiting, Out, Handled, Parked, Placed, Lost}
-use Rattle.tcmu_model.specs.Lists.{with_first}
+use Rattle.tcmu_types.specs.Lists.{with_first, Every}
 use Rattle.tcmu_model.specs.Device.{Unfinished, DeviceState, has_state}
 use Rattle.tcmu_model.specs.Events.{is_open, in_state, blocks_in, held_blocks}
-use Rattle.tcmu_model.specs.Sound.{Every, IsLaid, is_open_at, state_fits, parked_rightly, SerialsSound, RoomSound}
+use Rattle.tcmu_model.specs.Sound.{IsLaid, is_open_at, state_fits, parked_rightly, SerialsSound, RoomSound}
 
 pub record Same (u v : Unfinished) : Type 0 where
   pub serial : v.serial ≡ u.serial

@@ -10,15 +10,17 @@ use Rattle.std.proofs.lemmas.List.Sums.{sum_by-cons, sum_by_push, sum_by-take-dr
 use Rattle.tcmu_types.specs.Data.{ReplyData, DoneData}
 use Rattle.tcmu_model.specs.declared.state.CommandState.{CommandState}
 use Rattle.tcmu_model.specs.declared.state.CommandState.TheVariants.{Waiting, Out, Handled, Parked, Placed, Lost}
-use Rattle.tcmu_model.specs.Lists.{first_of, without_first}
+use Rattle.tcmu_types.specs.Lists.{first_of, without_first, Every}
 use Rattle.tcmu_model.specs.RingState.{RingState, Item, lengths, used, serials_in, published_commands, cleared_commands}
 use Rattle.tcmu_model.specs.Device.{Unfinished, DeviceState, has_state, is_at}
-use Rattle.tcmu_model.specs.Events.{is_among, blocks_in, completion, completions, Books, finish, finish_all, answered, books, cleaned_books, after_clean}
-use Rattle.tcmu_model.specs.Sound.{Every, Rise, ReplyFits, IsLaid, finished, dispatched_serials, is_open_at, times_logged, state_fits, is_right, parked_rightly, AnswersSound, IsSound}
-use Rattle.tcmu_model.proofs.Counts.{serial_at, sum-without_first, counts_none, counts_one}
-use Rattle.tcmu_model.proofs.Firsts.{without_first_missing}
-use Rattle.tcmu_model.proofs.Everies.{every-weaker, every-filter, every-all, filter_twice, filter_all, map_filter}
-use Rattle.tcmu_model.proofs.Rises.{rise_filter, among-take, among_every, among-all}
+use Rattle.tcmu_model.specs.Events.{blocks_in, completion, completions, Books, finish, finish_all, answered, books, cleaned_books, after_clean}
+use Rattle.tcmu_types.specs.Numbers.{is_among, Rise}
+use Rattle.tcmu_model.specs.Sound.{ReplyFits, IsLaid, finished, dispatched_serials, is_open_at, times_logged, state_fits, is_right, parked_rightly, AnswersSound, IsSound}
+use Rattle.tcmu_model.proofs.CommandStates.{serial_at}
+use Rattle.tcmu_types.proofs.Counts.{sum-without_first, counts_none, counts_one}
+use Rattle.tcmu_types.proofs.Firsts.{without_first_missing}
+use Rattle.tcmu_types.proofs.Everies.{every-weaker, every-filter, every-all, filter_twice, filter_all, map_filter}
+use Rattle.tcmu_types.proofs.Rises.{rise_filter, among-take, among_every, among-all}
 use Rattle.tcmu_model.proofs.Turning.{taken_filter}
 use Rattle.tcmu_model.proofs.Basics.{rows_rise, cleared_published}
 

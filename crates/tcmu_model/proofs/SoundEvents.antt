@@ -15,12 +15,13 @@ use Rattle.tcmu_model.specs.declared.state.CommandState.TheVariants.{Waiting, Ou
 use Rattle.tcmu_model.specs.States.{same_state}
 use Rattle.tcmu_model.specs.RingState.{Item, need, free, fits, serials_in, commands_in, published_commands, front_with}
 use Rattle.tcmu_model.specs.Device.{Unfinished, Delayed, DeviceState, has_state, opening_state}
-use Rattle.tcmu_model.specs.Events.{is_among, is_open, answered, publishable, after_publish, after_block, later, is_due, has_left, expire, expiry, departure, tick_completions, after_tick, count_in_hand, reset_completion, reset_completions, emptied, after_reset, after_clean, is_losing, lose, after_restart, unknown_serial, tmr_length_of, tmr_answer, after_tmr, blocks_in, held_blocks}
-use Rattle.tcmu_model.specs.Sound.{Rise, CanWait, ReplyFits, IsLaid, delayed_serials, is_open_at, is_delayed_at, times_logged, dispatched_serials, state_fits, is_right, parked_rightly, IsSound}
-use Rattle.tcmu_model.proofs.Counts.{sum-map_same, counts_none, counts_one}
+use Rattle.tcmu_model.specs.Events.{is_open, answered, publishable, after_publish, after_block, later, is_due, has_left, expire, expiry, departure, tick_completions, after_tick, count_in_hand, reset_completion, reset_completions, emptied, after_reset, after_clean, is_losing, lose, after_restart, unknown_serial, tmr_length_of, tmr_answer, after_tmr, blocks_in, held_blocks}
+use Rattle.tcmu_types.specs.Numbers.{is_among, Rise}
+use Rattle.tcmu_model.specs.Sound.{CanWait, ReplyFits, IsLaid, delayed_serials, is_open_at, is_delayed_at, times_logged, dispatched_serials, state_fits, is_right, parked_rightly, IsSound}
+use Rattle.tcmu_types.proofs.Counts.{sum-map_same, counts_none, counts_one}
 use Rattle.tcmu_model.proofs.Fronts.{front_holds, front_longest, front_short}
-use Rattle.tcmu_model.proofs.Everies.{every-map, every-weaker, every-filter, map_kept}
-use Rattle.tcmu_model.proofs.Rises.{rise_from, rise_order, among-take}
+use Rattle.tcmu_types.proofs.Everies.{every-map, every-weaker, every-filter, map_kept}
+use Rattle.tcmu_types.proofs.Rises.{rise_from, rise_order, among-take}
 use Rattle.tcmu_model.proofs.Rows.{Same, SameRows, rows-map, serials_same, room_same, fits_attached, parked_kept, none_parked}
 use Rattle.tcmu_model.proofs.SoundLaying.{sound_noted}
 use Rattle.tcmu_model.proofs.SoundClean.{sound_after_clean}

@@ -13,10 +13,12 @@ use Rattle.tcmu_model.specs.declared.state.CommandState.TheVariants.{Parked, Pla
 use Rattle.tcmu_model.specs.Lengths.{blocks_of, entry_length, tmr_length, round_up}
 use Rattle.tcmu_model.specs.RingState.{Item, Cmd, Tmr, with_item, fits, commands_in, serials_in, cleared_commands, published_commands, pads, pad}
 use Rattle.tcmu_model.specs.Device.{Unfinished, Delayed, DeviceState, has_state}
-use Rattle.tcmu_model.specs.Events.{is_among, held_blocks, free_blocks, blocks_in, entry_length_in, fits_ring, fits_blocks, waiting, with_note, tmr_length_of}
-use Rattle.tcmu_model.specs.Sound.{Every, Rise, CanWait, ReplyFits, IsLaid, finished, delayed_serials, dispatched_serials, times_logged, times_open, is_accepted, is_right, state_fits, parked_rightly, SerialsSound, AnswersSound, IsSound}
-use Rattle.tcmu_model.proofs.Everies.{every-weaker, every-append, every-take}
-use Rattle.tcmu_model.proofs.Rises.{rise_seam, not_among}
+use Rattle.tcmu_model.specs.Events.{held_blocks, free_blocks, blocks_in, entry_length_in, fits_ring, fits_blocks, waiting, with_note, tmr_length_of}
+use Rattle.tcmu_types.specs.Numbers.{is_among, Rise}
+use Rattle.tcmu_model.specs.Sound.{CanWait, ReplyFits, IsLaid, finished, delayed_serials, dispatched_serials, times_logged, times_open, is_accepted, is_right, state_fits, parked_rightly, SerialsSound, AnswersSound, IsSound}
+use Rattle.tcmu_types.specs.Lists.{Every}
+use Rattle.tcmu_types.proofs.Everies.{every-weaker, every-append, every-take}
+use Rattle.tcmu_types.proofs.Rises.{rise_seam, not_among}
 use Rattle.tcmu_model.proofs.Laying.{take_laid, serials_laid, laid_more, laid_last, ring_with}
 use Rattle.tcmu_model.proofs.Basics.{dispatched_every, placed_every}
 

@@ -10,12 +10,14 @@ use Rattle.tcmu_model.specs.declared.state.CommandState.TheVariants.{Waiting, Ou
 use Rattle.tcmu_model.specs.States.{same_state}
 use Rattle.tcmu_model.specs.RingState.{serials_in, published_commands, cleared_commands}
 use Rattle.tcmu_model.specs.Device.{Unfinished, DeviceState, has_state, is_at}
-use Rattle.tcmu_model.specs.Events.{is_among, in_state, turned, is_handled, with_parked, Placing, with_placed, run_placed, placed_by, placing, after_respond}
-use Rattle.tcmu_model.specs.Sound.{Every, Rise, Begins, Differ, ReplyFits, finished, dispatched_serials, state_fits, is_right, parked_rightly, SerialsSound, IsSound}
-use Rattle.tcmu_model.proofs.Counts.{state_at, serial_at}
-use Rattle.tcmu_model.proofs.Firsts.{any-with_first}
-use Rattle.tcmu_model.proofs.Everies.{every-map, every-weaker, every-both, every-append, found, none-every}
-use Rattle.tcmu_model.proofs.Rises.{among-append, among-take, among-filter, among_every, among-here, differ-push, not_above, not_among, rise_seam, every-among}
+use Rattle.tcmu_model.specs.Events.{in_state, turned, is_handled, with_parked, Placing, with_placed, run_placed, placed_by, placing, after_respond}
+use Rattle.tcmu_types.specs.Numbers.{is_among, Rise, Begins, Differ}
+use Rattle.tcmu_model.specs.Sound.{ReplyFits, finished, dispatched_serials, state_fits, is_right, parked_rightly, SerialsSound, IsSound}
+use Rattle.tcmu_types.specs.Lists.{Every}
+use Rattle.tcmu_model.proofs.CommandStates.{state_at, serial_at}
+use Rattle.tcmu_types.proofs.Firsts.{any-with_first}
+use Rattle.tcmu_types.proofs.Everies.{every-map, every-weaker, every-both, every-append, found, none-every}
+use Rattle.tcmu_types.proofs.Rises.{among-append, among-take, among-filter, among_every, among-here, differ-push, not_above, not_among, rise_seam, every-among}
 use Rattle.tcmu_model.proofs.Turning.{turning, turned_map}
 use Rattle.tcmu_model.proofs.Basics.{laid_rise, rows_rise, rows_among, cleared_placed}
 use Rattle.tcmu_model.proofs.Rows.{SameRows, rows-trans, rows-turned, rows-serials, rows-every, state_kept, serials_same, room_same, fits_attached, placed_stands, none_parked}

@@ -13,9 +13,11 @@ use Rattle.tcmu_types.specs.declared.answer.Enter.TheVariants as enter
 use Rattle.tcmu_model.specs.RingState.{serials_in, need, free}
 use Rattle.tcmu_model.specs.Device.{Unfinished, Delayed, DeviceState}
 use Rattle.tcmu_model.specs.Events.{blocks_in, entry_length_in, fits_ring, fits_blocks, waiting, with_command, with_delayed, one_accepted, queued_or_full, queued_or_delayed, submit_answer, after_submit, enter_answer, after_enter, after_entering, free_blocks}
-use Rattle.tcmu_model.specs.Sound.{Every, Rise, CanWait, delayed_serials, times_open, is_open_at, is_delayed_at, IsSound}
-use Rattle.tcmu_model.proofs.Everies.{every-append}
-use Rattle.tcmu_model.proofs.Rises.{rise_push}
+use Rattle.tcmu_model.specs.Sound.{CanWait, delayed_serials, times_open, is_open_at, is_delayed_at, IsSound}
+use Rattle.tcmu_types.specs.Numbers.{Rise}
+use Rattle.tcmu_types.specs.Lists.{Every}
+use Rattle.tcmu_types.proofs.Everies.{every-append}
+use Rattle.tcmu_types.proofs.Rises.{rise_push}
 use Rattle.tcmu_model.proofs.SoundLaying.{entered, sound_entered}
 
 -- ==== the serials that are accepted

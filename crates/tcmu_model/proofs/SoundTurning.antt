@@ -7,16 +7,17 @@ use Rattle.std.proofs.lemmas.Bool.{cases_Bool, false≢true, eqb-true, eqb-false
 use Rattle.tcmu_types.specs.Data.{CommandData, ReplyData}
 use Rattle.tcmu_model.specs.declared.state.CommandState.{CommandState}
 use Rattle.tcmu_model.specs.declared.state.CommandState.TheVariants.{Waiting, Out, Handled, Parked, Placed}
-use Rattle.tcmu_model.specs.Lists.{first_of, with_first}
+use Rattle.tcmu_types.specs.Lists.{first_of, with_first, Every}
 use Rattle.tcmu_model.specs.States.{same_state}
 use Rattle.tcmu_model.specs.RingState.{Item, Laid, Pad, Cmd, Tmr, is_pad, serial_in, serials_in, next_place, published_commands}
 use Rattle.tcmu_model.specs.Device.{Unfinished, DeviceState, has_state, is_at}
-use Rattle.tcmu_model.specs.Events.{is_among, in_state, turned, next_item, passed, after_item, after_dispatch, command_out, with_reply, after_handle}
-use Rattle.tcmu_model.specs.Sound.{Every, Rise, ReplyFits, dispatched_serials, state_fits, is_right, parked_rightly, RingSound, IsSound}
-use Rattle.tcmu_model.proofs.Counts.{state_at}
-use Rattle.tcmu_model.proofs.Everies.{every-map, every-weaker}
-use Rattle.tcmu_model.proofs.Rises.{rise_seam, not_among, among-append, among_every}
-use Rattle.tcmu_model.proofs.Places.{within}
+use Rattle.tcmu_model.specs.Events.{in_state, turned, next_item, passed, after_item, after_dispatch, command_out, with_reply, after_handle}
+use Rattle.tcmu_types.specs.Numbers.{is_among, Rise}
+use Rattle.tcmu_model.specs.Sound.{ReplyFits, dispatched_serials, state_fits, is_right, parked_rightly, RingSound, IsSound}
+use Rattle.tcmu_model.proofs.CommandStates.{state_at}
+use Rattle.tcmu_types.proofs.Everies.{every-map, every-weaker}
+use Rattle.tcmu_types.proofs.Rises.{rise_seam, not_among, among-append, among_every}
+use Rattle.tcmu_types.proofs.Places.{within}
 use Rattle.tcmu_model.proofs.Turning.{turning, turned_map}
 use Rattle.tcmu_model.proofs.Basics.{laid_rise, rows_rise, serials_split}
 use Rattle.tcmu_model.proofs.Rows.{Same, SameRows, rows-turned, state_kept, serials_same, room_same, undispatched_waits, parked_kept}

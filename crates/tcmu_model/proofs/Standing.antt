@@ -9,10 +9,12 @@ use Rattle.tcmu_model.specs.declared.state.CommandState.TheVariants.{Waiting, Ou
 use Rattle.tcmu_model.specs.States.{same_state}
 use Rattle.tcmu_model.specs.RingState.{serials_in, cleared_commands, dispatched_commands}
 use Rattle.tcmu_model.specs.Device.{Unfinished, DeviceState, has_state, has_serial}
-use Rattle.tcmu_model.specs.Events.{is_among, answered, is_in_hand}
-use Rattle.tcmu_model.specs.Sound.{Every, Rise, Differ, finished, dispatched_serials, state_fits, is_right, awaits_answer, SerialsSound, IsSound}
-use Rattle.tcmu_model.proofs.Everies.{every-weaker, every-both, every-take, every-drop, every-all}
-use Rattle.tcmu_model.proofs.Rises.{not_above, among-filter, among_every, every-among, count_differ, differ-take}
+use Rattle.tcmu_model.specs.Events.{answered, is_in_hand}
+use Rattle.tcmu_types.specs.Numbers.{is_among, Rise, Differ}
+use Rattle.tcmu_model.specs.Sound.{finished, dispatched_serials, state_fits, is_right, awaits_answer, SerialsSound, IsSound}
+use Rattle.tcmu_types.specs.Lists.{Every}
+use Rattle.tcmu_types.proofs.Everies.{every-weaker, every-both, every-take, every-drop, every-all}
+use Rattle.tcmu_types.proofs.Rises.{among-filter, among_every, every-among, count_differ, differ-take, rise_differ}
 use Rattle.tcmu_model.proofs.Basics.{laid_rise, commands_serials, among_more}
 use Rattle.tcmu_model.proofs.Facts.{dispatched_rise, placed_laid}
 
@@ -127,10 +129,6 @@ count_left F A L high r df da lf la fa =
         let cf : cond {A = ℕ} (is_among F x) 1 0 ≡ 0 = ap (λ t. cond {A = ℕ} t 1 0) e in
         omega (arith, a, f, b, cf, split xs))
         (cases_Bool (is_among F x))
-
-pub rise_differ : (low : ℕ) (xs : List ℕ) (high : ℕ) → Rise low xs high → Differ xs
-rise_differ low [] high r = tt
-rise_differ low (x ∷ xs) high r = (not_above x xs high x r.1 (omega arith), rise_differ x xs high r.1)
 
 -- a row counts as dispatched, as answered, or as one that awaits an answer
 row_counts : (dispatched placed published attached : Bool) (t : CommandState) (r : Bool) → (placed ≡ true → dispatched ≡ true) → state_fits dispatched placed published attached t r ≡ true →

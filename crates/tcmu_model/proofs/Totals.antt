@@ -7,10 +7,10 @@ use Rattle.tcmu_types.specs.Data.{DoneData}
 use Rattle.tcmu_model.specs.RingState.{serials_in}
 use Rattle.tcmu_model.specs.Device.{Unfinished, Delayed, DeviceState}
 use Rattle.tcmu_model.specs.Events.{is_open}
-use Rattle.tcmu_model.specs.Replay.{open_count}
-use Rattle.tcmu_model.specs.Sound.{Every, times_logged, is_open_at, is_delayed_at, delayed_serials, IsSound}
-use Rattle.tcmu_model.proofs.Everies.{every-weaker, every-mapped, every-back}
-use Rattle.tcmu_model.proofs.Rises.{rise_within}
+use Rattle.tcmu_model.specs.Sound.{open_count, times_logged, is_open_at, is_delayed_at, delayed_serials, IsSound}
+use Rattle.tcmu_types.specs.Lists.{Every}
+use Rattle.tcmu_types.proofs.Everies.{every-weaker, every-mapped, every-back}
+use Rattle.tcmu_types.proofs.Rises.{rise_within}
 use Rattle.tcmu_model.proofs.Basics.{rows_rise}
 use Rattle.tcmu_model.proofs.Accounts.{log_accepted, each_once}
 

@@ -5,11 +5,11 @@ use Rattle.std.proofs.lemmas.Bool.{cases_Bool, ne_eqb, eq-eqb, eqb-true, eqb-fal
 use Rattle.tcmu_model.specs.declared.state.CommandState.{CommandState}
 use Rattle.tcmu_model.specs.declared.state.CommandState.TheVariants.{Waiting, Out, Handled, Parked, Placed, Lost}
 use Rattle.tcmu_model.specs.States.{same_state}
-use Rattle.tcmu_model.specs.Lists.{without_first, with_first}
+use Rattle.tcmu_types.specs.Lists.{without_first, with_first, Every}
 use Rattle.tcmu_model.specs.Device.{Unfinished, is_at}
-use Rattle.tcmu_model.specs.Sound.{Every, Rise}
-use Rattle.tcmu_model.proofs.Counts.{serial_at}
-use Rattle.tcmu_model.proofs.Everies.{every-weaker, map_same, filter_all}
+use Rattle.tcmu_types.specs.Numbers.{Rise}
+use Rattle.tcmu_model.proofs.CommandStates.{serial_at}
+use Rattle.tcmu_types.proofs.Everies.{every-weaker, map_same, filter_all}
 
 -- what passes changes
 abbrev pub turning : (Unfinished → Bool) → (Unfinished → Unfinished) → Unfinished → Unfinished

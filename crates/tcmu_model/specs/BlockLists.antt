@@ -6,10 +6,11 @@ use Rattle.tcmu_types.specs.Events.{EventData, AnswerData, EntryData}
 use Rattle.tcmu_types.specs.Events as ev
 use Rattle.tcmu_types.specs.declared.answer.Submit.TheVariants as submit
 use Rattle.tcmu_types.specs.declared.answer.Enter.TheVariants as enter
-use Rattle.tcmu_model.specs.Lists.{first_of}
+use Rattle.tcmu_types.specs.Lists.{first_of}
 use Rattle.tcmu_model.specs.RingState.{serials_in}
 use Rattle.tcmu_model.specs.Device.{Unfinished, DeviceState, Device, has_serial}
-use Rattle.tcmu_model.specs.Events.{blocks_in, is_among}
+use Rattle.tcmu_model.specs.Events.{blocks_in}
+use Rattle.tcmu_types.specs.Numbers.{is_among}
 use Rattle.tcmu_model.specs.Steps.{HandlerRelation, Step}
 
 -- the blocks of the command of a serial

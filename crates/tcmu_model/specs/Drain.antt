@@ -5,7 +5,7 @@ use Rattle.tcmu_types.specs.Events.{EventData, EntryData}
 use Rattle.tcmu_types.specs.Events as ev
 use Rattle.tcmu_types.specs.declared.stat.Todo.{Todo}
 use Rattle.tcmu_model.specs.declared.state.CommandState.TheVariants.{Out, Handled}
-use Rattle.tcmu_model.specs.Lists.{first_of}
+use Rattle.tcmu_types.specs.Lists.{first_of}
 use Rattle.tcmu_model.specs.Device.{Unfinished, Delayed, DeviceState, Device, has_state}
 use Rattle.tcmu_model.specs.Events.{publishable, fits_ring, fits_blocks}
 use Rattle.tcmu_model.specs.Steps.{HandlerRelation, Step}

@@ -19,11 +19,12 @@ use Rattle.tcmu_types.specs.declared.answer.Tmr.{Tmr}
 use Rattle.tcmu_types.specs.declared.answer.Tmr.TheVariants as tmr
 use Rattle.tcmu_model.specs.declared.state.CommandState.{CommandState}
 use Rattle.tcmu_model.specs.declared.state.CommandState.TheVariants.{Waiting, Out, Handled, Parked, Placed, Lost}
-use Rattle.tcmu_model.specs.Lists.{first_of, without_first, with_first}
+use Rattle.tcmu_types.specs.Lists.{first_of, without_first, with_first}
 use Rattle.tcmu_model.specs.Lengths.{blocks_of, entry_length, tmr_length}
 use Rattle.tcmu_model.specs.RingState.{RingState, Item, Pad, Cmd, head, used, free, need, fits, with_item, commands_in, serials_in, next_place, front_with, published_commands, empty_ring}
 use Rattle.tcmu_model.specs.RingState as laid
 use Rattle.tcmu_model.specs.Device.{Unfinished, Delayed, DeviceState, has_serial, has_state, is_at}
+use Rattle.tcmu_types.specs.Numbers.{is_among}
 
 -- ==== room
 
@@ -175,10 +176,6 @@ is_handled d s = list_any (is_at s Handled) d.unfinished
 -- the command is parked
 abbrev pub with_parked : DeviceState → ℕ → List Unfinished
 with_parked d s = turned s Handled Parked d.unfinished
-
--- this serial stands in a list
-abbrev pub is_among : List ℕ → ℕ → Bool
-is_among ss s = list_any (λ k. k == s) ss
 
 -- the serials placed so far, and the unfinished commands
 pub record Placing : Type 0 where

@@ -2,7 +2,7 @@
 use Rattle.std.specs.Prelude.{◌≡◌, ℕ, true, false, List, [], ◌∷◌, ◌++◌, replicate, map, Some, None, Option, suc, zero}
 use Rattle.tcmu_types.specs.Data.{CommandData, ReplyData, SettingsData}
 use Rattle.tcmu_types.specs.declared.settings.Flags.{Flags}
-use Rattle.tcmu_types.specs.Events.{EventData, AnswerData, DispatchData, Job, Note, Nothing, Detached}
+use Rattle.tcmu_types.specs.Events.{EventData, AnswerData, Job, Note, Detached}
 use Rattle.tcmu_types.specs.Events as ev
 use Rattle.tcmu_types.specs.declared.answer.Handle.TheVariants as handle
 use Rattle.tcmu_types.specs.declared.answer.Submit.TheVariants as submit

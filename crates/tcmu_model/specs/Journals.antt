@@ -8,7 +8,7 @@ use Rattle.tcmu_types.specs.declared.answer.Handle.TheVariants as handle
 use Rattle.tcmu_types.specs.declared.answer.Reset.TheVariants as reset_answer
 use Rattle.tcmu_model.specs.Device.{Unfinished, DeviceState}
 use Rattle.tcmu_model.specs.Events.{completion, closing, check_condition}
-use Rattle.tcmu_model.specs.Sound.{Every}
+use Rattle.tcmu_types.specs.Lists.{Every}
 
 -- an entry of the journal is this event with this answer
 abbrev pub Has : List EntryData → EventData → AnswerData → Type 0

@@ -4,9 +4,10 @@ use Rattle.tcmu_types.specs.Data.{CommandData}
 use Rattle.tcmu_model.specs.Lengths.{blocks_of, entry_length}
 use Rattle.tcmu_model.specs.RingState.{Cmd, need, free, serials_in}
 use Rattle.tcmu_model.specs.Device.{DeviceState}
-use Rattle.tcmu_model.specs.Events.{is_among, held_blocks}
+use Rattle.tcmu_model.specs.Events.{held_blocks}
+use Rattle.tcmu_types.specs.Numbers.{is_among, Differ}
 use Rattle.tcmu_model.specs.BlockLists.{Taken, list_of, held_by}
-use Rattle.tcmu_model.specs.Sound.{Every, Differ}
+use Rattle.tcmu_types.specs.Lists.{Every}
 
 pub record ListsSound (d : DeviceState) (lists : List Taken) : Type 0 where
   -- a list is of a command that is laid

@@ -6,32 +6,14 @@ use Rattle.tcmu_types.specs.Data.{CommandData, ReplyData, DoneData, SettingsData
 use Rattle.tcmu_types.specs.Rules.{IsCommand, IsReply, IsSettings}
 use Rattle.tcmu_model.specs.declared.state.CommandState.{CommandState}
 use Rattle.tcmu_model.specs.declared.state.CommandState.TheVariants.{Waiting, Out, Handled, Parked, Placed, Lost}
-use Rattle.tcmu_model.specs.Lists.{first_of}
+use Rattle.tcmu_types.specs.Lists.{first_of, Every}
 use Rattle.tcmu_model.specs.Lengths.{entry_length, tmr_length, blocks_of}
 use Rattle.tcmu_model.specs.RingState.{RingState, Item, Laid, Pad, Cmd, Tmr, used, is_pad, serials_in, cleared_commands, published_commands}
 use Rattle.tcmu_model.specs.Device.{Unfinished, Delayed, DeviceState, has_state}
-use Rattle.tcmu_model.specs.Events.{is_among, is_open, is_in_hand, answered, held_blocks}
+use Rattle.tcmu_model.specs.Events.{is_open, is_in_hand, answered, held_blocks}
+use Rattle.tcmu_types.specs.Numbers.{is_among, Begins, Differ, Rise}
 
 -- ==== lists
-
--- P holds of each item
-abbrev pub Every : {X : Type 0} → (X → Type 0) → List X → Type 0
-Every P [] = Unit {0}
-Every P (x ∷ xs) = P x × Every P xs
-
--- each number is above the one before it, the first above `low`, and none is above `high`
-abbrev pub Rise : ℕ → List ℕ → ℕ → Type 0
-Rise low [] high = low ≤ high
-Rise low (x ∷ xs) high = (low < x) × Rise x xs high
-
--- the list begins with this front
-abbrev pub Begins : List ℕ → List ℕ → Type 0
-Begins front xs = (rest : List ℕ) × (xs ≡ front ++ rest)
-
--- the numbers differ
-abbrev pub Differ : List ℕ → Type 0
-Differ [] = Unit {0}
-Differ (s ∷ ss) = (is_among ss s ≡ false) × Differ ss
 
 -- ==== the ring
 
@@ -176,3 +158,7 @@ pub record IsSound (d : DeviceState) : Type 0 where
   pub serials : SerialsSound d
   pub answers : AnswersSound d
   pub room : RoomSound d
+
+-- the accepted commands that have no completion
+abbrev pub open_count : DeviceState → ℕ
+open_count d = count_by is_open d.unfinished + length d.delayed

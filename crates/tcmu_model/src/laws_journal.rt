@@ -5,7 +5,7 @@ ghost use Rattle.tcmu_types.specs.Events.{EntryData};
 ghost use Rattle.tcmu_model.specs.MediumState.{MediumState};
 ghost use Rattle.tcmu_model.specs.Device.{Device, opening};
 ghost use Rattle.tcmu_model.specs.Steps.{Run};
-ghost use Rattle.tcmu_model.specs.Sound.{Every};
+ghost use Rattle.tcmu_types.specs.Lists.{Every};
 ghost use Rattle.tcmu_model.specs.Journals.{WasAccepted, IsOfJournal};
 
 use crate::Answering;

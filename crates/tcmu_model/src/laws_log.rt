@@ -2,8 +2,9 @@
 ghost use Rattle.std.specs.Prelude.{◌≡◌, ℕ, ◌+◌, ◌≤◌, ◌<◌, true, length, map};
 ghost use Rattle.tcmu_model.specs.RingState.{serials_in};
 ghost use Rattle.tcmu_model.specs.Device.{DeviceState};
-ghost use Rattle.tcmu_model.specs.Replay.{open_count};
-ghost use Rattle.tcmu_model.specs.Sound.{Every, Differ, times_logged, times_open, IsSound};
+ghost use Rattle.tcmu_model.specs.Sound.{open_count, times_logged, times_open, IsSound};
+ghost use Rattle.tcmu_types.specs.Numbers.{Differ};
+ghost use Rattle.tcmu_types.specs.Lists.{Every};
 
 /// No serial stands twice in the log, and each that stands there was accepted. Each accepted serial is once in the log or once open,
 /// that is delayed, or unfinished and not expired; an expired command that is unfinished is in the log.

@@ -5,8 +5,10 @@ ghost use Rattle.std.specs.Option.{is_some};
 ghost use Rattle.tcmu_model.specs.declared.state.CommandState.TheVariants.{Waiting, Placed, Lost};
 ghost use Rattle.tcmu_model.specs.RingState.{serials_in, cleared_commands, dispatched_commands};
 ghost use Rattle.tcmu_model.specs.Device.{DeviceState, has_serial, has_state};
-ghost use Rattle.tcmu_model.specs.Events.{is_among, answered, is_in_hand};
-ghost use Rattle.tcmu_model.specs.Sound.{Every, Begins, finished, dispatched_serials, awaits_answer, IsSound};
+ghost use Rattle.tcmu_model.specs.Events.{answered, is_in_hand};
+ghost use Rattle.tcmu_types.specs.Numbers.{is_among, Begins};
+ghost use Rattle.tcmu_model.specs.Sound.{finished, dispatched_serials, awaits_answer, IsSound};
+ghost use Rattle.tcmu_types.specs.Lists.{Every};
 
 /// The commands that are Waiting are those that are not dispatched, in the order of laying.
 pub fn waiting_law()

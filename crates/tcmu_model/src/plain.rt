@@ -2,7 +2,7 @@
 //! items that were laid in it, and the search for a free block. Lengths and places are in bytes.
 ghost use Rattle.std.specs.Prelude.{◌≡◌, ◌<◌, ◌≤◌, ◌^◌, ℕ, length};
 ghost use Rattle.tcmu_model.specs.RingState.{items_of, ring_of, lengths, head, used, free, pad, need, fits};
-ghost use Rattle.tcmu_model.specs.Events.{is_among};
+ghost use Rattle.tcmu_types.specs.Numbers.{is_among};
 ghost use Rattle.tcmu_model.specs.BlockLists.{first_free};
 
 /// The bytes of items of these lengths.

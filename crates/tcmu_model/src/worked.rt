@@ -1,6 +1,5 @@
-//! Worked examples of the device and of the load: what the definitions give for events and numbers that engineers know.
+//! Worked examples of the device: what the definitions give for events that engineers know.
 ghost use Rattle.tcmu_model.specs.Examples.{RingFills, ExactlyFull, BlocksFill, BlocksFree, TooLong, LongEnough, TooManyBlocks, OutOfOrder, LoggedAsPlaced, InOrder, LoggedAsLaid, Expires, ExpiredSense, LoggedOnce, NotDue, NeverDue, Resets, ResetStatus, LostReset, LostLog, LostLogTarget, LostCount, DoesNothingDetached, Notes, NotesPass, NotesOff, Waits, LeavesFull, StaysDelayed, WaitsReset, WaitsBusy, WaitsDrained};
-ghost use Rattle.tcmu_model.specs.Load.{FirstNumber, FirstCommand, FirstLine, DeviceLine, DrainBehindSixteen, EmptySummary, OneSummary};
 
 /// The ring and the data area fill exactly, and what no empty one takes is too big.
 pub fn room_examples()
@@ -56,15 +55,4 @@ pub fn waiting_examples()
     ensures waits_reset { WaitsReset }
     ensures waits_busy { WaitsBusy }
     ensures waits_drained { WaitsDrained }
-{}
-
-/// The load's device, its first number, command and line for seed 0, its drains, and its summary.
-pub fn load_examples()
-    ensures number { FirstNumber }
-    ensures command { FirstCommand }
-    ensures line { FirstLine }
-    ensures device { DeviceLine }
-    ensures drains { DrainBehindSixteen }
-    ensures empty { EmptySummary }
-    ensures one { OneSummary }
 {}

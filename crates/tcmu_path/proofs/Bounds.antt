@@ -3,18 +3,18 @@ use Rattle.std.proofs.Common.{◌≡◌, ℕ, ◌+◌, ◌*◌, ◌<◌, ◌≤�
 use Rattle.std.specs.List.{list_any, count_by, filter}
 use Rattle.std.proofs.lemmas.Bool.{cases_Bool, false≢true, ltb-true, ltb-false, eqb-true, ne_eqb, le-ltb, lt-ltb}
 use Rattle.std.proofs.lemmas.List.Sums.{sum_by-cons, count_by-le-length}
-use Rattle.tcmu_model.specs.Lists.{RisesAbove, IsRising}
+use Rattle.tcmu_types.specs.Numbers.{RisesAbove, IsRising, is_among, Rise, Differ}
 use Rattle.tcmu_model.specs.RingState.{serials_in, used}
 use Rattle.tcmu_model.specs.Device.{Unfinished, Delayed, DeviceState, has_serial}
-use Rattle.tcmu_model.specs.Events.{is_among, unknown_serial}
-use Rattle.tcmu_model.specs.Sound.{IsSound, Every, Rise, Differ, finished, delayed_serials}
+use Rattle.tcmu_model.specs.Events.{unknown_serial}
+use Rattle.tcmu_model.specs.Sound.{IsSound, finished, delayed_serials}
+use Rattle.tcmu_types.specs.Lists.{Every}
 use Rattle.tcmu_path.specs.Away.{AreAway}
 use Rattle.tcmu_model.proofs.Facts.{bounded_rows}
-use Rattle.tcmu_model.proofs.Everies.{every-filter}
+use Rattle.tcmu_types.proofs.Everies.{every-filter}
 use Rattle.tcmu_path.specs.Tallies.{serials_of}
-use Rattle.tcmu_model.proofs.Readings.{not_true}
-use Rattle.tcmu_model.proofs.Rises.{differ_front, rise_order}
-use Rattle.tcmu_model.proofs.Standing.{rise_differ}
+use Rattle.tcmu_types.proofs.Readings.{not_true}
+use Rattle.tcmu_types.proofs.Rises.{differ_front, rise_order, rise_differ}
 use Rattle.tcmu_model.proofs.Accounts.{at_most_one}
 
 -- ==== few commands are unfinished

@@ -6,10 +6,11 @@ use Rattle.std.proofs.lemmas.Bool.{or_parts, eqb-false, ne_eqb}
 use Rattle.std.proofs.lemmas.List.Sums.{sum_by-cons}
 use Rattle.std.proofs.lemmas.List.Folds.{list_any-append}
 use Rattle.tcmu_model.specs.declared.state.CommandState.TheVariants.{Placed, Lost}
-use Rattle.tcmu_model.specs.Lists.{first_of}
+use Rattle.tcmu_types.specs.Lists.{first_of}
 use Rattle.tcmu_model.specs.Device.{Unfinished, has_state, is_at}
-use Rattle.tcmu_model.specs.Events.{is_among, is_losing, is_in_hand, lose, Books, finish, finish_all}
-use Rattle.tcmu_model.proofs.Firsts.{first_of_none}
+use Rattle.tcmu_model.specs.Events.{is_losing, is_in_hand, lose, Books, finish, finish_all}
+use Rattle.tcmu_types.specs.Numbers.{is_among}
+use Rattle.tcmu_types.proofs.Firsts.{first_of_none}
 use Rattle.tcmu_path.specs.Away.{AreAway}
 
 -- the first m of a list, cut at n

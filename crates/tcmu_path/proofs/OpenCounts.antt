@@ -10,8 +10,8 @@ use Rattle.tcmu_model.specs.States.{same_state}
 use Rattle.tcmu_model.specs.RingState.{serials_in}
 use Rattle.tcmu_model.specs.Device.{Unfinished, DeviceState, has_state}
 use Rattle.tcmu_model.specs.Events.{is_open, stat_answer}
-use Rattle.tcmu_model.specs.Replay.{open_count}
-use Rattle.tcmu_model.specs.Sound.{IsSound, Rise, delayed_serials}
+use Rattle.tcmu_model.specs.Sound.{open_count, IsSound, delayed_serials}
+use Rattle.tcmu_types.specs.Numbers.{Rise}
 
 -- a number for a test that passes
 abbrev one : Bool → ℕ

@@ -7,13 +7,13 @@ use Rattle.tcmu_types.specs.Events as ev
 use Rattle.tcmu_types.specs.Views.{event_data}
 use Rattle.tcmu_types.specs.declared.event.Event.{Event}
 use Rattle.tcmu_types.specs.declared.stat.Todo.{Todo}
-use Rattle.tcmu_model.specs.Lists.{RisesAbove, IsRising}
-use Rattle.tcmu_model.specs.Fields.{is_rising}
+use Rattle.tcmu_types.specs.Numbers.{RisesAbove, IsRising}
+use Rattle.tcmu_types.specs.Decimals.{is_rising}
 use Rattle.tcmu_model.specs.Device.{DeviceState}
 use Rattle.tcmu_model.specs.Drain.{drain_event, todo_of, chosen}
-use Rattle.tcmu_model.specs.ScenarioData.{LineWhat}
-use Rattle.tcmu_model.specs.ScenarioData as line
-use Rattle.tcmu_model.specs.ScenarioRules.{IsEvent}
+use Rattle.text_model.specs.ScenarioData.{LineWhat}
+use Rattle.text_model.specs.ScenarioData as line
+use Rattle.text_model.specs.ScenarioRules.{IsEvent}
 use Rattle.tcmu_path.specs.Tasks.{IsFit, CanBeMade}
 
 -- an event that is chosen of what a device finds to do is the drain's event

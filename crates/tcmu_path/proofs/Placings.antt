@@ -9,9 +9,10 @@ use Rattle.std.proofs.lemmas.Bool.{or_parts, or_right, ne_eqb, eqb-false}
 use Rattle.tcmu_model.specs.declared.state.CommandState.TheVariants.{Parked}
 use Rattle.tcmu_model.specs.RingState.{Item, Laid, Pad, Cmd, Tmr, serial_in, serials_in}
 use Rattle.tcmu_model.specs.Device.{Unfinished, is_at}
-use Rattle.tcmu_model.specs.Events.{Placing, is_among, with_placed, run_placed}
-use Rattle.tcmu_model.specs.Sound.{Every, Differ}
-use Rattle.tcmu_model.proofs.Rises.{every-among}
+use Rattle.tcmu_model.specs.Events.{Placing, with_placed, run_placed}
+use Rattle.tcmu_types.specs.Numbers.{is_among, Differ}
+use Rattle.tcmu_types.specs.Lists.{Every}
+use Rattle.tcmu_types.proofs.Rises.{every-among}
 
 -- a parked command that is not placed is placed
 pub goes : (p : Placing) (s : ℕ) (rest : List ℕ) → is_among p.placed s ≡ false → list_any (is_at s Parked) p.unfinished ≡ true → run_placed p (s ∷ rest) ≡ run_placed (with_placed p s) rest

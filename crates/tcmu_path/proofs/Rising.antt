@@ -5,13 +5,13 @@ use Rattle.std.specs.List.Sorted.{IsNonDecreasingBy}
 use Rattle.std.specs.Option.{MatchOption, is_some}
 use Rattle.std.proofs.lemmas.Bool.{cases_Bool}
 use Rattle.std.proofs.lemmas.List.{map-append, get_or_default}
-use Rattle.tcmu_model.specs.Lists.{RisesAbove, IsRising, IsFirst, with_first, without_first}
+use Rattle.tcmu_types.specs.Lists.{IsFirst, with_first, without_first, Every}
+use Rattle.tcmu_types.specs.Numbers.{RisesAbove, IsRising}
 use Rattle.tcmu_model.specs.Device.{Unfinished}
-use Rattle.tcmu_model.specs.Sound.{Every}
-use Rattle.tcmu_model.proofs.Firsts.{any_at}
-use Rattle.tcmu_model.proofs.Everies.{every-weaker, every-mapped}
+use Rattle.tcmu_types.proofs.Firsts.{any_at}
+use Rattle.tcmu_types.proofs.Everies.{every-weaker, every-mapped}
 use Rattle.tcmu_path.specs.Tallies.{serials_of}
-use Rattle.tcmu_model.proofs.Rises.{rising_rest}
+use Rattle.tcmu_types.proofs.Rises.{rising_rest}
 
 -- ==== numbers that rise
 

@@ -1,19 +1,18 @@
 -- Room for what is to be placed and logged.
-use Rattle.std.proofs.Common.{◌≡◌, ℕ, ◌+◌, ◌≤◌, Bool, true, false, cond, List, [], ◌∷◌, Some, None, refl, ap, ◌∙◌, arith}
+use Rattle.std.proofs.Common.{◌≡◌, ℕ, ◌+◌, ◌≤◌, Bool, true, false, cond, List, [], ◌∷◌, Some, None, refl, ap, ◌∙◌, arith, ⊎_elim, map, if◌then◌else◌, ◌++◌, length}
 use Rattle.std.specs.List.{list_any, sum_by, count_by}
 use Rattle.tcmu_model.specs.declared.state.CommandState.{CommandState}
 use Rattle.tcmu_model.specs.declared.state.CommandState.TheVariants.{Out, Parked, Placed, Lost}
 use Rattle.tcmu_model.specs.Device.{Unfinished, is_at, has_state}
 use Rattle.tcmu_model.specs.Events.{in_state, turned, is_open, completions, with_reply, expire, is_due, lose, is_losing}
-use Rattle.tcmu_model.specs.Lists.{first_of, without_first, with_first}
+use Rattle.tcmu_types.specs.Lists.{first_of, without_first, with_first}
 use Rattle.tcmu_model.specs.Lengths.{blocks_of}
 use Rattle.tcmu_types.specs.Data.{DoneData, ReplyData}
-use Rattle.std.proofs.Common.{⊎_elim, map, if◌then◌else◌}
 use Rattle.std.proofs.lemmas.Bool.{cases_Bool, and_parts, and_from}
 use Rattle.std.proofs.lemmas.List.Sums.{sum_by-cons, sum_by_push, count_by-le-length}
-use Rattle.std.proofs.Common.{◌++◌, length}
-use Rattle.tcmu_model.proofs.Counts.{sum-with_first_less, sum-with_first_same, sum-without_first, sum-with_first_le, sum-map_same, sum-map_le, state_at, state_same}
-use Rattle.tcmu_model.proofs.Firsts.{any-with_first}
+use Rattle.tcmu_model.proofs.CommandStates.{state_at, state_same}
+use Rattle.tcmu_types.proofs.Counts.{sum-with_first_less, sum-with_first_same, sum-without_first, sum-with_first_le, sum-map_same, sum-map_le}
+use Rattle.tcmu_types.proofs.Firsts.{any-with_first}
 use Rattle.tcmu_path.specs.Room.{may_be_placed, is_placeable, to_place, to_log, held_by, KeepsRoom}
 use Rattle.tcmu_model.proofs.Accounts.{at_most_one}
 

@@ -6,13 +6,13 @@ use Rattle.tcmu_types.specs.Data.{ReplyData}
 use Rattle.tcmu_model.specs.declared.state.CommandState.{CommandState}
 use Rattle.tcmu_model.specs.declared.state.CommandState.TheVariants.{Waiting, Out, Handled, Parked, Placed, Lost}
 use Rattle.tcmu_model.specs.States.{same_state}
-use Rattle.tcmu_model.specs.Lists.{IsFirst, IsRising, with_first, without_first}
+use Rattle.tcmu_types.specs.Lists.{IsFirst, with_first, without_first, Every}
+use Rattle.tcmu_types.specs.Numbers.{IsRising}
 use Rattle.tcmu_model.specs.Device.{Unfinished, is_at, has_state}
 use Rattle.tcmu_model.specs.Events.{turned, in_state, with_reply, expire, is_due, lose, is_losing}
-use Rattle.tcmu_model.specs.Sound.{Every}
-use Rattle.tcmu_model.proofs.Counts.{state_at, serial_at, state_is}
-use Rattle.tcmu_model.proofs.Everies.{map_kept}
-use Rattle.tcmu_model.proofs.Firsts.{any_at}
+use Rattle.tcmu_model.proofs.CommandStates.{state_at, serial_at, state_is}
+use Rattle.tcmu_types.proofs.Everies.{map_kept}
+use Rattle.tcmu_types.proofs.Firsts.{any_at}
 use Rattle.tcmu_path.specs.Tallies.{serials_of, least_in, lesser, without, IsTally, AreRows}
 use Rattle.tcmu_path.specs.declared.tally.Tally.{Tally}
 use Rattle.tcmu_path.proofs.Rising.{rises_pushed, rises_taken, serials_turned}

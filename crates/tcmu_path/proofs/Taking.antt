@@ -2,8 +2,8 @@
 use Rattle.std.proofs.Common.{◌≡◌, ℕ, ◌<◌, Bool, List, [], ◌∷◌, length, get_or, Option, Some, None, OnSome, sym, ◌∙◌, arith}
 use Rattle.std.specs.List.{remove}
 use Rattle.tcmu_model.specs.Device.{Unfinished}
-use Rattle.tcmu_model.specs.Lists.{IsFirst, first_of, without_first}
-use Rattle.tcmu_model.proofs.Firsts.{first_of_at, without_first_at}
+use Rattle.tcmu_types.specs.Lists.{IsFirst, first_of, without_first}
+use Rattle.tcmu_types.proofs.Firsts.{first_of_at, without_first_at}
 
 some-removed : (us vs : List Unfinished) (at : ℕ) (r : Option Unfinished) (d : Unfinished) → r ≡ Some (get_or us at d) → OnSome r (vs ≡ remove us at) → vs ≡ remove us at
 some-removed us vs at None d h e = absurd (cc)

@@ -4,13 +4,13 @@ use Rattle.std.specs.List.{list_any, count_by}
 use Rattle.std.specs.Option.{option_map}
 use Rattle.std.proofs.lemmas.Bool.{cases_Bool, false≢true, eqb-true, eqb-false, le-ltb, lt-ltb}
 use Rattle.std.proofs.lemmas.List.Sums.{sum_by-cons, sum_by_push}
-use Rattle.tcmu_model.specs.Lists.{first_of, with_first, without_first, IsFirst, IsRising}
+use Rattle.tcmu_types.specs.Lists.{first_of, with_first, without_first, IsFirst, Every}
+use Rattle.tcmu_types.specs.Numbers.{IsRising}
 use Rattle.tcmu_model.specs.Device.{Unfinished}
-use Rattle.tcmu_model.specs.Sound.{Every}
-use Rattle.tcmu_model.proofs.Counts.{sum-with_first_less, sum-with_first_same, sum-map_same}
+use Rattle.tcmu_types.proofs.Counts.{sum-with_first_less, sum-with_first_same, sum-map_same}
 use Rattle.tcmu_path.specs.Tallies.{serials_of, lesser, without}
 use Rattle.tcmu_path.proofs.Rising.{rises-head}
-use Rattle.tcmu_model.proofs.Rises.{rising_rest}
+use Rattle.tcmu_types.proofs.Rises.{rising_rest}
 
 -- the serial of the first that passes
 abbrev least : (Unfinished → Bool) → List Unfinished → Option ℕ

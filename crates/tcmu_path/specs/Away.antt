@@ -1,8 +1,8 @@
 -- Commands that a list of serials leaves alone.
 use Rattle.std.specs.Prelude.{◌≡◌, ℕ, false, List}
 use Rattle.tcmu_model.specs.Device.{Unfinished}
-use Rattle.tcmu_model.specs.Events.{is_among}
-use Rattle.tcmu_model.specs.Sound.{Every}
+use Rattle.tcmu_types.specs.Numbers.{is_among}
+use Rattle.tcmu_types.specs.Lists.{Every}
 
 -- no command has a serial of the list
 abbrev pub AreAway : List ℕ → List Unfinished → Type 0

@@ -5,7 +5,8 @@ use Rattle.std.specs.List.{count_by}
 use Rattle.std.specs.Option.{option_map}
 use Rattle.tcmu_model.specs.declared.state.CommandState.{CommandState}
 use Rattle.tcmu_model.specs.declared.state.CommandState.TheVariants.{Out, Handled}
-use Rattle.tcmu_model.specs.Lists.{first_of, IsRising}
+use Rattle.tcmu_types.specs.Lists.{first_of}
+use Rattle.tcmu_types.specs.Numbers.{IsRising}
 use Rattle.tcmu_model.specs.Device.{Unfinished, has_state}
 use Rattle.tcmu_path.specs.declared.tally.Tally.{Tally}
 

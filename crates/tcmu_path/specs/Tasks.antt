@@ -2,10 +2,10 @@
 use Rattle.std.specs.Prelude.{ℕ, ◌≤◌, ◌<◌}
 use Rattle.tcmu_types.specs.Events.{EventData}
 use Rattle.tcmu_types.specs.Events as ev
-use Rattle.tcmu_model.specs.Lists.{IsRising}
-use Rattle.tcmu_model.specs.ScenarioData.{LineData, LineWhat}
-use Rattle.tcmu_model.specs.ScenarioData as line
-use Rattle.tcmu_model.specs.ScenarioRules.{IsEvent}
+use Rattle.tcmu_types.specs.Numbers.{IsRising}
+use Rattle.text_model.specs.ScenarioData.{LineData, LineWhat}
+use Rattle.text_model.specs.ScenarioData as line
+use Rattle.text_model.specs.ScenarioRules.{IsEvent}
 
 -- a reset is of level 1 or 2, and a note of kind 1 to 7 on rising serials
 abbrev pub CanBeMade : EventData → Type 0

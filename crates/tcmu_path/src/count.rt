@@ -1,7 +1,6 @@
 //! How many commands are open.
 ghost use Rattle.std.specs.Prelude.{◌≡◌, ◌+◌, ◌-◌, ◌^◌, ◌≤◌, ◌<◌};
-ghost use Rattle.tcmu_model.specs.Sound.{IsSound};
-ghost use Rattle.tcmu_model.specs.Replay.{open_count};
+ghost use Rattle.tcmu_model.specs.Sound.{IsSound, open_count};
 
 use crate::Path;
 use tcmu_types::Stat;

@@ -5,7 +5,7 @@ ghost use Rattle.tcmu_types.specs.Views.{dispatch_data};
 ghost use Rattle.tcmu_model.specs.declared.state.CommandState.TheVariants.{Waiting};
 ghost use Rattle.tcmu_model.specs.Lengths.{blocks_of};
 ghost use Rattle.tcmu_model.specs.Events.{is_running, item_answer, after_item};
-ghost use Rattle.tcmu_model.specs.Sound.{Every};
+ghost use Rattle.tcmu_types.specs.Lists.{Every};
 ghost use Rattle.tcmu_path.specs.Tallies.{serials_of};
 ghost use Rattle.tcmu_path.specs.Room.{to_place, to_log, held_by, KeepsRoom};
 

@@ -3,7 +3,7 @@ ghost use Rattle.std.specs.Prelude.{◌≡◌, ℕ, ◌+◌, ◌≤◌, ◌<◌,
 ghost use Rattle.tcmu_types.specs.Data.{ReplyData};
 ghost use Rattle.tcmu_types.specs.Events as ev;
 ghost use Rattle.tcmu_types.specs.Views.{dispatch_data};
-ghost use Rattle.tcmu_model.specs.Lists.{IsRising};
+ghost use Rattle.tcmu_types.specs.Numbers.{IsRising};
 ghost use Rattle.tcmu_model.specs.MediumState.{MediumState};
 ghost use Rattle.tcmu_model.specs.Device.{Device};
 ghost use Rattle.tcmu_model.specs.Steps.{Asked, Submits, Enters, Dispatches, Handles, Responds, Publishes, Cleans, Ticks, Blocks, Resets, Restarts, Notes, Shows};

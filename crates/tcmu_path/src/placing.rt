@@ -4,8 +4,9 @@ ghost use Rattle.std.specs.List.{list_any};
 ghost use Rattle.tcmu_model.specs.RingState.{serial_in, serials_in};
 ghost use Rattle.tcmu_model.specs.declared.state.CommandState.TheVariants.{Parked, Placed};
 ghost use Rattle.tcmu_model.specs.Device.{is_at};
-ghost use Rattle.tcmu_model.specs.Events.{turned, with_placed, run_placed, is_among};
-ghost use Rattle.tcmu_model.specs.Sound.{Every, Differ};
+ghost use Rattle.tcmu_model.specs.Events.{turned, with_placed, run_placed};
+ghost use Rattle.tcmu_types.specs.Numbers.{is_among, Differ};
+ghost use Rattle.tcmu_types.specs.Lists.{Every};
 ghost use Rattle.tcmu_path.specs.Changing.{placing_of};
 ghost use Rattle.tcmu_path.specs.Room.{to_place, KeepsRoom};
 

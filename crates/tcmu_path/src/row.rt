@@ -2,9 +2,10 @@
 ghost use Rattle.std.specs.Prelude.{◌≡◌, ◌≤◌, ◌^◌, [], length, IfOk, Option, None, true, false, MatchOption};
 ghost use Rattle.std.specs.List.{list_any, position, count_by};
 ghost use Rattle.std.specs.Option.{option_to_list, option_map};
-ghost use Rattle.tcmu_model.specs.Lists.{IsFirst, first_of};
+ghost use Rattle.tcmu_types.specs.Lists.{IsFirst, first_of};
 ghost use Rattle.tcmu_model.specs.Device.{is_at, has_state, has_serial};
-ghost use Rattle.tcmu_model.specs.Events.{unknown_serial, is_among, is_in_hand, is_losing, lose, expire, in_state, with_reply, turned, completions, expiry, is_due};
+ghost use Rattle.tcmu_model.specs.Events.{unknown_serial, is_in_hand, is_losing, lose, expire, in_state, with_reply, turned, completions, expiry, is_due};
+ghost use Rattle.tcmu_types.specs.Numbers.{is_among};
 ghost use Rattle.tcmu_model.specs.Steps.{asked};
 
 use crate::closings::{COMMUNICATION_TIME_OUT, closing};

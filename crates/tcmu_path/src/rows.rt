@@ -3,10 +3,9 @@
 ghost use Rattle.std.specs.Prelude.{◌≡◌, ℕ, ◌<◌, ◌≤◌, ◌^◌, [], ◌∷◌, ◌++◌, length, map, true, false, None, Some, OnOk, MatchOption, slice_index_or};
 ghost use Rattle.std.specs.List.{list_any, count_by};
 ghost use Rattle.tcmu_model.specs.declared.state.CommandState.TheVariants.{Waiting, Out, Handled, Parked, Placed};
-ghost use Rattle.tcmu_model.specs.Lists.{IsFirst, first_of, with_first, without_first};
+ghost use Rattle.tcmu_types.specs.Lists.{IsFirst, first_of, with_first, without_first, Every};
 ghost use Rattle.tcmu_model.specs.Device.{Unfinished, is_at, has_state, has_serial};
 ghost use Rattle.tcmu_model.specs.Events.{unknown_serial, is_in_hand, lose, expire, with_reply, turned};
-ghost use Rattle.tcmu_model.specs.Sound.{Every};
 ghost use Rattle.tcmu_path.specs.Room.{KeepsRoom};
 ghost use Rattle.tcmu_path.specs.Tallies.{serials_of, least_in};
 

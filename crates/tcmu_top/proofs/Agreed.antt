@@ -2,13 +2,13 @@
 use Rattle.std.proofs.Common.{◌≡◌, ℕ, List, [], ◌∷◌, Option, Some, None, refl, sym, ap, ◌∙◌, subst}
 use Rattle.std.specs.Option.{option_map, option_and_then}
 use Rattle.edge.specs.Stores.{FilesState}
-use Rattle.tcmu_model.specs.Reading.{each}
+use Rattle.tcmu_types.specs.Reading.{each}
 use Rattle.tcmu_model.specs.MediumState.{MediumState}
-use Rattle.tcmu_model.specs.Medium.{opened_medium, memory_below}
+use Rattle.scsi_model.specs.Medium.{opened_medium, memory_below}
 use Rattle.tcmu_model.specs.Device.{Device, opening}
-use Rattle.tcmu_model.specs.Config.{MediumData, InMemory, InFile}
-use Rattle.tcmu_model.specs.ScenarioData.{DeviceLineData}
-use Rattle.tcmu_model.proofs.Readings.{same_some, both, mapped}
+use Rattle.text_model.specs.Config.{MediumData, InMemory, InFile}
+use Rattle.text_model.specs.ScenarioData.{DeviceLineData}
+use Rattle.tcmu_types.proofs.Readings.{same_some, both, mapped}
 use Rattle.text_laws.specs.InMemory.{memory_device}
 use Rattle.tcmu_top.specs.Opened.{OpensKind, Opens, OpenEach}
 use Rattle.tcmu_top.specs.Laws.{LiesInMemory, LieInMemory, TextsAgree}

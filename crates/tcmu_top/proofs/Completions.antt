@@ -14,19 +14,20 @@ use Rattle.tcmu_model.specs.MediumState.{MediumState}
 use Rattle.tcmu_model.specs.Steps.{HandlerRelation, Makes, Run}
 use Rattle.tcmu_model.specs.Drain.{drain_event}
 use Rattle.tcmu_model.specs.Events.{is_open}
-use Rattle.tcmu_model.specs.Replay.{open_count}
-use Rattle.tcmu_model.specs.Scsi.{Serves}
-use Rattle.tcmu_model.specs.ScenarioData.{DeviceLineData}
-use Rattle.tcmu_model.specs.Several.{Journaled, is_of, RunLogs}
+use Rattle.tcmu_model.specs.Sound.{open_count, is_open_at, is_delayed_at, times_logged, times_open, IsSound}
+use Rattle.scsi_model.specs.Scsi.{Serves}
+use Rattle.text_model.specs.ScenarioData.{DeviceLineData}
+use Rattle.text_model.specs.Several.{Journaled, is_of, RunLogs}
 use Rattle.tcmu_model.specs.Journals.{Has, WasAccepted, IsExplained}
-use Rattle.tcmu_model.specs.Sound.{Every, Differ, is_open_at, is_delayed_at, times_logged, times_open, IsSound}
+use Rattle.tcmu_types.specs.Numbers.{Differ}
+use Rattle.tcmu_types.specs.Lists.{Every}
 use Rattle.tcmu_model.proofs.Accounts.{log_differs, each_once}
 use Rattle.tcmu_model.proofs.Totals.{open_rest}
 use Rattle.tcmu_model.proofs.Drained as emptied
-use Rattle.tcmu_model.proofs.Indexed.{every_at}
+use Rattle.tcmu_types.proofs.Everies.{every_at}
 use Rattle.tcmu_model.proofs.Journals.{run_explains}
 use Rattle.tcmu_model.proofs.Runs.{sound_run}
-use Rattle.tcmu_model.proofs.Readings.{same_some}
+use Rattle.tcmu_types.proofs.Readings.{same_some}
 use Rattle.tcmu_types.proofs.Places.{get_within}
 use Rattle.load_run.specs.Tallies.{size_in, GivesNext, RunNumbers}
 use Rattle.load_run.proofs.Tallying.{numbered, counted}

@@ -7,16 +7,16 @@ use Rattle.tcmu_types.specs.Events.{EntryData}
 use Rattle.edge.specs.Outside.{Gained, GainedFront}
 use Rattle.tcmu_model.specs.Device.{Device}
 use Rattle.tcmu_model.specs.Steps.{HandlerRelation, Run}
-use Rattle.tcmu_model.specs.Sound.{IsSound, Every}
-use Rattle.tcmu_model.specs.ScenarioData.{DeviceLineData}
-use Rattle.tcmu_model.specs.Several.{Journaled, IsLegalEach, journaled_text}
-use Rattle.tcmu_model.proofs.Everies.{every-front, every-back}
+use Rattle.tcmu_model.specs.Sound.{IsSound}
+use Rattle.tcmu_types.specs.Lists.{Every}
+use Rattle.text_model.specs.ScenarioData.{DeviceLineData}
+use Rattle.text_model.specs.Several.{Journaled, IsLegalEach, journaled_text}
+use Rattle.tcmu_types.proofs.Everies.{every-front, every-back, every_at}
 use Rattle.tcmu_model.proofs.Runs.{sound_run}
 use Rattle.tcmu_top.specs.Playing.{WroteOn, WroteOnFront, WroteEach, WroteEachFront}
 use Rattle.tcmu_top.proofs.Legal.{AreOf, piece_of, piece_append, piece_count, piece_text, legal_none, legal_one, legal_append}
 use Rattle.tcmu_top.proofs.RunTexts.{run_append}
 use Rattle.tcmu_top.proofs.Telling.{gained_none, gained_more, gained_as, front_behind}
-use Rattle.tcmu_model.proofs.Indexed.{every_at}
 use Rattle.tcmu_types.proofs.Places.{get_set}
 use Rattle.text_laws.proofs.Sets.{every_set}
 use Rattle.text_laws.specs.Replays.{entries_of}

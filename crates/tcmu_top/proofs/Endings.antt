@@ -5,10 +5,11 @@ use Rattle.tcmu_types.specs.Events.{EntryData}
 use Rattle.tcmu_model.specs.Device.{Device}
 use Rattle.tcmu_model.specs.Steps.{HandlerRelation, Run}
 use Rattle.tcmu_model.specs.Drain.{Drains}
-use Rattle.tcmu_model.specs.Sound.{IsSound, Every}
+use Rattle.tcmu_model.specs.Sound.{IsSound}
+use Rattle.tcmu_types.specs.Lists.{Every}
 use Rattle.tcmu_model.specs.Work.{HasOutcomes}
-use Rattle.tcmu_model.specs.ScenarioData.{LineData}
-use Rattle.tcmu_model.specs.Several.{Journaled, DrainsEach, ReplaysEach}
+use Rattle.text_model.specs.ScenarioData.{LineData}
+use Rattle.text_model.specs.Several.{Journaled, DrainsEach, ReplaysEach}
 use Rattle.tcmu_model.proofs.GoesOn.{drains_run}
 use Rattle.tcmu_model.proofs.Runs.{sound_run}
 use Rattle.tcmu_path.specs.Tasks.{IsFitFor}
@@ -17,7 +18,7 @@ use Rattle.tcmu_top.proofs.Legal.{AreOf, piece_of, legal_none, legal_one, legal_
 use Rattle.tcmu_top.proofs.Places.{agrees}
 use Rattle.tcmu_top.proofs.Playing.{drained, plays_total, plays_run}
 use Rattle.tcmu_types.proofs.Places.{get_within, drop_from}
-use Rattle.tcmu_model.proofs.Indexed.{every_at}
+use Rattle.tcmu_types.proofs.Everies.{every_at}
 use Rattle.text_laws.proofs.Sets.{every_set}
 use Rattle.text_laws.specs.Replays.{entries_of}
 

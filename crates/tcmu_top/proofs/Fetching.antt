@@ -9,10 +9,10 @@ use Rattle.std.proofs.lemmas.Slice.Eq.{bytes_eq-Decides}
 use Rattle.edge.specs.Stores.{StoreState, Content, store_of, out, at_home, FilesState, fetch_fails, after_fetch, Opened}
 use Rattle.tcmu_model.specs.MediumState.{MediumState}
 use Rattle.tcmu_model.specs.Device.{Device, opening}
-use Rattle.tcmu_model.specs.Config.{ConfigData, MediumData, InMemory, InFile}
-use Rattle.tcmu_model.specs.ScenarioData.{DeviceLineData}
-use Rattle.tcmu_model.specs.Said.{same_file}
-use Rattle.tcmu_model.proofs.Readings.{same_bytes, other_bytes}
+use Rattle.text_model.specs.Config.{ConfigData, MediumData, InMemory, InFile}
+use Rattle.text_model.specs.ScenarioData.{DeviceLineData}
+use Rattle.text_model.specs.Said.{same_file}
+use Rattle.tcmu_types.proofs.Readings.{same_bytes, other_bytes}
 use Rattle.device_set.specs.Sets.{names}
 use Rattle.media.specs.Opening as made
 use Rattle.tcmu_top.specs.Playing.{states_of}

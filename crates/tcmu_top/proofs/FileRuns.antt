@@ -6,8 +6,8 @@ use Rattle.tcmu_types.specs.declared.answer.Handle.TheVariants as handle
 use Rattle.tcmu_model.specs.MediumState.{MediumState, file}
 use Rattle.tcmu_model.specs.Device.{DeviceState, Device}
 use Rattle.tcmu_model.specs.Steps.{Makes, asked, moved}
-use Rattle.tcmu_model.specs.Scsi.{Serves}
-use Rattle.tcmu_model.specs.Several.{Journaled, RunLogs}
+use Rattle.scsi_model.specs.Scsi.{Serves}
+use Rattle.text_model.specs.Several.{Journaled, RunLogs}
 use Rattle.block_engine.proofs.Settling.{stays_in_file}
 
 -- a medium in a file that tells as much as another

@@ -8,14 +8,14 @@ use Rattle.std.proofs.lemmas.Option.{same_Some, slice_get_within}
 use Rattle.tcmu_types.specs.Numbered.{Numbered, next_call}
 use Rattle.edge.specs.Stores.{StoreState, Content, Place, at_home, FilesState, fetch_fails, one_more_fetch}
 use Rattle.tcmu_model.specs.MediumState.{MediumState, file}
-use Rattle.tcmu_model.specs.Medium.{opened_medium, file_below}
-use Rattle.tcmu_model.specs.Scsi.{Serves}
+use Rattle.scsi_model.specs.Medium.{opened_medium, file_below}
+use Rattle.scsi_model.specs.Scsi.{Serves}
 use Rattle.tcmu_model.specs.Device.{Device}
-use Rattle.tcmu_model.specs.Config.{MediumData, InMemory, InFile}
-use Rattle.tcmu_model.specs.ScenarioData.{DeviceLineData}
-use Rattle.tcmu_model.specs.Said.{same_file}
-use Rattle.tcmu_model.specs.Several.{Journaled, is_of, IsLegalEach}
-use Rattle.tcmu_model.proofs.Readings.{same_bytes}
+use Rattle.text_model.specs.Config.{MediumData, InMemory, InFile}
+use Rattle.text_model.specs.ScenarioData.{DeviceLineData}
+use Rattle.text_model.specs.Said.{same_file}
+use Rattle.text_model.specs.Several.{Journaled, is_of, IsLegalEach}
+use Rattle.tcmu_types.proofs.Readings.{same_bytes}
 use Rattle.media.specs.Opening as made
 use Rattle.media.specs.declared.make.MakeFault.{MakeFault}
 use Rattle.media.specs.declared.make.MakeFault.TheVariants as fault

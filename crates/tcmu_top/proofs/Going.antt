@@ -5,18 +5,18 @@ use Rattle.tcmu_types.specs.Events.{EntryData}
 use Rattle.tcmu_model.specs.Device.{Device}
 use Rattle.tcmu_model.specs.Steps.{HandlerRelation}
 use Rattle.tcmu_model.specs.Drain.{Drains}
-use Rattle.tcmu_model.specs.Replay.{Plays}
-use Rattle.tcmu_model.specs.Sound.{IsSound, Every}
+use Rattle.text_model.specs.Replay.{Plays}
+use Rattle.tcmu_model.specs.Sound.{IsSound}
+use Rattle.tcmu_types.specs.Lists.{Every}
 use Rattle.tcmu_model.specs.Work.{HasOutcomes}
-use Rattle.tcmu_model.specs.ScenarioData.{DeviceLineData, LineData}
-use Rattle.tcmu_model.specs.Several.{DrainsEach, ReplaysEach}
-use Rattle.tcmu_model.proofs.Everies.{every-weaker}
+use Rattle.text_model.specs.ScenarioData.{DeviceLineData, LineData}
+use Rattle.text_model.specs.Several.{DrainsEach, ReplaysEach}
+use Rattle.tcmu_types.proofs.Everies.{every-weaker, every_at}
 use Rattle.tcmu_top.specs.Playing.{WroteOn, WroteOnFront, WroteEach, WroteEachFront}
 use Rattle.tcmu_path.specs.Tasks.{IsFitFor}
 use Rattle.tcmu_top.proofs.Each.{Leads, SoFar, sofar_first, sofar_more, sofar_stopped, sofar_done}
 use Rattle.tcmu_top.proofs.Endings.{DrainsFrom, drains_step, drains_none, ending_drains, ending_lines}
 use Rattle.tcmu_top.proofs.Legal.{drains_own, plays_own}
-use Rattle.tcmu_model.proofs.Indexed.{every_at}
 use Rattle.text_laws.proofs.Sets.{every_set}
 
 -- what one device keeps, all keep

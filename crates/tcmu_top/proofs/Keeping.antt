@@ -7,10 +7,10 @@ use Rattle.std.proofs.lemmas.List.{length-map, length-take-le, take-take, take-m
 use Rattle.std.proofs.lemmas.Option.{same_Some, slice_get_within}
 use Rattle.edge.specs.Stores.{StoreState, Content, store_of, out, at_home, FilesState, after_fetch, given_back, after_keep}
 use Rattle.tcmu_model.specs.MediumState.{Layer, memory, file, overlay, write_back, MediumState}
-use Rattle.tcmu_model.specs.Medium.{blanked}
+use Rattle.scsi_model.specs.Medium.{blanked}
 use Rattle.tcmu_model.specs.Device.{Device}
-use Rattle.tcmu_model.specs.Config.{MediumData, InMemory, InFile}
-use Rattle.tcmu_model.specs.ScenarioData.{DeviceLineData}
+use Rattle.text_model.specs.Config.{MediumData, InMemory, InFile}
+use Rattle.text_model.specs.ScenarioData.{DeviceLineData}
 use Rattle.media.specs.Stored.{IsStoredIn}
 use Rattle.device_set.specs.Sets.{devices}
 use Rattle.tcmu_top.specs.Playing.{states_of}

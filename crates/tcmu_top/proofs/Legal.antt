@@ -9,13 +9,13 @@ use Rattle.tcmu_types.specs.Events.{EntryData}
 use Rattle.tcmu_model.specs.Device.{Device}
 use Rattle.tcmu_model.specs.Steps.{HandlerRelation, Run}
 use Rattle.tcmu_model.specs.Drain.{Drains}
-use Rattle.tcmu_model.specs.Sound.{Every}
-use Rattle.tcmu_model.specs.ScenarioData.{DeviceLineData, LineWhat}
-use Rattle.tcmu_model.specs.ScenarioData as line
-use Rattle.tcmu_model.specs.Replay.{Plays}
-use Rattle.tcmu_model.specs.Several.{Journaled, is_of, RunLogs, IsLegalEach, journaled_text}
-use Rattle.tcmu_model.specs.Text.{entry_text}
-use Rattle.tcmu_model.proofs.Everies.{filter_all, every-append, every-weaker}
+use Rattle.tcmu_types.specs.Lists.{Every}
+use Rattle.text_model.specs.ScenarioData.{DeviceLineData, LineWhat}
+use Rattle.text_model.specs.ScenarioData as line
+use Rattle.text_model.specs.Replay.{Plays}
+use Rattle.text_model.specs.Several.{Journaled, is_of, RunLogs, IsLegalEach, journaled_text}
+use Rattle.text_model.specs.Text.{entry_text}
+use Rattle.tcmu_types.proofs.Everies.{filter_all, every-append, every-weaker}
 use Rattle.tcmu_model.proofs.Logs.{makes_grows}
 use Rattle.tcmu_top.specs.Playing.{run_text}
 use Rattle.tcmu_top.proofs.RunTexts.{drop_front, text_more, text_one}

@@ -2,7 +2,7 @@
 use Rattle.std.proofs.Common.{◌≡◌, inl, List, [], ◌∷◌, refl, sym, ap, ◌∙◌}
 use Rattle.tcmu_types.specs.Events.{EntryData}
 use Rattle.tcmu_model.specs.Device.{Device}
-use Rattle.tcmu_model.specs.Load.{load_lines, load_numbers, summary_text}
+use Rattle.text_model.specs.Load.{load_lines, load_numbers, summary_text}
 use Rattle.block_engine.specs.Determined.{LosesNothing}
 use Rattle.load_run.specs.Loading.{opened_over, opened_load}
 use Rattle.text_laws.proofs.Settled.{one_replay}

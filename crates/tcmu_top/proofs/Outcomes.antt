@@ -1,5 +1,5 @@
 -- The engine has a reply to each request.
-use Rattle.tcmu_model.specs.Scsi.{Serves}
+use Rattle.scsi_model.specs.Scsi.{Serves}
 use Rattle.tcmu_model.specs.Steps.{asked}
 use Rattle.tcmu_model.specs.Work.{HasOutcomes}
 use Rattle.block_engine.proofs.Settling.{some_reply, whole_reply}

@@ -5,15 +5,15 @@ use Rattle.std.proofs.lemmas.Option.{slice_get_within}
 use Rattle.tcmu_types.specs.Numbered.{Numbered}
 use Rattle.edge.specs.Stores.{Content, StoreState, store_of, Place, at_home, FilesState}
 use Rattle.tcmu_model.specs.MediumState.{Span, MediumState}
-use Rattle.tcmu_model.specs.Medium.{blanked, opened_medium, file_below}
+use Rattle.scsi_model.specs.Medium.{blanked, opened_medium, file_below}
 use Rattle.tcmu_model.specs.Device.{Device, opening}
-use Rattle.tcmu_model.specs.Config.{ConfigData, MediumData, InMemory, InFile}
-use Rattle.tcmu_model.specs.ScenarioData.{DeviceLineData}
-use Rattle.tcmu_model.specs.Scsi.{Serves}
-use Rattle.tcmu_model.specs.Several.{IsReplayOf, ReplaysEach}
-use Rattle.tcmu_model.specs.Sound.{Every}
-use Rattle.tcmu_model.proofs.Indexed.{every_at}
-use Rattle.tcmu_model.proofs.Readings.{same_some, same_bytes}
+use Rattle.text_model.specs.Config.{ConfigData, MediumData, InMemory, InFile}
+use Rattle.text_model.specs.ScenarioData.{DeviceLineData}
+use Rattle.scsi_model.specs.Scsi.{Serves}
+use Rattle.text_model.specs.Several.{IsReplayOf, ReplaysEach}
+use Rattle.tcmu_types.specs.Lists.{Every}
+use Rattle.tcmu_types.proofs.Everies.{every_at}
+use Rattle.tcmu_types.proofs.Readings.{same_some, same_bytes}
 use Rattle.tcmu_types.proofs.Places.{get_within}
 use Rattle.block_engine.specs.Determined.{LosesNothing}
 use Rattle.text_laws.specs.Replays.{entries_of}

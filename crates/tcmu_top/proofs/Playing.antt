@@ -9,22 +9,22 @@ use Rattle.tcmu_types.specs.Events as ev
 use Rattle.edge.specs.Outside.{Gained, GainedFront}
 use Rattle.tcmu_types.specs.declared.answer.Handle.TheVariants as handle
 use Rattle.tcmu_model.specs.declared.state.CommandState.TheVariants.{Out}
-use Rattle.tcmu_model.specs.Lists.{first_of}
+use Rattle.tcmu_types.specs.Lists.{first_of, Every}
 use Rattle.tcmu_model.specs.Device.{Unfinished, Device, is_at}
 use Rattle.tcmu_model.specs.Events.{submit_answer, after_submit, enter_answer, after_enter, dispatch_answer, after_dispatch, command_out, after_handle, respond_answer, after_respond, publish_answer, after_publish, clean_answer, after_clean, tick_answer, after_tick, block_answer, after_block, reset_answer, after_reset, restart_answer, after_restart, tmr_answer, after_tmr, stat_answer}
 use Rattle.tcmu_model.specs.Steps.{HandlerRelation, Step, Run, Makes, asked, moved}
 use Rattle.tcmu_model.specs.Drain.{Drains, drain_event}
-use Rattle.tcmu_model.specs.Sound.{IsSound, Every}
+use Rattle.tcmu_model.specs.Sound.{IsSound}
 use Rattle.tcmu_model.specs.Work.{Outcome, HasOutcomes, GoesOn, work}
-use Rattle.tcmu_model.specs.ScenarioData.{DeviceLineData, LineWhat, LineData}
-use Rattle.tcmu_model.specs.ScenarioData as line
-use Rattle.tcmu_model.specs.Replay.{Plays}
-use Rattle.tcmu_model.specs.Text.{entry_text}
+use Rattle.text_model.specs.ScenarioData.{DeviceLineData, LineWhat, LineData}
+use Rattle.text_model.specs.ScenarioData as line
+use Rattle.text_model.specs.Replay.{Plays}
+use Rattle.text_model.specs.Text.{entry_text}
 use Rattle.tcmu_model.proofs.Draining.{work_falls}
 use Rattle.tcmu_model.proofs.GoesOn.{goes_on_first, goes_on_more, drains_run}
 use Rattle.tcmu_model.proofs.Logs.{makes_grows}
 use Rattle.tcmu_top.specs.Playing.{event_lines, run_text, MadeEvent, Played, Stopped, Wrote, RunAllButLast, WroteFront}
-use Rattle.tcmu_model.specs.ScenarioRules.{IsEvent}
+use Rattle.text_model.specs.ScenarioRules.{IsEvent}
 use Rattle.tcmu_path.specs.Tasks.{IsFit}
 use Rattle.tcmu_top.proofs.Telling.{gained_none, gained_more, gained_as, front_none, front_whole, front_behind}
 use Rattle.tcmu_top.proofs.RunTexts.{run_append, text_more, text_one, drop_front}

@@ -7,8 +7,8 @@ use Rattle.tcmu_types.specs.Data.{DoneData}
 use Rattle.tcmu_types.specs.Events.{EntryData}
 use Rattle.tcmu_model.specs.Device.{Device}
 use Rattle.tcmu_model.specs.Steps.{HandlerRelation, Step, Run}
-use Rattle.tcmu_model.specs.ScenarioData.{DeviceLineData}
-use Rattle.tcmu_model.specs.Text.{entry_text, entries_text}
+use Rattle.text_model.specs.ScenarioData.{DeviceLineData}
+use Rattle.text_model.specs.Text.{entry_text, entries_text}
 use Rattle.tcmu_model.proofs.Logs.{makes_grows}
 use Rattle.tcmu_top.specs.Playing.{run_text}
 

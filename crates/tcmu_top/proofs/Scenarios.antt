@@ -4,14 +4,14 @@ use Rattle.std.specs.List.{AllPairs}
 use Rattle.std.proofs.lemmas.Bool.{lt-ltb}
 use Rattle.tcmu_types.specs.Numbered.{Rose}
 use Rattle.edge.specs.Stores.{FilesState}
-use Rattle.tcmu_model.specs.Scsi.{Serves}
+use Rattle.scsi_model.specs.Scsi.{Serves}
 use Rattle.tcmu_model.specs.Device.{Device}
-use Rattle.tcmu_model.specs.Said.{same_file}
-use Rattle.tcmu_model.specs.ScenarioData.{DeviceLineData, ScenarioData}
-use Rattle.tcmu_model.specs.Scenario.{Bad, scenario_of}
-use Rattle.tcmu_model.specs.ScenarioRules.{IsScenario}
-use Rattle.tcmu_model.specs.Several.{Journaled, IsLegalEach}
-use Rattle.tcmu_model.specs.declared.faults.Why.TheVariants as why
+use Rattle.text_model.specs.Said.{same_file}
+use Rattle.text_model.specs.ScenarioData.{DeviceLineData, ScenarioData}
+use Rattle.text_model.specs.Scenario.{Bad, scenario_of}
+use Rattle.text_model.specs.ScenarioRules.{IsScenario}
+use Rattle.text_model.specs.Several.{Journaled, IsLegalEach}
+use Rattle.text_model.specs.declared.faults.Why.TheVariants as why
 use Rattle.tcmu_top.specs.declared.status.Status.{Status}
 use Rattle.tcmu_top.specs.declared.status.Status.TheVariants as status
 use Rattle.tcmu_top.specs.Calls.{TookFront, outside}

@@ -5,7 +5,7 @@ use Rattle.std.proofs.lemmas.Option.{same_Some}
 use Rattle.tcmu_types.specs.Events.{EntryData}
 use Rattle.tcmu_model.specs.Device.{Device}
 use Rattle.tcmu_model.specs.Steps.{HandlerRelation}
-use Rattle.tcmu_model.specs.ScenarioData.{DeviceLineData}
+use Rattle.text_model.specs.ScenarioData.{DeviceLineData}
 use Rattle.tcmu_path.specs.Calls.{Accepts}
 use Rattle.device_set.specs.Sets.{devices, with_device}
 use Rattle.tcmu_top.specs.Playing.{states_of, Wrote, WroteFront, WroteOn, WroteOnFront}

@@ -7,15 +7,15 @@ use Rattle.std.proofs.lemmas.List.Elements.{All-tail}
 use Rattle.edge.specs.Outside.{Gained, GainedFront}
 use Rattle.tcmu_model.specs.Device.{Device, DeviceState}
 use Rattle.tcmu_model.specs.Steps.{HandlerRelation}
-use Rattle.tcmu_model.specs.Sound.{IsSound, Every}
+use Rattle.tcmu_model.specs.Sound.{IsSound, open_count}
+use Rattle.tcmu_types.specs.Lists.{Every}
 use Rattle.tcmu_model.specs.Work.{HasOutcomes}
-use Rattle.tcmu_model.specs.Replay.{open_count}
-use Rattle.tcmu_model.specs.ScenarioData.{DeviceLineData, LineData, LineWhat}
-use Rattle.tcmu_model.specs.ScenarioData as line
-use Rattle.tcmu_model.specs.Scenario.{is_dump}
-use Rattle.tcmu_model.specs.ScenarioRules.{IsDeviceLine, IsLine, IsWhat}
-use Rattle.tcmu_model.specs.Several.{Journaled, ReplaysEach, IsLegalEach, journaled_text, ends_text, IsReplayOf}
-use Rattle.tcmu_model.specs.Text.{device_text, end_text}
+use Rattle.text_model.specs.ScenarioData.{DeviceLineData, LineData, LineWhat}
+use Rattle.text_model.specs.ScenarioData as line
+use Rattle.text_model.specs.Scenario.{is_dump}
+use Rattle.text_model.specs.ScenarioRules.{IsDeviceLine, IsLine, IsWhat}
+use Rattle.text_model.specs.Several.{Journaled, ReplaysEach, IsLegalEach, journaled_text, ends_text, IsReplayOf}
+use Rattle.text_model.specs.Text.{device_text, end_text}
 use Rattle.tcmu_model.proofs.SoundEvents.{sound_opening}
 use Rattle.tcmu_top.specs.Playing.{AreOpened, WroteEach, WroteEachFront}
 use Rattle.tcmu_path.specs.Tasks.{IsFit, IsFitFor}

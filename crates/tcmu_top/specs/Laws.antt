@@ -8,13 +8,14 @@ use Rattle.tcmu_types.specs.declared.answer.Submit.TheVariants as submit
 use Rattle.edge.specs.Stores.{Content, at_home, FilesState}
 use Rattle.load_run.specs.Loading.{IsLoadText}
 use Rattle.tcmu_model.specs.Device.{Device}
-use Rattle.tcmu_model.specs.Config.{MediumData, InMemory, InFile}
-use Rattle.tcmu_model.specs.ScenarioData.{DeviceLineData, ScenarioData}
-use Rattle.tcmu_model.specs.Scenario.{scenario_of}
-use Rattle.tcmu_model.specs.Replay.{open_count}
-use Rattle.tcmu_model.specs.Several.{Journaled, is_of}
+use Rattle.text_model.specs.Config.{MediumData, InMemory, InFile}
+use Rattle.text_model.specs.ScenarioData.{DeviceLineData, ScenarioData}
+use Rattle.text_model.specs.Scenario.{scenario_of}
+use Rattle.tcmu_model.specs.Sound.{open_count, times_logged, times_open}
+use Rattle.text_model.specs.Several.{Journaled, is_of}
 use Rattle.tcmu_model.specs.Journals.{WasAccepted, IsExplained}
-use Rattle.tcmu_model.specs.Sound.{Every, Differ, times_logged, times_open}
+use Rattle.tcmu_types.specs.Numbers.{Differ}
+use Rattle.tcmu_types.specs.Lists.{Every}
 use Rattle.text_laws.specs.InMemory as memory
 use Rattle.text_laws.specs.Replays.{entries_of}
 use Rattle.tcmu_top.specs.Opened.{SameFiles, KeptFiles}

@@ -3,7 +3,7 @@ use Rattle.std.specs.Prelude.{◌≡◌, ◌≢◌, ℕ, List, Option}
 use Rattle.tcmu_types.specs.Numbered.{Rose}
 use Rattle.edge.specs.Outside.{Gained, GainedFront}
 use Rattle.load_run.specs.Loading.{IsLoadText}
-use Rattle.tcmu_model.specs.declared.faults.Why.{Why}
+use Rattle.text_model.specs.declared.faults.Why.{Why}
 use Rattle.tcmu_top.specs.Calls.{Calm}
 use Rattle.tcmu_top.specs.declared.status.Status.{Status}
 use Rattle.tcmu_top.specs.declared.status.Status.TheVariants as status

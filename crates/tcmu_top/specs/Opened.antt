@@ -8,10 +8,10 @@ use Rattle.media.specs.Opening as medium
 use Rattle.media.specs.declared.make.MakeFault.{MakeFault}
 use Rattle.media.specs.declared.make.MakeFault.TheVariants as fault
 use Rattle.tcmu_model.specs.MediumState.{MediumState, file}
-use Rattle.tcmu_model.specs.Medium.{blanked, opened_medium, memory_below, file_below}
+use Rattle.scsi_model.specs.Medium.{blanked, opened_medium, memory_below, file_below}
 use Rattle.tcmu_model.specs.Device.{Device, opening}
-use Rattle.tcmu_model.specs.Config.{ConfigData, MediumData, InMemory, InFile}
-use Rattle.tcmu_model.specs.ScenarioData.{DeviceLineData}
+use Rattle.text_model.specs.Config.{ConfigData, MediumData, InMemory, InFile}
+use Rattle.text_model.specs.ScenarioData.{DeviceLineData}
 
 -- ==== as they open
 

@@ -5,11 +5,12 @@ use Rattle.tcmu_types.specs.Data.{DoneData}
 use Rattle.tcmu_types.specs.Events.{EventData, AnswerData, EntryData}
 use Rattle.edge.specs.Outside.{Gained, GainedFront}
 use Rattle.tcmu_model.specs.Device.{Device, opening_state}
-use Rattle.tcmu_model.specs.Sound.{Every, IsSound}
+use Rattle.tcmu_model.specs.Sound.{IsSound}
+use Rattle.tcmu_types.specs.Lists.{Every}
 use Rattle.tcmu_model.specs.Steps.{HandlerRelation, Step, Run}
-use Rattle.tcmu_model.specs.ScenarioData.{DeviceLineData}
-use Rattle.tcmu_model.specs.Text.{entries_text, event_line, completion_text}
-use Rattle.tcmu_model.specs.Several.{Journaled, IsLegalEach, journaled_text}
+use Rattle.text_model.specs.ScenarioData.{DeviceLineData}
+use Rattle.text_model.specs.Text.{entries_text, event_line, completion_text}
+use Rattle.text_model.specs.Several.{Journaled, IsLegalEach, journaled_text}
 use Rattle.tcmu_path.specs.Calls.{Accepts}
 
 -- the line of an event with its answer, and those of the completions that it logged

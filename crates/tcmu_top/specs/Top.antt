@@ -5,16 +5,16 @@ use Rattle.std.specs.Fmt.{decimal}
 use Rattle.tcmu_types.specs.Numbered.{Rose}
 use Rattle.edge.specs.Outside.{Tells, Gained, GainedFront}
 use Rattle.edge.specs.Stores.{FilesState}
-use Rattle.tcmu_model.specs.Scsi.{Serves}
+use Rattle.scsi_model.specs.Scsi.{Serves}
 use Rattle.tcmu_model.specs.Device.{Device}
 use Rattle.tcmu_model.specs.Steps.{HandlerRelation}
-use Rattle.tcmu_model.specs.ScenarioData.{DeviceLineData, LineData, ScenarioData}
-use Rattle.tcmu_model.specs.Scenario.{Bad, scenario_of}
-use Rattle.tcmu_model.specs.Text.{device_text}
-use Rattle.tcmu_model.specs.Words.{why_word}
-use Rattle.tcmu_model.specs.Several.{Journaled, IsLegalEach, journaled_text, IsReplayOf}
-use Rattle.tcmu_model.specs.declared.faults.Why.{Why}
-use Rattle.tcmu_model.specs.declared.faults.Why.TheVariants as why
+use Rattle.text_model.specs.ScenarioData.{DeviceLineData, LineData, ScenarioData}
+use Rattle.text_model.specs.Scenario.{Bad, scenario_of}
+use Rattle.text_model.specs.Text.{device_text}
+use Rattle.text_model.specs.Words.{why_word}
+use Rattle.text_model.specs.Several.{Journaled, IsLegalEach, journaled_text, IsReplayOf}
+use Rattle.text_model.specs.declared.faults.Why.{Why}
+use Rattle.text_model.specs.declared.faults.Why.TheVariants as why
 use Rattle.tcmu_top.specs.Opened.{OpenEach, file_names, a_fetch_fails, KeptFiles, NoneFailed, NextFailed, AsTheyWere}
 use Rattle.tcmu_top.specs.Loads.{LoadEnds}
 use Rattle.tcmu_top.specs.Calls.{Outside, TookFront, Calm}

@@ -1,7 +1,7 @@
 -- The words of the program.
 use Rattle.std.specs.Prelude.{ℕ, ◌-◌, ◌^◌, ◌≤◌, List, [], ◌∷◌, Option, Some, None, if◌then◌else◌, bytes_eq, codes}
 use Rattle.std.specs.Option.{option_and_then, option_map}
-use Rattle.tcmu_model.specs.Fields.{number_of}
+use Rattle.tcmu_types.specs.Decimals.{number_of}
 use Rattle.tcmu_top.specs.declared.words.Task.{Task}
 use Rattle.tcmu_top.specs.declared.words.Task.TheVariants as task
 

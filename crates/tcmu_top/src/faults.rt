@@ -7,7 +7,7 @@ ghost use Rattle.tcmu_top.specs.Top.{fault_text, Reported};
 use crate::status::Status;
 use arrayvec::ArrayString;
 use edge::Sink;
-use tcmu_model::Why;
+use text_model::Why;
 
 /// Room for the longest line.
 type Line = ArrayString<80>;

@@ -16,7 +16,7 @@ mod writing;
 pub use laws::{completions_law, files_law, load_law, memory_law, replay_law, text_law};
 pub use load::run_load;
 pub use status::Status;
-pub use tcmu_model::Why;
+pub use text_model::Why;
 pub use top::{run_replay, tcmu_top};
 
 #[cfg(test)]

@@ -6,7 +6,7 @@ ghost use Rattle.tcmu_model.specs.Steps.{Makes, accepted_by};
 ghost use Rattle.tcmu_model.specs.Drain.{chosen, Drains};
 ghost use Rattle.tcmu_model.specs.Sound.{IsSound};
 ghost use Rattle.tcmu_model.specs.Work.{HasOutcomes};
-ghost use Rattle.tcmu_model.specs.Replay.{Plays};
+ghost use Rattle.text_model.specs.Replay.{Plays};
 ghost use Rattle.tcmu_path.specs.Calls.{Accepts};
 ghost use Rattle.tcmu_path.specs.Tasks.{CanBeMade, IsFit};
 ghost use Rattle.tcmu_top.specs.Calls.{SinkFaults};

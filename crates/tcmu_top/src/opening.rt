@@ -1,8 +1,8 @@
 //! The devices of a scenario, as they open over files, and what they give back.
 ghost use Rattle.std.specs.Prelude.{◌≡◌, ◌≢◌, ◌≤◌, ◌<◌, false, [], ◌∷◌, length, None, IfOk, IfErr, OnOk, OnErr, IsErrOf};
 ghost use Rattle.std.specs.List.{All, AllPairs};
-ghost use Rattle.tcmu_model.specs.Said.{same_file};
-ghost use Rattle.tcmu_model.specs.ScenarioRules.{IsConfig, IsDeviceLine};
+ghost use Rattle.text_model.specs.Said.{same_file};
+ghost use Rattle.text_model.specs.ScenarioRules.{IsConfig, IsDeviceLine};
 ghost use Rattle.device_config.specs.Views.{medium_data};
 ghost use Rattle.device_set.specs.Sets.{number_of};
 ghost use Rattle.media.specs.Opening.{Refuses};

@@ -2,11 +2,11 @@
 ghost use Rattle.std.specs.Prelude.{◌≡◌, ◌+◌, ◌^◌, ◌≤◌, ◌<◌, length, OnOk, OnErr};
 ghost use Rattle.edge.specs.Outside.{Gained, GainedFront};
 ghost use Rattle.tcmu_model.specs.Drain.{Drains};
-ghost use Rattle.tcmu_model.specs.Sound.{Every};
+ghost use Rattle.tcmu_types.specs.Lists.{Every};
 ghost use Rattle.tcmu_model.specs.Work.{HasOutcomes};
-ghost use Rattle.tcmu_model.specs.Replay.{Plays};
-ghost use Rattle.tcmu_model.specs.Several.{DrainsEach, ReplaysEach, ends_text};
-ghost use Rattle.tcmu_model.specs.ScenarioRules.{IsScenario, IsServed};
+ghost use Rattle.text_model.specs.Replay.{Plays};
+ghost use Rattle.text_model.specs.Several.{DrainsEach, ReplaysEach, ends_text};
+ghost use Rattle.text_model.specs.ScenarioRules.{IsScenario, IsServed};
 ghost use Rattle.device_set.specs.Sets.{names};
 ghost use Rattle.tcmu_path.specs.Tasks.{IsFitFor};
 ghost use Rattle.tcmu_top.specs.Calls.{SinkFaults};

@@ -2,7 +2,7 @@
 ghost use Rattle.std.specs.Prelude.{◌≡◌};
 ghost use Rattle.tcmu_top.specs.Top.{code_of};
 
-use tcmu_model::Why;
+use text_model::Why;
 
 /// How a run ends.
 #[derive(Clone, Copy, Debug, PartialEq, Eq)]

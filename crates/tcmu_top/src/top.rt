@@ -3,7 +3,7 @@ ghost use Rattle.std.specs.Prelude.{◌≡◌, ℕ, ◌≤◌, [], Option};
 ghost use Rattle.tcmu_types.specs.Data.{texts_of};
 ghost use Rattle.tcmu_types.specs.Numbered.{Rose};
 ghost use Rattle.edge.specs.Stores.{FilesState};
-ghost use Rattle.tcmu_model.specs.ScenarioRules.{IsScenario, IsServed};
+ghost use Rattle.text_model.specs.ScenarioRules.{IsScenario, IsServed};
 ghost use Rattle.tcmu_top.specs.Opened.{AreOpen};
 ghost use Rattle.tcmu_top.specs.Playing.{AreOpened, states_of};
 ghost use Rattle.tcmu_top.specs.Calls.{outside};
@@ -23,7 +23,7 @@ use edge::{Files, Sink, Source};
 use media::MakeFault;
 use scenario_text::{Scenario, ScenarioFault, read_scenario};
 use std::alloc::Global;
-use tcmu_model::Why;
+use text_model::Why;
 use tcmu_types::Words;
 
 /// Replays a scenario's lines on its devices and writes the text. However that ends, the devices' files are given back.

@@ -2,7 +2,7 @@
 ghost use Rattle.std.specs.Prelude.{◌≡◌, ◌-◌, ◌^◌, IfSome};
 ghost use Rattle.std.specs.List.{list_all};
 ghost use Rattle.tcmu_types.specs.Data.{texts_of};
-ghost use Rattle.tcmu_model.specs.Fields.{is_digit, is_number, number_of};
+ghost use Rattle.tcmu_types.specs.Decimals.{is_digit, is_number, number_of};
 ghost use Rattle.tcmu_top.specs.Words.{task_of, replay_of, load_of, IsTask};
 
 use device_config::fields::number_of;

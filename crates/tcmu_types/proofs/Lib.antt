@@ -1,2 +1,9 @@
 pub mod Places
 pub mod Overwriting
+pub mod Everies
+pub mod Firsts
+pub mod Rises
+pub mod Counts
+pub mod ByteFields
+pub mod Guards
+pub mod Readings

@@ -79,3 +79,13 @@ pub drop_from : {X : Type 0} (xs : List X) (i : ℕ) (x : X) → slice_get xs i 
 drop_from [] i x h = absurd (cc)
 drop_from (y ∷ xs) zero x h = cc
 drop_from (y ∷ xs) (suc i) x h = drop_from xs i x h
+
+pub within : {X : Type 0} (xs : List X) (i : ℕ) (x : X) → slice_get xs i ≡ Some x → i < length xs
+within [] i x h = absurd (cc)
+within (y ∷ xs) zero x h = omega arith
+within (y ∷ xs) (suc i) x h = omega (arith, within xs i x h)
+
+pub get_none : {X : Type 0} (xs : List X) (i : ℕ) → slice_get xs i ≡ None → length xs ≤ i
+get_none [] i h = omega arith
+get_none (y ∷ xs) zero h = absurd (cc)
+get_none (y ∷ xs) (suc i) h = omega (arith, get_none xs i h)

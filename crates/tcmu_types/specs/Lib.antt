@@ -7,3 +7,10 @@ pub mod Views
 pub mod Dumps
 pub mod Numbered
 pub mod Overwriting
+pub mod Lists
+pub mod Reading
+pub mod Numbers
+pub mod ByteFields
+pub mod Fields
+pub mod Decimals
+pub mod Hex

@@ -1,7 +1,7 @@
 -- Lists of texts that are told apart.
 use Rattle.std.proofs.Common.{◌≡◌, ℕ, Bool, true, false, List, [], ◌∷◌, ◌++◌, drop, refl, sym, ap, ◌∙◌}
 use Rattle.std.proofs.lemmas.Bool.{false≢true}
-use Rattle.tcmu_model.specs.Sound.{Every}
+use Rattle.tcmu_types.specs.Lists.{Every}
 
 abbrev pub head_or : List ℕ → List (List ℕ) → List ℕ
 head_or d [] = d

@@ -7,21 +7,21 @@ use Rattle.std.proofs.lemmas.List.{length-set}
 use Rattle.tcmu_types.specs.Events.{EventData, EntryData}
 use Rattle.tcmu_types.specs.Events as ev
 use Rattle.tcmu_types.specs.declared.stat.Todo.{Todo}
-use Rattle.tcmu_model.specs.Lists.{first_of}
+use Rattle.tcmu_types.specs.Lists.{first_of, Every}
 use Rattle.tcmu_model.specs.declared.state.CommandState.TheVariants.{Out, Handled}
 use Rattle.tcmu_model.specs.Device.{Unfinished, DeviceState, Device, has_state}
 use Rattle.tcmu_model.specs.Steps.{HandlerRelation, Step, accepted_by}
 use Rattle.tcmu_model.specs.Drain.{least_serial, chosen, todo_of, nothing_to_do, drain_event, Drains}
-use Rattle.tcmu_model.specs.ScenarioData.{LineWhat, LineData, command_of}
-use Rattle.tcmu_model.specs.ScenarioData as line
-use Rattle.tcmu_model.specs.ScenarioRules.{IsEvent, IsWhat}
-use Rattle.tcmu_model.specs.Replay.{Plays}
-use Rattle.tcmu_model.specs.Several.{DrainsEach, ReplaysEach}
-use Rattle.tcmu_model.specs.Sound.{Every, IsSound}
-use Rattle.tcmu_model.proofs.Everies.{every-append, every-weaker, every-mapped, every-first}
+use Rattle.text_model.specs.ScenarioData.{LineWhat, LineData, command_of}
+use Rattle.text_model.specs.ScenarioData as line
+use Rattle.text_model.specs.ScenarioRules.{IsEvent, IsWhat}
+use Rattle.text_model.specs.Replay.{Plays}
+use Rattle.text_model.specs.Several.{DrainsEach, ReplaysEach}
+use Rattle.tcmu_model.specs.Sound.{IsSound}
+use Rattle.tcmu_types.proofs.Everies.{every-append, every-weaker, every-mapped, every-first, every_at}
 use Rattle.tcmu_model.proofs.Basics.{rows_rise}
-use Rattle.tcmu_model.proofs.Rises.{rise_within}
-use Rattle.tcmu_model.proofs.Readings.{same_some, mapped}
+use Rattle.tcmu_types.proofs.Rises.{rise_within}
+use Rattle.tcmu_types.proofs.Readings.{same_some, mapped}
 use Rattle.tcmu_model.proofs.Runs.{sound_step}
 use Rattle.text_laws.specs.Carried.{IsCarriedWhat}
 use Rattle.text_laws.specs.Lines.{CarriesBytes, made}
@@ -29,7 +29,6 @@ use Rattle.text_laws.specs.Replays.{lines_of}
 use Rattle.text_laws.proofs.Accepted.{accepts_one, makes_accepts}
 use Rattle.text_laws.proofs.Sets.{every_set}
 use Rattle.tcmu_model.proofs.Draining.{all_todo}
-use Rattle.tcmu_model.proofs.Indexed.{every_at}
 
 -- ---- lines that send commands
 

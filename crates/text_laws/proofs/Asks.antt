@@ -4,9 +4,9 @@ use Rattle.tcmu_types.specs.Rules.{IsCommand}
 use Rattle.tcmu_types.specs.Events.{EventData, AnswerData}
 use Rattle.tcmu_types.specs.Events as ev
 use Rattle.tcmu_model.specs.Device.{Device}
-use Rattle.tcmu_model.specs.ScenarioRules.{IsEvent}
-use Rattle.tcmu_model.specs.Several.{Journaled, RunLogs}
-use Rattle.tcmu_model.specs.Sound.{Every}
+use Rattle.text_model.specs.ScenarioRules.{IsEvent}
+use Rattle.text_model.specs.Several.{Journaled, RunLogs}
+use Rattle.tcmu_types.specs.Lists.{Every}
 use Rattle.tcmu_model.specs.Steps.{HandlerRelation, Makes}
 use Rattle.text_laws.specs.Lines.{CarriesBytes}
 use Rattle.text_laws.specs.Values.{IsEventValue}

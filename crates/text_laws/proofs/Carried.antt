@@ -8,24 +8,27 @@ use Rattle.tcmu_types.specs.Rules.{is_directed}
 use Rattle.tcmu_types.specs.Data.{CommandData}
 use Rattle.tcmu_types.specs.Events.{EventData}
 use Rattle.tcmu_types.specs.Events as ev
-use Rattle.tcmu_model.specs.Reading.{each}
-use Rattle.tcmu_model.specs.Fields.{is_digit, number_of, after_word, hex_value, hex_pair, bytes_of_hex, is_cdb, cdb_of, run_of, runs_of, only_if, pieces, name_of, serials_of}
-use Rattle.tcmu_model.specs.Words.{verb_of}
-use Rattle.tcmu_model.specs.Lines.{before_hash, fields_of, is_allowed, one_field, three_fields, submit_fields, device_fields, DeviceFields, LastFields, last_fields, PayloadField, NoPayload, InBytes, OutRuns}
-use Rattle.tcmu_model.specs.Config.{ConfigData, config_of}
-use Rattle.tcmu_model.specs.ScenarioData.{DeviceLineData, LineData, LineWhat, Makes, Drains, Dumps, ScenarioData}
-use Rattle.tcmu_model.specs.ScenarioRules.{IsDeviceLine}
-use Rattle.tcmu_model.specs.Said.{Said, Opens, Adds, device_at, new_name, device_config, is_own, settings_of, payload_of, device_line, submit_line, plain_line, number_at, number_line, tmr_line, said_by}
-use Rattle.tcmu_model.specs.Scenario.{with_rules, is_not_yet, with_said, with_fields, with_text, with_lines, nothing_yet, scenario_of, Bad}
-use Rattle.tcmu_model.specs.Sound.{Every}
-use Rattle.tcmu_model.specs.declared.faults.ConfigFault.{ConfigFault}
-use Rattle.tcmu_model.specs.declared.faults.Why.{Why}
-use Rattle.tcmu_model.specs.declared.faults.Why.TheVariants as why
-use Rattle.tcmu_model.specs.declared.words.Verb.{Verb}
-use Rattle.tcmu_model.specs.declared.words.Verb.TheVariants as verb
-use Rattle.tcmu_model.proofs.Readings.{same_some, same_ok, step, read_step, both, mapped, passed, number_within}
-use Rattle.tcmu_model.proofs.Everies.{every-append}
-use Rattle.tcmu_model.proofs.ScenarioLaws.{kept_line, kept_device, scenario_is}
+use Rattle.tcmu_types.specs.Reading.{each}
+use Rattle.text_model.specs.Fields.{is_cdb, cdb_of, run_of, runs_of, name_of, serials_of}
+use Rattle.tcmu_types.specs.Hex.{hex_value, hex_pair, bytes_of_hex}
+use Rattle.tcmu_types.specs.Decimals.{is_digit, number_of}
+use Rattle.tcmu_types.specs.Fields.{after_word, only_if, pieces, before_hash, fields_of, is_allowed}
+use Rattle.text_model.specs.Words.{verb_of}
+use Rattle.text_model.specs.Lines.{one_field, three_fields, submit_fields, device_fields, DeviceFields, LastFields, last_fields, PayloadField, NoPayload, InBytes, OutRuns}
+use Rattle.text_model.specs.Config.{ConfigData, config_of}
+use Rattle.text_model.specs.ScenarioData.{DeviceLineData, LineData, LineWhat, Makes, Drains, Dumps, ScenarioData}
+use Rattle.text_model.specs.ScenarioRules.{IsDeviceLine}
+use Rattle.text_model.specs.Said.{Said, Opens, Adds, device_at, new_name, device_config, is_own, settings_of, payload_of, device_line, submit_line, plain_line, number_at, number_line, tmr_line, said_by}
+use Rattle.text_model.specs.Scenario.{with_rules, is_not_yet, with_said, with_fields, with_text, with_lines, nothing_yet, scenario_of, Bad}
+use Rattle.tcmu_types.specs.Lists.{Every}
+use Rattle.text_model.specs.declared.faults.ConfigFault.{ConfigFault}
+use Rattle.text_model.specs.declared.faults.Why.{Why}
+use Rattle.text_model.specs.declared.faults.Why.TheVariants as why
+use Rattle.text_model.specs.declared.words.Verb.{Verb}
+use Rattle.text_model.specs.declared.words.Verb.TheVariants as verb
+use Rattle.tcmu_types.proofs.Readings.{same_some, same_ok, step, read_step, both, mapped, passed, number_within}
+use Rattle.tcmu_types.proofs.Everies.{every-append}
+use Rattle.text_model.proofs.ScenarioLaws.{kept_line, kept_device, scenario_is}
 use Rattle.text_laws.specs.Bytes.{AreBytes}
 use Rattle.text_laws.specs.Lines.{IsCarried, CarriesBytes}
 use Rattle.text_laws.specs.Configs.{FileLacks}

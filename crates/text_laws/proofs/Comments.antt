@@ -1,9 +1,9 @@
 -- Lines that are ignored.
 use Rattle.std.proofs.Common.{◌≡◌, [], Ok, refl}
-use Rattle.tcmu_model.specs.Lines.{before_hash, fields_of}
-use Rattle.tcmu_model.specs.ScenarioData.{ScenarioData}
-use Rattle.tcmu_model.specs.Scenario.{with_fields, with_text}
-use Rattle.tcmu_model.specs.Text.{completion_text, end_text}
+use Rattle.tcmu_types.specs.Fields.{before_hash, fields_of}
+use Rattle.text_model.specs.ScenarioData.{ScenarioData}
+use Rattle.text_model.specs.Scenario.{with_fields, with_text}
+use Rattle.text_model.specs.Text.{completion_text, end_text}
 use Rattle.text_laws.specs.Lines.{CommentsIgnored, CompletionsIgnored, EndsIgnored}
 
 pub comments_ignored : CommentsIgnored

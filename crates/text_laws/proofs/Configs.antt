@@ -6,15 +6,16 @@ use Rattle.std.specs.Fmt.{decimal}
 use Rattle.std.proofs.lemmas.Bool.{and_from, and_parts, leb-true, ne_eqb, eqb-true, cond-true}
 use Rattle.std.proofs.lemmas.List.Folds.{list_all-append}
 use Rattle.tcmu_types.specs.Naming.{is_name, is_name_byte, is_letter}
-use Rattle.tcmu_model.specs.Words.{subtype_of}
-use Rattle.tcmu_model.specs.Fields.{is_digit, number_of, name_of}
-use Rattle.tcmu_model.specs.Config.{ConfigData, MediumData, InMemory, InFile, PathData, medium_of, path_of, part, parts_of, config_of}
-use Rattle.tcmu_model.specs.ScenarioRules.{IsWithin, IsRisingTo, IsMedium, IsConfig}
-use Rattle.tcmu_model.specs.Sound.{Every}
-use Rattle.tcmu_model.specs.Text.{numbers_text, medium_text, kind_text, config_text}
-use Rattle.tcmu_model.specs.declared.faults.ConfigFault.TheVariants as fault
-use Rattle.tcmu_model.specs.declared.words.Subtype.{Subtype}
-use Rattle.tcmu_model.specs.declared.words.Subtype.TheVariants.{Mem, File, Ro, Fail}
+use Rattle.text_model.specs.Words.{subtype_of}
+use Rattle.text_model.specs.Fields.{name_of}
+use Rattle.tcmu_types.specs.Decimals.{is_digit, number_of, IsWithin, IsRisingTo}
+use Rattle.text_model.specs.Config.{ConfigData, MediumData, InMemory, InFile, PathData, medium_of, path_of, part, parts_of, config_of}
+use Rattle.text_model.specs.ScenarioRules.{IsMedium, IsConfig}
+use Rattle.tcmu_types.specs.Lists.{Every}
+use Rattle.text_model.specs.Text.{numbers_text, medium_text, kind_text, config_text}
+use Rattle.text_model.specs.declared.faults.ConfigFault.TheVariants as fault
+use Rattle.text_model.specs.declared.words.Subtype.{Subtype}
+use Rattle.text_model.specs.declared.words.Subtype.TheVariants.{Mem, File, Ro, Fail}
 use Rattle.text_laws.specs.Configs.{is_other, FileLacks, ConfigsAgain}
 use Rattle.text_laws.proofs.Numbers.{all_digits, number_again}
 use Rattle.text_laws.proofs.Lists.{rising_again, within_each}

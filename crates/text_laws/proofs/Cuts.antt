@@ -3,9 +3,9 @@ use Rattle.std.proofs.Common.{◌≡◌, ℕ, suc, ◌+◌, ◌<◌, ◌≤◌, 
 use Rattle.std.specs.List.{list_all, position, position_or_len}
 use Rattle.std.specs.Option.{option_map}
 use Rattle.std.proofs.lemmas.Bool.{and_parts, eq-eqb, lt-ltb, le-ltb, cond-true, cond-false}
-use Rattle.tcmu_model.specs.Fields.{cut_at}
-use Rattle.tcmu_model.specs.Config.{part}
-use Rattle.tcmu_model.specs.declared.faults.ConfigFault.{ConfigFault}
+use Rattle.tcmu_types.specs.Fields.{cut_at}
+use Rattle.text_model.specs.Config.{part}
+use Rattle.text_model.specs.declared.faults.ConfigFault.{ConfigFault}
 use Rattle.text_laws.specs.Configs.{is_other}
 
 pub one_more : (n : ℕ) → 1 + n ≡ suc n

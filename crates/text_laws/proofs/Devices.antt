@@ -11,15 +11,16 @@ use Rattle.tcmu_types.specs.Naming.{is_name}
 use Rattle.tcmu_types.specs.Data.{SettingsData}
 use Rattle.tcmu_types.specs.Rules.{IsSettings}
 use Rattle.tcmu_types.specs.declared.settings.Flags.{Flags}
-use Rattle.tcmu_model.specs.Words.{verb_of}
-use Rattle.tcmu_model.specs.Fields.{number_of, only_if}
-use Rattle.tcmu_model.specs.Config.{ConfigData, MediumData, InMemory, InFile, is_shown}
-use Rattle.tcmu_model.specs.Lines.{LastFields, last_fields, DeviceFields, device_fields}
-use Rattle.tcmu_model.specs.ScenarioData.{DeviceLineData, ScenarioData}
-use Rattle.tcmu_model.specs.ScenarioRules.{IsMedium}
-use Rattle.tcmu_model.specs.Said.{Opens, has_name, new_name, is_own, device_config, ring_of, qfull_of, pages_of, settings_of, device_line, said_by}
-use Rattle.tcmu_model.specs.Scenario.{with_fields, with_text}
-use Rattle.tcmu_model.specs.Text.{spaced, config_text, flags_text, last_text, settings_text, device_spelling}
+use Rattle.text_model.specs.Words.{verb_of}
+use Rattle.tcmu_types.specs.Decimals.{number_of}
+use Rattle.tcmu_types.specs.Fields.{only_if}
+use Rattle.text_model.specs.Config.{ConfigData, MediumData, InMemory, InFile, is_shown}
+use Rattle.text_model.specs.Lines.{LastFields, last_fields, DeviceFields, device_fields}
+use Rattle.text_model.specs.ScenarioData.{DeviceLineData, ScenarioData}
+use Rattle.text_model.specs.ScenarioRules.{IsMedium}
+use Rattle.text_model.specs.Said.{Opens, has_name, new_name, is_own, device_config, ring_of, qfull_of, pages_of, settings_of, device_line, said_by}
+use Rattle.text_model.specs.Scenario.{with_fields, with_text}
+use Rattle.text_model.specs.Text.{spaced, config_text, flags_text, last_text, settings_text, device_spelling}
 use Rattle.text_laws.specs.Words.{is_field_byte, IsWord, AreWords}
 use Rattle.text_laws.specs.Configs.{is_other, FileLacks}
 use Rattle.text_laws.specs.Devices.{IsSpelledDevice, IsNew, DevicesAgain}

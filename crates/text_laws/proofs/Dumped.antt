@@ -9,10 +9,11 @@ use Rattle.tcmu_types.specs.Naming.{is_name}
 use Rattle.tcmu_types.specs.Dumps.{ItemData, HeldData, DumpData}
 use Rattle.tcmu_types.specs.declared.dump.ItemKind.{ItemKind}
 use Rattle.tcmu_types.specs.declared.dump.ItemKind.TheVariants as kind
-use Rattle.tcmu_model.specs.Fields.{is_digit, cut_at, pieces}
-use Rattle.tcmu_model.specs.Sound.{Every}
-use Rattle.tcmu_model.specs.Text.{spaced, line, payload_text, numbers_text, kind_word, blocks_text, item_text, held_text, dump_text}
-use Rattle.tcmu_model.proofs.Readings.{same_some}
+use Rattle.tcmu_types.specs.Decimals.{is_digit}
+use Rattle.tcmu_types.specs.Fields.{cut_at, pieces}
+use Rattle.tcmu_types.specs.Lists.{Every}
+use Rattle.text_model.specs.Text.{spaced, line, payload_text, numbers_text, kind_word, blocks_text, item_text, held_text, dump_text}
+use Rattle.tcmu_types.proofs.Readings.{same_some}
 use Rattle.text_laws.specs.Configs.{is_other}
 use Rattle.text_laws.specs.Words.{is_field_byte}
 use Rattle.text_laws.specs.Dumps.{IsItemValue, IsHeldValue, IsDumpValue, DumpsTold}

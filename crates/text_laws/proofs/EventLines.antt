@@ -11,14 +11,15 @@ use Rattle.tcmu_types.specs.Naming.{is_name}
 use Rattle.tcmu_types.specs.Data.{CommandData}
 use Rattle.tcmu_types.specs.Events.{EventData}
 use Rattle.tcmu_types.specs.Events as ev
-use Rattle.tcmu_model.specs.declared.words.Verb.{Verb}
-use Rattle.tcmu_model.specs.declared.words.Verb.TheVariants as verb
-use Rattle.tcmu_model.specs.Fields.{pieces, bytes_of_hex}
-use Rattle.tcmu_model.specs.Lines.{before_hash, fields_of, PayloadField, payload_fields}
-use Rattle.tcmu_model.specs.Said.{payload_of}
-use Rattle.tcmu_model.specs.Words.{verb_of}
-use Rattle.tcmu_model.specs.Text.{spaced, numbers_text, serials_text, hex_byte, data_fields, event_text, command_text}
-use Rattle.tcmu_model.proofs.Readings.{same_some}
+use Rattle.text_model.specs.declared.words.Verb.{Verb}
+use Rattle.text_model.specs.declared.words.Verb.TheVariants as verb
+use Rattle.tcmu_types.specs.Hex.{bytes_of_hex, hex_byte}
+use Rattle.tcmu_types.specs.Fields.{pieces, before_hash, fields_of}
+use Rattle.text_model.specs.Lines.{PayloadField, payload_fields}
+use Rattle.text_model.specs.Said.{payload_of}
+use Rattle.text_model.specs.Words.{verb_of}
+use Rattle.text_model.specs.Text.{spaced, numbers_text, serials_text, data_fields, event_text, command_text}
+use Rattle.tcmu_types.proofs.Readings.{same_some}
 use Rattle.text_laws.specs.Values.{IsNumber, AreNumbers, IsEventValue}
 use Rattle.text_laws.specs.Words.{IsWord, AreWords}
 use Rattle.text_laws.proofs.Apart.{head_or}

@@ -10,15 +10,17 @@ use Rattle.tcmu_types.specs.Rules.{IsCommand, is_directed, takes_payload}
 use Rattle.tcmu_types.specs.Data.{CommandData}
 use Rattle.tcmu_types.specs.Events.{EventData}
 use Rattle.tcmu_types.specs.Events as ev
-use Rattle.tcmu_model.specs.declared.faults.Why.TheVariants as why
-use Rattle.tcmu_model.specs.Fields.{name_of, only_if}
-use Rattle.tcmu_model.specs.Words.{verb_of}
-use Rattle.tcmu_model.specs.Lines.{is_allowed, fields_of, submit_fields, PayloadField, NoPayload, InBytes, OutRuns, payload_fields}
-use Rattle.tcmu_model.specs.ScenarioData.{ScenarioData, LineWhat}
-use Rattle.tcmu_model.specs.ScenarioRules.{IsNote}
-use Rattle.tcmu_model.specs.Said.{Adds, device_at, said_by, plain_line, number_at, tmr_line, submit_line, payload_of}
-use Rattle.tcmu_model.specs.Scenario.{with_said, with_fields, with_text}
-use Rattle.tcmu_model.specs.Text.{spaced, event_text, command_text, data_fields, serials_text, runs_text, hex_byte}
+use Rattle.text_model.specs.declared.faults.Why.TheVariants as why
+use Rattle.text_model.specs.Fields.{name_of}
+use Rattle.tcmu_types.specs.Fields.{only_if, is_allowed, fields_of}
+use Rattle.text_model.specs.Words.{verb_of}
+use Rattle.text_model.specs.Lines.{submit_fields, PayloadField, NoPayload, InBytes, OutRuns, payload_fields}
+use Rattle.text_model.specs.ScenarioData.{ScenarioData, LineWhat}
+use Rattle.text_model.specs.ScenarioRules.{IsNote}
+use Rattle.text_model.specs.Said.{Adds, device_at, said_by, plain_line, number_at, tmr_line, submit_line, payload_of}
+use Rattle.text_model.specs.Scenario.{with_said, with_fields, with_text}
+use Rattle.text_model.specs.Text.{spaced, event_text, command_text, data_fields, serials_text, runs_text}
+use Rattle.tcmu_types.specs.Hex.{hex_byte}
 use Rattle.text_laws.specs.Words.{IsWord, AreWords}
 use Rattle.text_laws.specs.Lines.{IsCarried, made, EventsAgain}
 use Rattle.text_laws.proofs.Numbers.{number_again}

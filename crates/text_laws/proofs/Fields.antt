@@ -6,9 +6,10 @@ use Rattle.std.proofs.lemmas.Bool.{and_from, and_parts, le-leb, leb-true, ltb-tr
 use Rattle.std.proofs.lemmas.Fmt.{decimal_nonempty}
 use Rattle.std.proofs.lemmas.List.Folds.{list_all-append}
 use Rattle.tcmu_types.specs.Naming.{is_name, is_letter, is_name_byte}
-use Rattle.tcmu_model.specs.Fields.{is_digit}
-use Rattle.tcmu_model.specs.Sound.{Every}
-use Rattle.tcmu_model.specs.Text.{hex_digit, hex_byte, runs, run_text, runs_text, numbers_text, serials_text}
+use Rattle.tcmu_types.specs.Decimals.{is_digit}
+use Rattle.tcmu_types.specs.Lists.{Every}
+use Rattle.text_model.specs.Text.{runs, run_text, runs_text, numbers_text, serials_text}
+use Rattle.tcmu_types.specs.Hex.{hex_digit, hex_byte}
 use Rattle.text_laws.specs.Bytes.{AreBytes}
 use Rattle.text_laws.specs.Values.{IsNumber, AreNumbers}
 use Rattle.text_laws.specs.Words.{is_field_byte, IsWord}

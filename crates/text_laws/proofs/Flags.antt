@@ -1,9 +1,8 @@
 -- Flags are read again.
-use Rattle.std.proofs.Common.{Bool, true, false, refl}
-use Rattle.tcmu_model.specs.Fields.{flags_of}
-use Rattle.tcmu_model.specs.Text.{flags_text}
+use Rattle.std.proofs.Common.{Bool, true, false, refl, ◌≡◌, Some}
+use Rattle.text_model.specs.Fields.{flags_of}
+use Rattle.text_model.specs.Text.{flags_text}
 use Rattle.text_laws.specs.Pieces.{FlagsAgain}
-use Rattle.std.proofs.Common.{◌≡◌, Some}
 
 by_words : (ooo len tmr : Bool) → flags_of (flags_text (record { ooo = ooo; read_len = len; tmr = tmr })) ≡ Some (record { ooo = ooo; read_len = len; tmr = tmr })
 unfolding flags_of flags_text

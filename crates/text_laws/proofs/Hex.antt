@@ -3,8 +3,9 @@ use Rattle.std.proofs.Common.{◌≡◌, ℕ, ◌+◌, ◌-◌, ◌*◌, ◌/◌
 use Rattle.std.specs.List.{flat_map}
 use Rattle.std.proofs.lemmas.Bool.{and_from, and_right, le-leb, lt-leb, lt-ltb, eq-eqb, ltb-true, ltb-false, cond-true, cond-false}
 use Rattle.std.specs.Option.{option_and_then}
-use Rattle.tcmu_model.specs.Fields.{hex_value, hex_pair, bytes_of_hex, is_cdb, cdb_of, only_if}
-use Rattle.tcmu_model.specs.Text.{hex_digit, hex_byte}
+use Rattle.text_model.specs.Fields.{is_cdb, cdb_of}
+use Rattle.tcmu_types.specs.Hex.{hex_value, hex_pair, bytes_of_hex, hex_digit, hex_byte}
+use Rattle.tcmu_types.specs.Fields.{only_if}
 use Rattle.text_laws.specs.Bytes.{AreBytes}
 use Rattle.text_laws.specs.Pieces.{CdbsAgain}
 

@@ -2,19 +2,19 @@
 use Rattle.std.proofs.Common.{◌≡◌, inl, ℕ, List, [], ◌∷◌, length, Option, Some, None, Ok, refl, sym, ◌∙◌, subst}
 use Rattle.std.specs.Option.{option_map}
 use Rattle.tcmu_types.specs.Events.{EntryData}
-use Rattle.tcmu_model.specs.Reading.{each}
+use Rattle.tcmu_types.specs.Reading.{each}
 use Rattle.tcmu_model.specs.MediumState.{MediumState}
 use Rattle.tcmu_model.specs.Device.{Device, opening}
-use Rattle.tcmu_model.specs.Medium.{memory_below, opened_medium}
-use Rattle.tcmu_model.specs.Config.{MediumData, InMemory, InFile}
-use Rattle.tcmu_model.specs.ScenarioData.{DeviceLineData, ScenarioData}
-use Rattle.tcmu_model.specs.Scenario.{scenario_of}
-use Rattle.tcmu_model.specs.Scsi.{Serves}
-use Rattle.tcmu_model.specs.Several.{Journaled, IsReplayOf}
-use Rattle.tcmu_model.specs.Sound.{Every}
-use Rattle.tcmu_model.proofs.Everies.{every-mapped, every-weaker}
-use Rattle.tcmu_model.proofs.Readings.{same_some, same_ok, both, mapped}
-use Rattle.tcmu_model.proofs.ScenarioLaws.{scenario_is}
+use Rattle.scsi_model.specs.Medium.{memory_below, opened_medium}
+use Rattle.text_model.specs.Config.{MediumData, InMemory, InFile}
+use Rattle.text_model.specs.ScenarioData.{DeviceLineData, ScenarioData}
+use Rattle.text_model.specs.Scenario.{scenario_of}
+use Rattle.scsi_model.specs.Scsi.{Serves}
+use Rattle.text_model.specs.Several.{Journaled, IsReplayOf}
+use Rattle.tcmu_types.specs.Lists.{Every}
+use Rattle.tcmu_types.proofs.Everies.{every-mapped, every-weaker}
+use Rattle.tcmu_types.proofs.Readings.{same_some, same_ok, both, mapped}
+use Rattle.text_model.proofs.ScenarioLaws.{scenario_is}
 use Rattle.block_engine.specs.Determined.{LosesNothing}
 use Rattle.text_laws.specs.Replays.{entries_of, written, OpenAs, IsJournalOf}
 use Rattle.text_laws.specs.Values.{IsEventValue}

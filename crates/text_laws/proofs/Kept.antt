@@ -5,10 +5,10 @@ use Rattle.std.proofs.lemmas.List.Elements.{All-nil, All-cons}
 use Rattle.std.proofs.lemmas.List.Sums.{sum_by-cons}
 use Rattle.tcmu_types.specs.Data.{CommandData}
 use Rattle.tcmu_types.specs.Events.{EntryData}
-use Rattle.tcmu_model.specs.ScenarioData.{DeviceLineData, LineData, ScenarioData, command_of}
-use Rattle.tcmu_model.specs.ScenarioRules.{IsLine, IsScenario}
-use Rattle.tcmu_model.specs.Scenario.{is_dump, bytes_in, bytes_out, with_name, initiators, initiators_from}
-use Rattle.tcmu_model.specs.Sound.{Every}
+use Rattle.text_model.specs.ScenarioData.{DeviceLineData, LineData, ScenarioData, command_of}
+use Rattle.text_model.specs.ScenarioRules.{IsLine, IsScenario}
+use Rattle.text_model.specs.Scenario.{is_dump, bytes_in, bytes_out, with_name, initiators, initiators_from}
+use Rattle.tcmu_types.specs.Lists.{Every}
 use Rattle.text_laws.specs.Lines.{made}
 use Rattle.text_laws.specs.Replays.{lines_of, written}
 use Rattle.text_laws.proofs.Asked.{sends, sent, IsWithinLines}

@@ -5,10 +5,10 @@ use Rattle.std.proofs.lemmas.Bool.{eq-eqb, eqb-true, eqb-false, cond-true, cond-
 use Rattle.tcmu_types.specs.Data.{DoneData}
 use Rattle.tcmu_model.specs.Device.{Device}
 use Rattle.tcmu_model.specs.Steps.{HandlerRelation, Step, Run}
-use Rattle.tcmu_model.specs.Several.{Journaled, is_of, RunLogs, IsLegalEach}
-use Rattle.tcmu_model.specs.Sound.{Every}
-use Rattle.tcmu_model.proofs.Everies.{every-front, every-back}
-use Rattle.tcmu_model.proofs.Readings.{same_some}
+use Rattle.text_model.specs.Several.{Journaled, is_of, RunLogs, IsLegalEach}
+use Rattle.tcmu_types.specs.Lists.{Every}
+use Rattle.tcmu_types.proofs.Everies.{every-front, every-back}
+use Rattle.tcmu_types.proofs.Readings.{same_some}
 use Rattle.tcmu_types.proofs.Places.{get_set, get_set_other}
 
 -- ---- the entries of one device

@@ -10,12 +10,13 @@ use Rattle.std.proofs.lemmas.List.{append-nil}
 use Rattle.std.proofs.lemmas.List.Elements.{All-head, All-tail}
 use Rattle.std.proofs.lemmas.List.Splits.{slice_split_none, slice_split_at}
 use Rattle.std.proofs.lemmas.List.Sums.{AllPass-from_list_all}
-use Rattle.tcmu_model.specs.Reading.{each}
-use Rattle.tcmu_model.specs.Fields.{pieces, is_digit, number_of, is_rising, rising_of, serials_of, only_if}
-use Rattle.tcmu_model.specs.Text.{numbers_text, serials_text}
-use Rattle.tcmu_model.specs.ScenarioRules.{IsWithin, IsRisingTo}
-use Rattle.tcmu_model.specs.Sound.{Every}
-use Rattle.tcmu_model.proofs.Everies.{every-weaker}
+use Rattle.tcmu_types.specs.Reading.{each}
+use Rattle.text_model.specs.Fields.{serials_of}
+use Rattle.tcmu_types.specs.Decimals.{is_digit, number_of, is_rising, rising_of, IsWithin, IsRisingTo}
+use Rattle.tcmu_types.specs.Fields.{pieces, only_if}
+use Rattle.text_model.specs.Text.{numbers_text, serials_text}
+use Rattle.tcmu_types.specs.Lists.{Every}
+use Rattle.tcmu_types.proofs.Everies.{every-weaker}
 use Rattle.text_laws.specs.Pieces.{RisingAgain, SerialsAgain}
 use Rattle.text_laws.specs.Values.{IsNumber, AreNumbers}
 use Rattle.text_laws.proofs.Numbers.{all_digits, number_again}

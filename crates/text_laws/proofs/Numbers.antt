@@ -6,7 +6,7 @@ use Rattle.std.specs.Str.Parse.{digits_value}
 use Rattle.std.proofs.lemmas.Bool.{and_from, le-leb, lt-ltb, eq-eqb, cond-true, or_right}
 use Rattle.std.proofs.lemmas.Fmt.{decimal_by_steps, decimal_digit, decimal_is_IsNumeral, decimal_nonempty, first_decimal}
 use Rattle.std.proofs.lemmas.List.Folds.{list_all-append}
-use Rattle.tcmu_model.specs.Fields.{is_digit, is_number, number_of}
+use Rattle.tcmu_types.specs.Decimals.{is_digit, is_number, number_of}
 use Rattle.text_laws.specs.Pieces.{NumbersAgain}
 
 digit : (d : ℕ) → d < 10 → is_digit (48 + d) ≡ true

@@ -8,15 +8,15 @@ use Rattle.tcmu_types.specs.Data.{DoneData}
 use Rattle.tcmu_types.specs.Dumps.{DumpData}
 use Rattle.tcmu_types.specs.Events.{EventData, AnswerData, EntryData}
 use Rattle.tcmu_model.specs.Device.{DeviceState, Device, opening_state}
-use Rattle.tcmu_model.specs.Fields.{pieces}
+use Rattle.tcmu_types.specs.Fields.{pieces}
 use Rattle.tcmu_model.specs.Steps.{HandlerRelation, Makes, Step}
-use Rattle.tcmu_model.specs.ScenarioData.{DeviceLineData}
-use Rattle.tcmu_model.specs.Text.{answer_text}
-use Rattle.tcmu_model.specs.Several.{Journaled, IsLegalEach}
-use Rattle.tcmu_model.specs.Sound.{Every, IsSound}
-use Rattle.tcmu_model.proofs.Everies.{every-weaker}
-use Rattle.tcmu_model.proofs.Indexed.{every_at}
-use Rattle.tcmu_model.proofs.Readings.{same_some}
+use Rattle.text_model.specs.ScenarioData.{DeviceLineData}
+use Rattle.text_model.specs.Text.{answer_text}
+use Rattle.text_model.specs.Several.{Journaled, IsLegalEach}
+use Rattle.tcmu_model.specs.Sound.{IsSound}
+use Rattle.tcmu_types.specs.Lists.{Every}
+use Rattle.tcmu_types.proofs.Everies.{every-weaker, every_at}
+use Rattle.tcmu_types.proofs.Readings.{same_some}
 use Rattle.tcmu_model.proofs.Runs.{sound_step}
 use Rattle.tcmu_types.proofs.Places.{get_within, get_set, get_set_other}
 use Rattle.text_laws.specs.Devices.{IsSpelledDevice}

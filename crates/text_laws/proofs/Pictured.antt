@@ -10,23 +10,25 @@ use Rattle.tcmu_types.proofs.Places.{get_drop}
 use Rattle.tcmu_model.specs.declared.state.CommandState.{CommandState}
 use Rattle.tcmu_model.specs.BlockLists.{Taken, list_of, held_by}
 use Rattle.tcmu_model.specs.Device.{Unfinished, DeviceState, has_serial}
-use Rattle.tcmu_model.specs.Layout.{le, put, zeros, padded, ids_bytes, iovs_bytes, cdb_place, command_length, command_head, ring_start, data_start, mailbox_bytes, pad_bytes, command_bytes, tmr_bytes, sense_buffer, answer_bytes, response_bytes, entry_header}
+use Rattle.region_model.specs.Layout.{ids_bytes, iovs_bytes, cdb_place, command_length, command_head, ring_start, data_start, mailbox_bytes, pad_bytes, command_bytes, tmr_bytes, sense_buffer, answer_bytes, response_bytes, entry_header}
+use Rattle.tcmu_types.specs.ByteFields.{le, put, zeros, padded}
 use Rattle.tcmu_model.specs.Lengths.{round_up, tmr_length, blocks_of, block_size}
-use Rattle.tcmu_model.specs.Lists.{first_of}
+use Rattle.tcmu_types.specs.Lists.{first_of, Every}
 use Rattle.tcmu_model.specs.Owned.{ListsSound}
-use Rattle.tcmu_model.specs.Picture.{place_of, is_placed, data_in, payload_of, command_iovs, request_of, told_length, with_reply, with_answer, entry_of, answer_at, item_bytes, ids_named, shown_item, shown_items, shown_command, shown_mailbox, picture_of}
+use Rattle.region_model.specs.Picture.{place_of, is_placed, data_in, payload_of, command_iovs, request_of, told_length, with_reply, with_answer, entry_of, answer_at, item_bytes, ids_named, shown_item, shown_items, shown_command, shown_mailbox, picture_of}
 use Rattle.tcmu_model.specs.RingState.{Item, Laid, Pad, Cmd, Tmr, lengths}
-use Rattle.tcmu_model.specs.Sound.{Every, IsItem, IsSound, ReplyFits}
+use Rattle.tcmu_model.specs.Sound.{IsItem, IsSound, ReplyFits}
 use Rattle.tcmu_model.proofs.Basics.{rows_rise}
 use Rattle.tcmu_model.proofs.DrainEnds.{rows_commands}
-use Rattle.tcmu_model.proofs.Everies.{every-front, every-back, every-weaker, every-mapped}
+use Rattle.tcmu_types.proofs.Everies.{every-front, every-back, every-weaker, every-mapped}
 use Rattle.tcmu_model.proofs.Indexed.{item_at}
-use Rattle.tcmu_model.proofs.Rises.{rise_within}
-use Rattle.tcmu_model.proofs.Written.{lengths as writes, length-le, length-zeros, length-padded, length-command_head, length-entry_header}
+use Rattle.tcmu_types.proofs.Rises.{rise_within}
+use Rattle.tcmu_types.proofs.ByteFields.{lengths as writes, length-le, length-zeros, length-padded}
+use Rattle.region_model.proofs.HeaderLengths.{length-command_head, length-entry_header}
 use Rattle.text_laws.specs.Dumps.{IsItemValue, IsHeldValue, PicturesWhole}
 use Rattle.text_laws.specs.Values.{IsNumber}
 use Rattle.text_laws.proofs.Devices.{blocks_few}
-use Rattle.tcmu_model.proofs.PartLengths.{length-iovs, length-sense}
+use Rattle.region_model.proofs.PartLengths.{length-iovs, length-sense}
 
 -- ---- how many bytes are written
 

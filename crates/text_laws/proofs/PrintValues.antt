@@ -2,11 +2,10 @@
 use Rattle.std.proofs.Common.{ℕ, suc, ◌+◌, ◌<◌, ◌≤◌, Bool, true, false, cond, List, [], ◌∷◌, length, sym, subst, arith}
 use Rattle.std.specs.List.{filter}
 use Rattle.tcmu_model.specs.Device.{Device}
-use Rattle.tcmu_model.specs.ScenarioData.{DeviceLineData}
-use Rattle.tcmu_model.specs.Sound.{Every}
+use Rattle.text_model.specs.ScenarioData.{DeviceLineData}
+use Rattle.tcmu_types.specs.Lists.{Every}
 use Rattle.tcmu_model.specs.Steps.{HandlerRelation, accepted_by}
-use Rattle.tcmu_model.proofs.Everies.{every-filter}
-use Rattle.tcmu_model.proofs.Indexed.{every_at}
+use Rattle.tcmu_types.proofs.Everies.{every-filter, every_at}
 use Rattle.tcmu_types.proofs.Places.{get_within}
 use Rattle.text_laws.specs.Devices.{IsSpelledDevice}
 use Rattle.text_laws.specs.Dumps.{IsDumpValue}

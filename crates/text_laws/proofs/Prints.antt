@@ -3,10 +3,10 @@ use Rattle.std.proofs.Common.{◌≡◌, ℕ, ◌<◌, List, [], ◌∷◌, ◌+
 use Rattle.std.specs.List.{flat_map}
 use Rattle.tcmu_model.specs.Device.{Device}
 use Rattle.tcmu_model.specs.Steps.{HandlerRelation}
-use Rattle.tcmu_model.specs.ScenarioData.{DeviceLineData}
-use Rattle.tcmu_model.specs.Several.{Journaled, IsLegalEach, journaled_text, ends_text}
-use Rattle.tcmu_model.specs.Sound.{Every}
-use Rattle.tcmu_model.specs.Text.{device_text}
+use Rattle.text_model.specs.ScenarioData.{DeviceLineData}
+use Rattle.text_model.specs.Several.{Journaled, IsLegalEach, journaled_text, ends_text}
+use Rattle.tcmu_types.specs.Lists.{Every}
+use Rattle.text_model.specs.Text.{device_text}
 use Rattle.text_laws.specs.Printed.{Printed, AnEntry, ADump, device_of, printed_text, entries_in, IsListOf}
 use Rattle.text_laws.specs.Replays.{IsJournalOf}
 

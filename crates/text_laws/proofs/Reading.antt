@@ -12,19 +12,18 @@ use Rattle.tcmu_types.specs.Data.{CommandData, DoneData}
 use Rattle.tcmu_types.specs.Events.{EventData, EntryData}
 use Rattle.tcmu_types.specs.Naming.{is_name}
 use Rattle.tcmu_model.specs.Device.{Device}
-use Rattle.tcmu_model.specs.Fields.{pieces}
-use Rattle.tcmu_model.specs.Replay.{open_count}
-use Rattle.tcmu_model.specs.Several.{Journaled, journaled_text, ends_text}
-use Rattle.tcmu_model.specs.Sound.{Every}
-use Rattle.tcmu_model.specs.ScenarioData.{DeviceLineData, LineData, ScenarioData, command_of}
-use Rattle.tcmu_model.specs.ScenarioRules.{IsEvent, IsScenario}
-use Rattle.tcmu_model.specs.Said.{has_name, same_file, device_at, Adds, Opens}
-use Rattle.tcmu_model.specs.Scenario.{bytes_in, bytes_out, with_name, with_initiator, initiators, initiators_from, breaks_dump, breaks_many, with_line, with_device, is_not_yet, with_said, with_text, with_lines, nothing_yet, scenario_of}
-use Rattle.tcmu_model.specs.Text.{spaced, line, device_text, event_text, answer_text, completion_text, event_line, entry_text, end_text}
-use Rattle.tcmu_model.proofs.Everies.{every-weaker, every-none}
-use Rattle.tcmu_model.proofs.Indexed.{every_at}
-use Rattle.tcmu_model.proofs.Readings.{same_bytes}
-use Rattle.tcmu_model.proofs.ScenarioLaws.{initiators_append}
+use Rattle.tcmu_types.specs.Fields.{pieces}
+use Rattle.tcmu_model.specs.Sound.{open_count}
+use Rattle.text_model.specs.Several.{Journaled, journaled_text, ends_text}
+use Rattle.tcmu_types.specs.Lists.{Every}
+use Rattle.text_model.specs.ScenarioData.{DeviceLineData, LineData, ScenarioData, command_of}
+use Rattle.text_model.specs.ScenarioRules.{IsEvent, IsScenario}
+use Rattle.text_model.specs.Said.{has_name, same_file, device_at, Adds, Opens}
+use Rattle.text_model.specs.Scenario.{bytes_in, bytes_out, with_name, with_initiator, initiators, initiators_from, breaks_dump, breaks_many, with_line, with_device, is_not_yet, with_said, with_text, with_lines, nothing_yet, scenario_of}
+use Rattle.text_model.specs.Text.{spaced, line, device_text, event_text, answer_text, completion_text, event_line, entry_text, end_text}
+use Rattle.tcmu_types.proofs.Everies.{every-weaker, every-none, every_at}
+use Rattle.tcmu_types.proofs.Readings.{same_bytes}
+use Rattle.text_model.proofs.ScenarioLaws.{initiators_append}
 use Rattle.tcmu_types.proofs.Places.{get_within}
 use Rattle.text_laws.specs.Configs.{is_other}
 use Rattle.text_laws.specs.Devices.{IsSpelledDevice, IsNew}

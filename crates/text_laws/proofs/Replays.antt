@@ -14,17 +14,16 @@ use Rattle.tcmu_model.specs.MediumState.{MediumState}
 use Rattle.tcmu_model.specs.Device.{Device, opening}
 use Rattle.tcmu_model.specs.Steps.{HandlerRelation, Makes, Submits, Run}
 use Rattle.tcmu_model.specs.Drain.{drain_event}
-use Rattle.tcmu_model.specs.ScenarioData.{DeviceLineData, LineData, ScenarioData}
-use Rattle.tcmu_model.specs.ScenarioRules.{IsLine}
-use Rattle.tcmu_model.specs.Scenario.{scenario_of}
-use Rattle.tcmu_model.specs.Several.{Journaled, is_of, RunLogs, IsLegalEach, DrainsEach, ReplaysEach, IsReplayOf}
+use Rattle.text_model.specs.ScenarioData.{DeviceLineData, LineData, ScenarioData}
+use Rattle.text_model.specs.ScenarioRules.{IsLine}
+use Rattle.text_model.specs.Scenario.{scenario_of}
+use Rattle.text_model.specs.Several.{Journaled, is_of, RunLogs, IsLegalEach, DrainsEach, ReplaysEach, IsReplayOf}
 use Rattle.tcmu_model.specs.Journals.{Has, WasAccepted}
-use Rattle.tcmu_model.specs.Sound.{Every}
-use Rattle.tcmu_model.proofs.Everies.{every-weaker, every-mapped}
-use Rattle.tcmu_model.proofs.Indexed.{every_at}
+use Rattle.tcmu_types.specs.Lists.{Every}
+use Rattle.tcmu_types.proofs.Everies.{every-weaker, every-mapped, every_at}
 use Rattle.tcmu_model.proofs.Journals.{run_senders, HasSender}
 use Rattle.tcmu_model.proofs.SoundEvents.{sound_opening}
-use Rattle.tcmu_model.proofs.ScenarioLaws.{scenario_is}
+use Rattle.text_model.proofs.ScenarioLaws.{scenario_is}
 use Rattle.tcmu_types.proofs.Places.{get_within}
 use Rattle.text_laws.specs.Carried.{IsCarriedWhat}
 use Rattle.text_laws.specs.Devices.{IsSpelledDevice}

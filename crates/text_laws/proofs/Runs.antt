@@ -3,9 +3,11 @@ use Rattle.std.proofs.Common.{◌≡◌, ℕ, zero, suc, ◌+◌, ◌^◌, ◌<�
 use Rattle.std.specs.List.{flat_map, join_with_byte}
 use Rattle.std.specs.Option.{option_and_then}
 use Rattle.std.proofs.lemmas.Bool.{le-leb, le-ltb, ne_eqb, cond-true, cond-false, eqb-true}
-use Rattle.tcmu_model.specs.Reading.{each}
-use Rattle.tcmu_model.specs.Fields.{pieces, run_of, runs_of, only_if}
-use Rattle.tcmu_model.specs.Text.{hex_digit, hex_byte, onto_run, runs, run_text, runs_text}
+use Rattle.tcmu_types.specs.Reading.{each}
+use Rattle.text_model.specs.Fields.{run_of, runs_of}
+use Rattle.tcmu_types.specs.Fields.{pieces, only_if}
+use Rattle.text_model.specs.Text.{onto_run, runs, run_text, runs_text}
+use Rattle.tcmu_types.specs.Hex.{hex_digit, hex_byte}
 use Rattle.text_laws.specs.Bytes.{AreBytes}
 use Rattle.text_laws.proofs.Numbers.{number_again}
 use Rattle.text_laws.proofs.Hex.{pair_again}

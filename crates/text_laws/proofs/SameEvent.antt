@@ -11,9 +11,9 @@ use Rattle.tcmu_model.specs.Device.{Unfinished, DeviceState, Device, is_at}
 use Rattle.tcmu_model.specs.Events.{submit_answer, after_submit, enter_answer, after_enter, dispatch_answer, after_dispatch, command_out, after_handle, respond_answer, after_respond, publish_answer, after_publish, clean_answer, after_clean, tick_answer, after_tick, block_answer, after_block, reset_answer, after_reset, restart_answer, after_restart, tmr_answer, after_tmr, stat_answer}
 use Rattle.tcmu_model.specs.Steps.{HandlerRelation, Handles, Makes, Replies}
 use Rattle.tcmu_model.specs.Sound.{IsSound}
-use Rattle.tcmu_model.specs.Text.{answer_text, handle_text}
+use Rattle.text_model.specs.Text.{answer_text, handle_text}
 use Rattle.tcmu_model.proofs.DrainEnds.{rows_commands}
-use Rattle.tcmu_model.proofs.Everies.{every-first}
+use Rattle.tcmu_types.proofs.Everies.{every-first}
 use Rattle.text_laws.proofs.Told.{reply_told}
 
 -- a device that was moved is in the state that it was moved to

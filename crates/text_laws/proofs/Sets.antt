@@ -1,6 +1,6 @@
 -- Lists whose items are named by number.
 use Rattle.std.proofs.Common.{◌≡◌, ℕ, zero, suc, List, [], ◌∷◌, length, slice_get, slice_set, Some, refl, ap, ◌∙◌, arith}
-use Rattle.tcmu_model.specs.Sound.{Every}
+use Rattle.tcmu_types.specs.Lists.{Every}
 
 pub every_set : {X : Type 0} (P : X → Type 0) (xs : List X) (k : ℕ) (y : X) → Every P xs → P y → Every P (slice_set xs k y)
 every_set P [] k y h p = tt

@@ -13,17 +13,17 @@ use Rattle.tcmu_model.specs.Device.{Unfinished, DeviceState, Device}
 use Rattle.tcmu_model.specs.Events.{after_submit, after_enter, after_handle, after_tmr}
 use Rattle.tcmu_model.specs.Steps.{Step, Makes, Handles, asked, moved}
 use Rattle.tcmu_model.specs.Drain.{Drains}
-use Rattle.tcmu_model.specs.ScenarioData.{DeviceLineData, LineWhat, LineData, ScenarioData}
-use Rattle.tcmu_model.specs.ScenarioData as line
-use Rattle.tcmu_model.specs.Scsi.{Serves}
-use Rattle.tcmu_model.specs.Replay.{Plays}
-use Rattle.tcmu_model.specs.Several.{Journaled, DrainsEach, ReplaysEach, journaled_text, ends_text}
-use Rattle.tcmu_model.specs.Sound.{Every}
-use Rattle.tcmu_model.specs.Text.{device_text, answer_text}
-use Rattle.tcmu_model.proofs.Readings.{same_some}
+use Rattle.text_model.specs.ScenarioData.{DeviceLineData, LineWhat, LineData, ScenarioData}
+use Rattle.text_model.specs.ScenarioData as line
+use Rattle.scsi_model.specs.Scsi.{Serves}
+use Rattle.text_model.specs.Replay.{Plays}
+use Rattle.text_model.specs.Several.{Journaled, DrainsEach, ReplaysEach, journaled_text, ends_text}
+use Rattle.tcmu_types.specs.Lists.{Every}
+use Rattle.text_model.specs.Text.{device_text, answer_text}
+use Rattle.tcmu_types.proofs.Readings.{same_some}
 use Rattle.block_engine.specs.Determined.{LosesNothing}
 use Rattle.block_engine.proofs.Settling.{one_reply_without_loss}
-use Rattle.tcmu_model.proofs.Indexed.{every_at}
+use Rattle.tcmu_types.proofs.Everies.{every_at}
 use Rattle.tcmu_types.proofs.Places.{get_within}
 use Rattle.text_laws.specs.Replays.{entries_of}
 use Rattle.text_laws.specs.Settled.{OneText}

@@ -5,17 +5,18 @@ use Rattle.std.specs.List.{list_all, slice_split, onto_first, position, position
 use Rattle.std.specs.Option.{option_and_then, option_map}
 use Rattle.std.proofs.lemmas.Bool.{and_from, and_parts, ltb-false}
 use Rattle.std.proofs.lemmas.Option.{cond_some}
-use Rattle.tcmu_model.specs.Sound.{Every}
-use Rattle.tcmu_model.specs.Words.{subtype_of}
-use Rattle.tcmu_model.specs.Fields.{only_if, cut_at, after_word, name_of, number_of, rising_of}
-use Rattle.tcmu_model.specs.Config.{ConfigData, MediumData, InMemory, InFile, PathData, is_file_name, memory_of, file_of, medium_of, path_of, part, parts_of, is_colon, config_of}
-use Rattle.tcmu_model.specs.Lines.{is_blank, before_hash, fields_of}
-use Rattle.tcmu_model.specs.declared.faults.ConfigFault.{ConfigFault}
-use Rattle.tcmu_model.specs.declared.faults.ConfigFault.TheVariants as fault
-use Rattle.tcmu_model.specs.declared.words.Subtype.{Subtype}
-use Rattle.tcmu_model.specs.declared.words.Subtype.TheVariants.{Mem, File, Ro, Fail}
-use Rattle.tcmu_model.proofs.Readings.{same_ok, step, read_step, both, mapped, passed}
-use Rattle.tcmu_model.proofs.Everies.{every-filter}
+use Rattle.tcmu_types.specs.Lists.{Every}
+use Rattle.text_model.specs.Words.{subtype_of}
+use Rattle.text_model.specs.Fields.{name_of}
+use Rattle.tcmu_types.specs.Decimals.{number_of, rising_of}
+use Rattle.tcmu_types.specs.Fields.{only_if, cut_at, after_word, is_blank, before_hash, fields_of}
+use Rattle.text_model.specs.Config.{ConfigData, MediumData, InMemory, InFile, PathData, is_file_name, memory_of, file_of, medium_of, path_of, part, parts_of, is_colon, config_of}
+use Rattle.text_model.specs.declared.faults.ConfigFault.{ConfigFault}
+use Rattle.text_model.specs.declared.faults.ConfigFault.TheVariants as fault
+use Rattle.text_model.specs.declared.words.Subtype.{Subtype}
+use Rattle.text_model.specs.declared.words.Subtype.TheVariants.{Mem, File, Ro, Fail}
+use Rattle.tcmu_types.proofs.Readings.{same_ok, step, read_step, both, mapped, passed}
+use Rattle.tcmu_types.proofs.Everies.{every-filter}
 use Rattle.text_laws.proofs.Cuts.{one_more}
 use Rattle.text_laws.specs.Configs.{is_other, FileLacks}
 

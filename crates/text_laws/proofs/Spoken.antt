@@ -10,14 +10,13 @@ use Rattle.tcmu_types.specs.Dumps.{ItemData, HeldData, DumpData}
 use Rattle.tcmu_types.specs.Events.{EventData, AnswerData}
 use Rattle.tcmu_types.specs.Events as ev
 use Rattle.tcmu_model.specs.Device.{Device}
-use Rattle.tcmu_model.specs.Fields.{pieces}
-use Rattle.tcmu_model.specs.Replay.{open_count}
-use Rattle.tcmu_model.specs.ScenarioData.{DeviceLineData}
-use Rattle.tcmu_model.specs.Several.{Journaled, journaled_text, ends_text}
-use Rattle.tcmu_model.specs.Sound.{Every}
-use Rattle.tcmu_model.specs.Text.{spaced, line, device_spelling, device_text, event_text, command_text, completion_text, event_line, entry_text, end_text, dump_text}
-use Rattle.tcmu_model.proofs.Everies.{every-append, filter_all}
-use Rattle.tcmu_model.proofs.Indexed.{every_at}
+use Rattle.tcmu_types.specs.Fields.{pieces}
+use Rattle.tcmu_model.specs.Sound.{open_count}
+use Rattle.text_model.specs.ScenarioData.{DeviceLineData}
+use Rattle.text_model.specs.Several.{Journaled, journaled_text, ends_text}
+use Rattle.tcmu_types.specs.Lists.{Every}
+use Rattle.text_model.specs.Text.{spaced, line, device_spelling, device_text, event_text, command_text, completion_text, event_line, entry_text, end_text, dump_text}
+use Rattle.tcmu_types.proofs.Everies.{every-append, filter_all, every_at}
 use Rattle.tcmu_types.proofs.Places.{get_within}
 use Rattle.text_laws.specs.Devices.{IsSpelledDevice}
 use Rattle.text_laws.specs.Printed.{Printed, AnEntry, ADump, device_of, printed_text, IsValue}

@@ -1,16 +1,16 @@
 -- What the lines of a text tell: the devices, each entry's device and event and the text of its answer, and each dump.
 use Rattle.std.proofs.Common.{◌≡◌, ◌≢◌, ℕ, ◌<◌, false, List, [], ◌∷◌, ◌++◌, length, map, drop, slice_get, Some, None, refl, sym, ap, ◌∙◌, subst, arith, codes}
 use Rattle.std.specs.List.{flat_map, AllPairs}
-use Rattle.tcmu_model.proofs.Indexed.{every_at}
+use Rattle.tcmu_types.proofs.Everies.{every_at}
 use Rattle.tcmu_types.specs.Dumps.{DumpData}
 use Rattle.tcmu_types.specs.Events.{EventData}
-use Rattle.tcmu_model.specs.Said.{device_at}
-use Rattle.tcmu_model.specs.ScenarioData.{DeviceLineData, ScenarioData}
-use Rattle.tcmu_model.specs.Scenario.{with_text}
-use Rattle.tcmu_model.specs.Several.{Journaled}
-use Rattle.tcmu_model.specs.Sound.{Every}
-use Rattle.tcmu_model.specs.Text.{event_text, answer_text}
-use Rattle.tcmu_model.proofs.Readings.{same_ok, same_some}
+use Rattle.text_model.specs.Said.{device_at}
+use Rattle.text_model.specs.ScenarioData.{DeviceLineData, ScenarioData}
+use Rattle.text_model.specs.Scenario.{with_text}
+use Rattle.text_model.specs.Several.{Journaled}
+use Rattle.tcmu_types.specs.Lists.{Every}
+use Rattle.text_model.specs.Text.{event_text, answer_text}
+use Rattle.tcmu_types.proofs.Readings.{same_ok, same_some}
 use Rattle.tcmu_types.proofs.Places.{get_within}
 use Rattle.text_laws.specs.Devices.{IsSpelledDevice}
 use Rattle.text_laws.specs.Printed.{Printed, AnEntry, ADump, device_of}

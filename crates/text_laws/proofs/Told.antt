@@ -8,10 +8,11 @@ use Rattle.std.proofs.lemmas.Fmt.{decimal_is_IsNumeral}
 use Rattle.std.proofs.lemmas.List.{append-nil, nil_from_length}
 use Rattle.tcmu_types.specs.Data.{SenseData, ReplyData}
 use Rattle.tcmu_types.specs.declared.answer.Handle.TheVariants as handle_answer
-use Rattle.tcmu_model.specs.Fields.{pieces}
-use Rattle.tcmu_model.specs.Text.{hex_digit, hex_byte, onto_run, runs, run_text, runs_text, sense_text, payload_text, handle_text}
-use Rattle.tcmu_model.specs.Sound.{Every}
-use Rattle.tcmu_model.proofs.Everies.{every-weaker}
+use Rattle.tcmu_types.specs.Fields.{pieces}
+use Rattle.text_model.specs.Text.{onto_run, runs, run_text, runs_text, sense_text, payload_text, handle_text}
+use Rattle.tcmu_types.specs.Hex.{hex_digit, hex_byte}
+use Rattle.tcmu_types.specs.Lists.{Every}
+use Rattle.tcmu_types.proofs.Everies.{every-weaker}
 use Rattle.text_laws.proofs.Apart.{head_or}
 use Rattle.text_laws.proofs.Lists.{EachLacks, pieces_again}
 use Rattle.text_laws.proofs.Runs.{hex_big, run_lacks, of_run, runs_whole, none_left}

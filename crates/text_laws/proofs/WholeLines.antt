@@ -6,8 +6,9 @@ use Rattle.tcmu_types.specs.Naming.{is_name}
 use Rattle.tcmu_types.specs.Data.{DoneData}
 use Rattle.tcmu_types.specs.Events.{EventData, AnswerData}
 use Rattle.tcmu_types.specs.Events as ev
-use Rattle.tcmu_model.specs.ScenarioData.{DeviceLineData}
-use Rattle.tcmu_model.specs.Text.{spaced, hex_byte, sense_text, payload_text, serials_text, config_text, device_spelling, event_text, command_text, data_fields, answer_text}
+use Rattle.text_model.specs.ScenarioData.{DeviceLineData}
+use Rattle.text_model.specs.Text.{spaced, sense_text, payload_text, serials_text, config_text, device_spelling, event_text, command_text, data_fields, answer_text}
+use Rattle.tcmu_types.specs.Hex.{hex_byte}
 use Rattle.text_laws.specs.Devices.{IsSpelledDevice}
 use Rattle.text_laws.specs.Values.{IsEventValue}
 use Rattle.text_laws.proofs.Asks.{AsksCommand}

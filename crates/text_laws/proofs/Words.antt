@@ -6,8 +6,8 @@ use Rattle.std.proofs.lemmas.List.{append-nil}
 use Rattle.std.proofs.lemmas.List.Splits.{slice_split_at}
 use Rattle.std.proofs.lemmas.List.Folds.{list_all-append}
 use Rattle.std.proofs.lemmas.List.Sums.{AllPass-from_list_all}
-use Rattle.tcmu_model.specs.Lines.{is_blank, is_allowed, before_hash, fields_of}
-use Rattle.tcmu_model.specs.Text.{spaced}
+use Rattle.tcmu_types.specs.Fields.{is_blank, is_allowed, before_hash, fields_of}
+use Rattle.text_model.specs.Text.{spaced}
 use Rattle.text_laws.proofs.Cuts.{one_more}
 use Rattle.text_laws.specs.Words.{is_field_byte, IsWord, AreWords}
 

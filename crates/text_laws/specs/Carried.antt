@@ -1,8 +1,8 @@
 -- What a scenario that is read carries.
 use Rattle.std.specs.Prelude.{◌≡◌, ℕ, List, Ok}
-use Rattle.tcmu_model.specs.Sound.{Every}
-use Rattle.tcmu_model.specs.ScenarioData.{LineWhat, Makes, Drains, Dumps, ScenarioData}
-use Rattle.tcmu_model.specs.Scenario.{scenario_of}
+use Rattle.tcmu_types.specs.Lists.{Every}
+use Rattle.text_model.specs.ScenarioData.{LineWhat, Makes, Drains, Dumps, ScenarioData}
+use Rattle.text_model.specs.Scenario.{scenario_of}
 use Rattle.text_laws.specs.Lines.{CarriesBytes}
 use Rattle.text_laws.specs.Devices.{IsSpelledDevice}
 

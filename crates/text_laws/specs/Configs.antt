@@ -1,9 +1,9 @@
 -- What is written of a config is read again.
 use Rattle.std.specs.Prelude.{◌≡◌, ℕ, ◌<◌, ◌==◌, Bool, false, not, IsTrue, length, Ok}
 use Rattle.std.specs.List.{list_all}
-use Rattle.tcmu_model.specs.Config.{ConfigData, MediumData, InMemory, InFile, config_of}
-use Rattle.tcmu_model.specs.ScenarioRules.{IsConfig}
-use Rattle.tcmu_model.specs.Text.{config_text}
+use Rattle.text_model.specs.Config.{ConfigData, MediumData, InMemory, InFile, config_of}
+use Rattle.text_model.specs.ScenarioRules.{IsConfig}
+use Rattle.text_model.specs.Text.{config_text}
 
 abbrev pub is_other : ℕ → ℕ → Bool
 is_other at b = not (b == at)

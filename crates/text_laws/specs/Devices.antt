@@ -1,11 +1,11 @@
 -- What is written of a device line is read again.
 use Rattle.std.specs.Prelude.{◌≡◌, ℕ, ◌++◌, false, List, codes}
 use Rattle.std.specs.List.{list_any}
-use Rattle.tcmu_model.specs.ScenarioData.{DeviceLineData, ScenarioData}
-use Rattle.tcmu_model.specs.ScenarioRules.{IsDeviceLine}
-use Rattle.tcmu_model.specs.Said.{has_name, same_file, Opens}
-use Rattle.tcmu_model.specs.Scenario.{with_said, with_text}
-use Rattle.tcmu_model.specs.Text.{device_spelling}
+use Rattle.text_model.specs.ScenarioData.{DeviceLineData, ScenarioData}
+use Rattle.text_model.specs.ScenarioRules.{IsDeviceLine}
+use Rattle.text_model.specs.Said.{has_name, same_file, Opens}
+use Rattle.text_model.specs.Scenario.{with_said, with_text}
+use Rattle.text_model.specs.Text.{device_spelling}
 use Rattle.text_laws.specs.Configs.{FileLacks, IsSpelledConfig}
 
 -- A device that has a line: its config has a text, in which no `#` stands.

@@ -5,9 +5,10 @@ use Rattle.tcmu_types.specs.Dumps.{ItemData, HeldData, DumpData}
 use Rattle.tcmu_model.specs.BlockLists.{Taken}
 use Rattle.tcmu_model.specs.Device.{DeviceState}
 use Rattle.tcmu_model.specs.Owned.{ListsSound}
-use Rattle.tcmu_model.specs.Picture.{picture_of}
-use Rattle.tcmu_model.specs.Sound.{Every, IsSound}
-use Rattle.tcmu_model.specs.Text.{dump_text}
+use Rattle.region_model.specs.Picture.{picture_of}
+use Rattle.tcmu_model.specs.Sound.{IsSound}
+use Rattle.tcmu_types.specs.Lists.{Every}
+use Rattle.text_model.specs.Text.{dump_text}
 use Rattle.text_laws.specs.Values.{IsNumber, AreNumbers}
 
 -- ==== what the types of the code keep of every dump: its numbers, and the lengths of its bytes, are numbers of 64 bits

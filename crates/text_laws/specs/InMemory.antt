@@ -1,15 +1,15 @@
 -- The law of replay over media in memory, of journals without dumps.
 use Rattle.std.specs.Prelude.{◌≡◌, ℕ, ◌≤◌, List, length, Option, Some, None, Ok}
-use Rattle.tcmu_model.specs.Reading.{each}
+use Rattle.tcmu_types.specs.Reading.{each}
 use Rattle.tcmu_model.specs.Device.{Device, opening}
-use Rattle.tcmu_model.specs.Medium.{memory_below, opened_medium}
+use Rattle.scsi_model.specs.Medium.{memory_below, opened_medium}
 use Rattle.tcmu_model.specs.Drain.{drain_event}
-use Rattle.tcmu_model.specs.Sound.{Every}
-use Rattle.tcmu_model.specs.Config.{InMemory, InFile}
-use Rattle.tcmu_model.specs.ScenarioData.{DeviceLineData, ScenarioData}
-use Rattle.tcmu_model.specs.Scenario.{scenario_of}
-use Rattle.tcmu_model.specs.Scsi.{Serves}
-use Rattle.tcmu_model.specs.Several.{Journaled, IsReplayOf}
+use Rattle.tcmu_types.specs.Lists.{Every}
+use Rattle.text_model.specs.Config.{InMemory, InFile}
+use Rattle.text_model.specs.ScenarioData.{DeviceLineData, ScenarioData}
+use Rattle.text_model.specs.Scenario.{scenario_of}
+use Rattle.scsi_model.specs.Scsi.{Serves}
+use Rattle.text_model.specs.Several.{Journaled, IsReplayOf}
 use Rattle.text_laws.specs.Replays.{entries_of, written, IsJournalOf, KeepsLimits}
 
 -- the device of a device line as it opens over memory, all of it zeros; none where the line names a file

@@ -4,11 +4,11 @@ use Rattle.tcmu_types.specs.Naming.{is_name}
 use Rattle.tcmu_types.specs.Data.{CommandData, DoneData}
 use Rattle.tcmu_types.specs.Events.{EventData}
 use Rattle.tcmu_types.specs.Events as ev
-use Rattle.tcmu_model.specs.ScenarioData.{LineData, Makes, ScenarioData}
-use Rattle.tcmu_model.specs.ScenarioRules.{IsEvent}
-use Rattle.tcmu_model.specs.Said.{device_at, Adds}
-use Rattle.tcmu_model.specs.Scenario.{with_said, with_text}
-use Rattle.tcmu_model.specs.Text.{event_text, completion_text, end_text}
+use Rattle.text_model.specs.ScenarioData.{LineData, Makes, ScenarioData}
+use Rattle.text_model.specs.ScenarioRules.{IsEvent}
+use Rattle.text_model.specs.Said.{device_at, Adds}
+use Rattle.text_model.specs.Scenario.{with_said, with_text}
+use Rattle.text_model.specs.Text.{event_text, completion_text, end_text}
 use Rattle.text_laws.specs.Bytes.{AreBytes}
 
 -- its bytes are bytes, and its tag is a number of 32 bits

@@ -4,9 +4,10 @@ use Rattle.std.specs.List.{flat_map}
 use Rattle.std.specs.Fmt.{decimal}
 use Rattle.tcmu_types.specs.Rules.{IsCdb}
 use Rattle.tcmu_types.specs.declared.settings.Flags.{Flags}
-use Rattle.tcmu_model.specs.Fields.{number_of, bytes_of_hex, cdb_of, runs_of, rising_of, flags_of, serials_of}
-use Rattle.tcmu_model.specs.Text.{hex_byte, runs_text, numbers_text, flags_text, serials_text}
-use Rattle.tcmu_model.specs.ScenarioRules.{IsWithin, IsRisingTo}
+use Rattle.text_model.specs.Fields.{cdb_of, runs_of, flags_of, serials_of}
+use Rattle.tcmu_types.specs.Hex.{bytes_of_hex, hex_byte}
+use Rattle.tcmu_types.specs.Decimals.{number_of, rising_of, IsWithin, IsRisingTo}
+use Rattle.text_model.specs.Text.{runs_text, numbers_text, flags_text, serials_text}
 use Rattle.text_laws.specs.Bytes.{AreBytes}
 
 -- a number, within its limits

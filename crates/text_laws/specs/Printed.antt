@@ -5,12 +5,12 @@ use Rattle.tcmu_types.specs.Dumps.{DumpData}
 use Rattle.tcmu_model.specs.BlockLists.{Taken}
 use Rattle.tcmu_model.specs.Device.{DeviceState, Device}
 use Rattle.tcmu_model.specs.Owned.{ListsSound}
-use Rattle.tcmu_model.specs.Picture.{picture_of}
+use Rattle.region_model.specs.Picture.{picture_of}
 use Rattle.tcmu_model.specs.Steps.{HandlerRelation, Step}
-use Rattle.tcmu_model.specs.Sound.{Every}
-use Rattle.tcmu_model.specs.ScenarioData.{DeviceLineData}
-use Rattle.tcmu_model.specs.Several.{Journaled, IsLegalEach, journaled_text, ends_text}
-use Rattle.tcmu_model.specs.Text.{device_text, dump_text}
+use Rattle.tcmu_types.specs.Lists.{Every}
+use Rattle.text_model.specs.ScenarioData.{DeviceLineData}
+use Rattle.text_model.specs.Several.{Journaled, IsLegalEach, journaled_text, ends_text}
+use Rattle.text_model.specs.Text.{device_text, dump_text}
 use Rattle.text_laws.specs.Dumps.{IsDumpValue}
 use Rattle.text_laws.specs.Replays.{OpenAs}
 use Rattle.text_laws.specs.Values.{IsNumber, IsEventValue}

@@ -6,12 +6,12 @@ use Rattle.tcmu_model.specs.MediumState.{MediumState}
 use Rattle.tcmu_model.specs.Device.{Device, opening}
 use Rattle.tcmu_model.specs.Steps.{HandlerRelation}
 use Rattle.tcmu_model.specs.Drain.{drain_event}
-use Rattle.tcmu_model.specs.Sound.{Every}
-use Rattle.tcmu_model.specs.ScenarioData.{DeviceLineData, LineData, ScenarioData}
-use Rattle.tcmu_model.specs.ScenarioRules.{IsScenario}
-use Rattle.tcmu_model.specs.Scenario.{scenario_of}
-use Rattle.tcmu_model.specs.Several.{Journaled, IsLegalEach, journaled_text, ends_text, IsReplayOf}
-use Rattle.tcmu_model.specs.Text.{device_text}
+use Rattle.tcmu_types.specs.Lists.{Every}
+use Rattle.text_model.specs.ScenarioData.{DeviceLineData, LineData, ScenarioData}
+use Rattle.text_model.specs.ScenarioRules.{IsScenario}
+use Rattle.text_model.specs.Scenario.{scenario_of}
+use Rattle.text_model.specs.Several.{Journaled, IsLegalEach, journaled_text, ends_text, IsReplayOf}
+use Rattle.text_model.specs.Text.{device_text}
 use Rattle.text_laws.specs.Devices.{IsSpelledDevice}
 use Rattle.text_laws.specs.Lines.{CarriesBytes, made}
 

@@ -1,11 +1,11 @@
 -- A scenario over media that lose nothing has one text.
 use Rattle.std.specs.Prelude.{◌≡◌, ℕ, List, Ok}
 use Rattle.tcmu_model.specs.Device.{Device}
-use Rattle.tcmu_model.specs.Sound.{Every}
-use Rattle.tcmu_model.specs.ScenarioData.{ScenarioData}
-use Rattle.tcmu_model.specs.Scenario.{scenario_of}
-use Rattle.tcmu_model.specs.Scsi.{Serves}
-use Rattle.tcmu_model.specs.Several.{IsReplayOf}
+use Rattle.tcmu_types.specs.Lists.{Every}
+use Rattle.text_model.specs.ScenarioData.{ScenarioData}
+use Rattle.text_model.specs.Scenario.{scenario_of}
+use Rattle.scsi_model.specs.Scsi.{Serves}
+use Rattle.text_model.specs.Several.{IsReplayOf}
 use Rattle.block_engine.specs.Determined.{LosesNothing}
 use Rattle.text_laws.specs.Replays.{OpenAs}
 

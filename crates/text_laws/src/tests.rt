@@ -1,7 +1,7 @@
 //! Each law called once, those of every handler at one that may do what the SCSI commands mean.
 ghost use Rattle.std.specs.Prelude.{[]};
-ghost use Rattle.tcmu_model.specs.Medium.{memory_state};
-ghost use Rattle.tcmu_model.specs.Scsi.{Serves};
+ghost use Rattle.scsi_model.specs.Medium.{memory_state};
+ghost use Rattle.scsi_model.specs.Scsi.{Serves};
 
 use crate::*;
 use handler_trait::{Handler, Request};

@@ -1,7 +1,7 @@
 //! What lays items in the ring: submit, enter, and notes on task management.
 ghost use Rattle.std.specs.Prelude.{◌≡◌, ◌+◌, ◌<◌, ◌≤◌, ◌^◌, ◌==◌, not, None, length, IfOk, OnOk, OnErr};
 ghost use Rattle.tcmu_types.specs.Rules.{IsCommand};
-ghost use Rattle.tcmu_model.specs.Lists.{IsRising};
+ghost use Rattle.tcmu_types.specs.Numbers.{IsRising};
 ghost use Rattle.tcmu_model.specs.RingState.{need, free};
 ghost use Rattle.tcmu_model.specs.Events.{submit_answer, after_submit, queued_or_full, queued_or_delayed, with_command, with_delayed, one_accepted, deadline_at, enter_answer, after_enter, after_entering, unknown_serial, tmr_answer, after_tmr, entry_length_in, free_blocks, held_blocks, blocks_in, with_note, tmr_length_of};
 ghost use Rattle.tcmu_model.specs.Sound.{IsSound};

@@ -1,5 +1,5 @@
 use Rattle.std.proofs.Common.{◌≡◌, ◌+◌, ◌-◌, ◌*◌, ◌++◌}
-use Rattle.tcmu_model.specs.Scsi.{extents_from}
+use Rattle.scsi_model.specs.Scsi.{extents_from}
 use Rattle.block_engine.proofs.unmap.extents.Given as goal
 
 abbrev pub invariant-loop-k : goal.invariant-loop-k

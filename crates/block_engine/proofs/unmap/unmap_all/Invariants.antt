@@ -1,6 +1,6 @@
 use Rattle.std.proofs.Common.{◌≡◌, false, drop}
 use Rattle.std.specs.List.{list_any}
-use Rattle.tcmu_model.specs.Scsi.{is_beyond}
+use Rattle.scsi_model.specs.Scsi.{is_beyond}
 use Rattle.block_engine.proofs.Unmapping.{GoesOn}
 use Rattle.block_engine.proofs.unmap.unmap_all.Given as goal
 

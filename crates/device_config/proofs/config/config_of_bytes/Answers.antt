@@ -1,6 +1,6 @@
-use Rattle.tcmu_model.specs.Config.{parts_of}
-use Rattle.tcmu_model.specs.ScenarioRules.{IsConfig}
-use Rattle.tcmu_model.proofs.ConfigLaws.{parts_are}
+use Rattle.text_model.specs.Config.{parts_of}
+use Rattle.text_model.specs.ScenarioRules.{IsConfig}
+use Rattle.text_model.proofs.ConfigLaws.{parts_are}
 use Rattle.device_config.proofs.Limits.{kept}
 use Rattle.device_config.proofs.config.config_of_bytes.Goals as goal
 

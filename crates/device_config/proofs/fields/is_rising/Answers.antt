@@ -1,6 +1,6 @@
 use Rattle.std.proofs.Common.{◌≡◌, ◌≤◌, ◌-◌, true, ℕ, List, [], ◌∷◌, drop, length, ◌∙◌, sym, refl, arith}
 use Rattle.std.proofs.lemmas.List.{length-drop}
-use Rattle.tcmu_model.specs.Fields.{is_rising}
+use Rattle.tcmu_types.specs.Decimals.{is_rising}
 use Rattle.device_config.proofs.fields.is_rising.Goals as goal
 
 short : (ns : List ℕ) → length ns ≤ 1 → is_rising ns ≡ true

@@ -1,5 +1,5 @@
 use Rattle.std.proofs.Common.{◌≡◌, ◌-◌, ◌≤◌, drop, length}
-use Rattle.tcmu_model.specs.Fields.{is_rising}
+use Rattle.tcmu_types.specs.Decimals.{is_rising}
 use Rattle.device_config.proofs.fields.is_rising.Given as goal
 
 abbrev pub invariant-loop-i : goal.invariant-loop-i

@@ -1,5 +1,5 @@
 use Rattle.std.proofs.Common.{◌≡◌, ◌+◌, ◌-◌}
-use Rattle.tcmu_model.specs.EntryReading.{first_outside}
+use Rattle.region_model.specs.EntryReading.{first_outside}
 use Rattle.entry_codec.proofs.reading.first_outside.Given as goal
 
 abbrev pub invariant-loop-index : goal.invariant-loop-index

@@ -1,5 +1,5 @@
 use Rattle.std.proofs.Common.{sym, rules}
-use Rattle.tcmu_model.specs.EntryReading.{entry_read}
+use Rattle.region_model.specs.EntryReading.{entry_read}
 use Rattle.entry_codec.proofs.Exact.{reads_exactly, reads_bounded}
 use Rattle.entry_codec.proofs.reading.read_entry.Goals as goal
 

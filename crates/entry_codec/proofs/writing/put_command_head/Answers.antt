@@ -1,6 +1,7 @@
 use Rattle.std.proofs.Common.{◌+◌}
-use Rattle.tcmu_model.specs.Layout.{command_head}
-use Rattle.tcmu_model.proofs.Written.{lengths, then_put, length-entry_header}
+use Rattle.region_model.specs.Layout.{command_head}
+use Rattle.tcmu_types.proofs.ByteFields.{lengths, then_put}
+use Rattle.region_model.proofs.HeaderLengths.{length-entry_header}
 use Rattle.entry_codec.proofs.writing.put_command_head.Goals as goal
 
 ruleset sizes = (lengths, length-entry_header)

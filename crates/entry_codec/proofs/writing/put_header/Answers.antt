@@ -1,6 +1,6 @@
 use Rattle.std.proofs.Common.{◌+◌}
-use Rattle.tcmu_model.specs.Layout.{entry_header}
-use Rattle.tcmu_model.proofs.Written.{lengths, then_put}
+use Rattle.region_model.specs.Layout.{entry_header}
+use Rattle.tcmu_types.proofs.ByteFields.{lengths, then_put}
 use Rattle.entry_codec.proofs.writing.put_header.Goals as goal
 
 pub returns : goal.returns

@@ -1,6 +1,6 @@
 use Rattle.std.proofs.Common.{◌≡◌, ◌+◌, ◌*◌, length, drop}
-use Rattle.tcmu_model.specs.Layout.{put}
-use Rattle.tcmu_model.specs.Layout.{ids_bytes}
+use Rattle.tcmu_types.specs.ByteFields.{put}
+use Rattle.region_model.specs.Layout.{ids_bytes}
 use Rattle.entry_codec.proofs.writing.put_ids.Given as goal
 
 abbrev pub invariant-loop-id : goal.invariant-loop-id

@@ -1,6 +1,6 @@
 use Rattle.std.proofs.Common.{◌≡◌, ◌∙◌, ap, arith, refl, length}
-use Rattle.tcmu_model.specs.Layout.{put}
-use Rattle.tcmu_model.specs.Layout.{iovs_bytes}
+use Rattle.tcmu_types.specs.ByteFields.{put}
+use Rattle.region_model.specs.Layout.{iovs_bytes}
 use Rattle.entry_codec.proofs.Lists.{iovs_step, iovs_end}
 use Rattle.entry_codec.proofs.writing.put_iovs.Goals as goal
 

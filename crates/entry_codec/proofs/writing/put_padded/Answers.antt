@@ -1,6 +1,6 @@
 use Rattle.std.proofs.Common.{◌+◌, length}
-use Rattle.tcmu_model.specs.Layout.{padded}
-use Rattle.tcmu_model.proofs.Written.{lengths, then_put}
+use Rattle.tcmu_types.specs.ByteFields.{padded}
+use Rattle.tcmu_types.proofs.ByteFields.{lengths, then_put}
 use Rattle.entry_codec.proofs.writing.put_padded.Goals as goal
 
 pub returns : goal.returns

@@ -1,6 +1,6 @@
 use Rattle.std.proofs.Common.{◌+◌}
-use Rattle.tcmu_model.specs.Layout.{answer_bytes}
-use Rattle.tcmu_model.proofs.Written.{lengths, then_put, length-padded}
+use Rattle.region_model.specs.Layout.{answer_bytes}
+use Rattle.tcmu_types.proofs.ByteFields.{lengths, then_put, length-padded}
 use Rattle.entry_codec.proofs.writing.put_response.Goals as goal
 
 pub returns : goal.returns

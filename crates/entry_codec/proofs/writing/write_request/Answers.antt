@@ -1,6 +1,7 @@
 use Rattle.std.proofs.Common.{◌≡◌, ℕ, ◌+◌, ◌-◌, ◌*◌, ◌∙◌, ap, arith, List, length}
 use Rattle.tcmu_model.specs.Lengths.{round_up}
-use Rattle.tcmu_model.specs.Layout.{put, zeros, padded, command_head, command_bytes}
+use Rattle.region_model.specs.Layout.{command_head, command_bytes}
+use Rattle.tcmu_types.specs.ByteFields.{put, zeros, padded}
 use Rattle.entry_codec.proofs.Whole.{request_written}
 use Rattle.entry_codec.proofs.writing.write_request.Goals as goal
 

@@ -1,5 +1,5 @@
 use Rattle.std.proofs.Common.{◌≡◌, ◌+◌, ◌∙◌, ap, arith, length, drop, get_or, ◌∷◌}
-use Rattle.tcmu_model.specs.Iovecs.{room_of}
+use Rattle.region_model.specs.Iovecs.{room_of}
 use Rattle.iovec_scatter.proofs.Steps.{gather_step, rest_of}
 use Rattle.iovec_scatter.proofs.block.gather.Goals as goal
 

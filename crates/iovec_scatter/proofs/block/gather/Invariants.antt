@@ -1,5 +1,5 @@
 use Rattle.std.proofs.Common.{◌≡◌, ◌+◌, ◌-◌, ◌≤◌, ◌++◌, length, take, drop}
-use Rattle.tcmu_model.specs.Iovecs.{gathered, room_of}
+use Rattle.region_model.specs.Iovecs.{gathered, room_of}
 use Rattle.iovec_scatter.proofs.block.gather.Given as goal
 
 abbrev pub invariant-loop-block : goal.invariant-loop-block

@@ -1,5 +1,5 @@
 use Rattle.std.proofs.Common.{ap, ◌∙◌}
-use Rattle.tcmu_model.specs.Iovecs.{room_of}
+use Rattle.region_model.specs.Iovecs.{room_of}
 use Rattle.iovec_scatter.proofs.Steps.{room-scattered}
 use Rattle.iovec_scatter.proofs.block.scatter.Goals as goal
 

@@ -1,6 +1,6 @@
 use Rattle.std.proofs.Common.{◌≡◌, ◌+◌, ◌≤◌, min, ◌++◌, length, take, drop}
 use Rattle.std.specs.Vec.{vec_capacity}
-use Rattle.tcmu_model.specs.Iovecs.{scattered, room_of}
+use Rattle.region_model.specs.Iovecs.{scattered, room_of}
 use Rattle.iovec_scatter.proofs.block.write_blocks.Given as goal
 
 abbrev pub invariant-loop-index : goal.invariant-loop-index

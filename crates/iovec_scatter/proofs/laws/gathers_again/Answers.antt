@@ -1,8 +1,8 @@
 use Rattle.std.proofs.Common.{◌≡◌, ℕ, ◌-◌, ◌≤◌, ◌∙◌, ap, arith, refl, List, [], ◌∷◌, length, drop, take, ◌++◌, min}
 use Rattle.std.proofs.lemmas.List.{take-append-drop, length-take, length-drop}
-use Rattle.tcmu_model.specs.Layout.{put}
-use Rattle.tcmu_model.proofs.Written.{length-put, take-put}
-use Rattle.tcmu_model.specs.Iovecs.{scattered, gathered, room_of}
+use Rattle.tcmu_types.specs.ByteFields.{put}
+use Rattle.tcmu_types.proofs.ByteFields.{length-put, take-put}
+use Rattle.region_model.specs.Iovecs.{scattered, gathered, room_of}
 use Rattle.iovec_scatter.proofs.Steps.{first_part}
 use Rattle.iovec_scatter.proofs.laws.gathers_again.Goals as goal
 

@@ -1,7 +1,7 @@
 use Rattle.std.proofs.Common.{ℕ, ◌+◌, ◌^◌, ◌<◌, ◌++◌, List, drop, Some, None, refl, sym, ap, ◌∙◌, arith, subst}
 use Rattle.tcmu_types.specs.declared.iovec.Iov.{Iov}
 use Rattle.tcmu_model.specs.Lengths.{block_size}
-use Rattle.tcmu_model.specs.Iovecs.{merged, iovs_along, Covers, EndBelow}
+use Rattle.region_model.specs.Iovecs.{merged, iovs_along, Covers, EndBelow}
 use Rattle.iovec_scatter.specs.Growing.{before}
 use Rattle.iovec_scatter.proofs.Covering.{covers, piece_ends, one_more, all_done}
 use Rattle.std.proofs.lemmas.List.{append-nil}

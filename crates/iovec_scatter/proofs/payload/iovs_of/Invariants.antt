@@ -1,6 +1,6 @@
 use Rattle.std.proofs.Common.{◌≡◌, ◌+◌, ◌≤◌, ◌++◌, length, drop}
 use Rattle.tcmu_model.specs.Lengths.{block_size}
-use Rattle.tcmu_model.specs.Iovecs.{iovs_along}
+use Rattle.region_model.specs.Iovecs.{iovs_along}
 use Rattle.iovec_scatter.specs.Growing.{growing, before}
 use Rattle.iovec_scatter.proofs.payload.iovs_of.Given as goal
 

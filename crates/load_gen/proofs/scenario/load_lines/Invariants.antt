@@ -1,5 +1,5 @@
 use Rattle.std.proofs.Common.{◌≡◌}
-use Rattle.tcmu_model.specs.Load.{random_of, load_lines}
+use Rattle.text_model.specs.Load.{random_of, load_lines}
 use Rattle.load_gen.proofs.scenario.load_lines.Given as goal
 
 abbrev pub invariant-loop-i : goal.invariant-loop-i

@@ -1,8 +1,8 @@
 use Rattle.std.proofs.Common.{◌≡◌, ℕ, ap, sym, ◌∙◌, ◌++◌, subst, arith, length, List, [], ◌∷◌, Option, None}
 use Rattle.std.proofs.lemmas.Result.{IfOk-weaker}
 use Rattle.tcmu_model.specs.Device.{Device}
-use Rattle.tcmu_model.specs.Sound.{Every}
-use Rattle.tcmu_model.specs.ScenarioData.{LineData}
+use Rattle.tcmu_types.specs.Lists.{Every}
+use Rattle.text_model.specs.ScenarioData.{LineData}
 use Rattle.load_gen.proofs.Limits.{lines_few}
 use Rattle.tcmu_path.specs.Tasks.{IsFitFor}
 use Rattle.load_run.specs.Tallies.{numbers_in}

@@ -1,7 +1,7 @@
 use Rattle.std.proofs.Common.{ap, sym, ◌∙◌}
 use Rattle.std.proofs.lemmas.Result.{on_ok_weaker}
 use Rattle.tcmu_types.specs.Views.{event_data}
-use Rattle.tcmu_model.specs.ScenarioData.{LineData}
+use Rattle.text_model.specs.ScenarioData.{LineData}
 use Rattle.scenario_text.specs.Views.{kind_data}
 use Rattle.tcmu_path.proofs.Picked.{can_of_fit}
 use Rattle.load_run.proofs.Tallying.{line_played}

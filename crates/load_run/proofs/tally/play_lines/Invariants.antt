@@ -1,5 +1,5 @@
 use Rattle.std.proofs.Common.{drop}
-use Rattle.tcmu_model.specs.Sound.{Every}
+use Rattle.tcmu_types.specs.Lists.{Every}
 use Rattle.tcmu_path.specs.Calls.{Accepts}
 use Rattle.tcmu_path.specs.Tasks.{IsFitFor}
 use Rattle.load_run.proofs.Tallying.{Playing}

@@ -1,6 +1,6 @@
 use Rattle.std.proofs.Common.{sym, refl}
-use Rattle.tcmu_model.specs.Layout.{le}
-use Rattle.tcmu_model.proofs.Written.{length-le, rest_put}
+use Rattle.tcmu_types.specs.ByteFields.{le}
+use Rattle.tcmu_types.proofs.ByteFields.{length-le, rest_put}
 use Rattle.mailbox_bytes.proofs.fields.put_u32.Goals as goal
 
 pub returns : goal.returns

@@ -1,6 +1,6 @@
 use Rattle.std.proofs.Common.{◌∙◌, ap, arith}
-use Rattle.tcmu_model.specs.Layout.{put}
-use Rattle.tcmu_model.proofs.Written.{le-one}
+use Rattle.tcmu_types.specs.ByteFields.{put}
+use Rattle.tcmu_types.proofs.ByteFields.{le-one}
 use Rattle.mailbox_bytes.proofs.fields.put_u8.Goals as goal
 
 pub returns : goal.returns

@@ -1,7 +1,7 @@
 use Rattle.std.proofs.Common.{◌≡◌, ℕ, ◌+◌, ◌-◌, ◌≤◌, ◌∙◌, ap, arith, length, drop, take, replicate, length-drop, List}
 use Rattle.std.proofs.lemmas.List.{length-take}
-use Rattle.tcmu_model.specs.Layout.{zeros}
-use Rattle.tcmu_model.proofs.Written.{length-zeros, part_put}
+use Rattle.tcmu_types.specs.ByteFields.{zeros}
+use Rattle.tcmu_types.proofs.ByteFields.{length-zeros, part_put}
 use Rattle.mailbox_bytes.proofs.fields.put_zeros.Goals as goal
 
 -- the length of a part

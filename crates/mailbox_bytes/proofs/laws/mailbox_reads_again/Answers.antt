@@ -1,11 +1,12 @@
 use Rattle.std.proofs.Common.{◌≡◌, ℕ, ◌∙◌, ap, arith, refl, List, length, [], ◌++◌, append_assoc, false, nat_lt}
 use Rattle.std.proofs.lemmas.Bool.{le-ltb}
-use Rattle.tcmu_model.specs.Layout.{le, field, zeros, put, mailbox_bytes}
-use Rattle.tcmu_model.specs.MailboxReading.{mailbox_in, mailbox_read, judged, Fits}
-use Rattle.tcmu_model.specs.declared.mailbox.Mailbox.{Mailbox}
-use Rattle.tcmu_model.proofs.Written.{lengths, field-in, field-put, length-put}
+use Rattle.region_model.specs.Layout.{mailbox_bytes}
+use Rattle.tcmu_types.specs.ByteFields.{le, field, zeros, put}
+use Rattle.region_model.specs.MailboxReading.{mailbox_in, mailbox_read, judged, Fits}
+use Rattle.region_model.specs.declared.mailbox.Mailbox.{Mailbox}
+use Rattle.tcmu_types.proofs.ByteFields.{lengths, field-in, field-put, length-put}
 use Rattle.mailbox_bytes.proofs.laws.mailbox_reads_again.Goals as goal
-use Rattle.tcmu_model.proofs.PartLengths.{length-mailbox, mailbox_fields}
+use Rattle.region_model.proofs.PartLengths.{length-mailbox, mailbox_fields}
 
 -- the mailbox_fields are those of the first 128 bytes
 front : (xs text : List ℕ) → length text ≡ 128 → mailbox_in (put xs 0 text) ≡ mailbox_in text

@@ -1,5 +1,5 @@
 use Rattle.std.proofs.Common.{sym, rules}
-use Rattle.tcmu_model.specs.MailboxReading.{mailbox_read, mailbox_in}
+use Rattle.region_model.specs.MailboxReading.{mailbox_read, mailbox_in}
 use Rattle.mailbox_bytes.proofs.Exact.{reads_exactly, read_sound}
 use Rattle.mailbox_bytes.proofs.mailbox.read.Goals as goal
 

@@ -1,5 +1,5 @@
-use Rattle.tcmu_model.specs.Layout.{mailbox_bytes}
-use Rattle.tcmu_model.proofs.Written.{lengths, then_put}
+use Rattle.region_model.specs.Layout.{mailbox_bytes}
+use Rattle.tcmu_types.proofs.ByteFields.{lengths, then_put}
 use Rattle.mailbox_bytes.proofs.mailbox.write.Goals as goal
 
 pub returns : goal.returns

@@ -1,6 +1,6 @@
 use Rattle.std.proofs.Common.{◌≡◌, ℕ, ◌+◌, Bool}
 use Rattle.tcmu_types.specs.Numbered.{Numbered, Tries}
-use Rattle.tcmu_model.specs.Medium.{repeated}
+use Rattle.scsi_model.specs.Medium.{repeated}
 use Rattle.edge.specs.Stores.{Puts}
 use Rattle.medium_file.proofs.filling.fill_store.Given as goal
 

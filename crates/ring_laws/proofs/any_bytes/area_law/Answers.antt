@@ -1,5 +1,5 @@
-use Rattle.tcmu_model.specs.Regions.{opening_region}
-use Rattle.tcmu_model.specs.TargetSteps.{opening_target}
+use Rattle.region_model.specs.Regions.{opening_region}
+use Rattle.region_model.specs.TargetSteps.{opening_target}
 use Rattle.ring_laws.proofs.AnyAreas.{in_opening, called_on, same_pages}
 use Rattle.ring_laws.proofs.AnyRing.{front_of_opening}
 use Rattle.ring_laws.proofs.any_bytes.area_law.Goals as goal

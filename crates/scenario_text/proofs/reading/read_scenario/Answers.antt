@@ -1,5 +1,5 @@
 use Rattle.std.proofs.Common.{arith, subst, sym}
-use Rattle.tcmu_model.specs.ScenarioRules.{IsScenario}
+use Rattle.text_model.specs.ScenarioRules.{IsScenario}
 use Rattle.scenario_text.proofs.Limits.{read_to_the_end}
 use Rattle.scenario_text.proofs.reading.read_scenario.Goals as goal
 

@@ -1,7 +1,7 @@
 use Rattle.scenario_text.proofs.Limits.{has_place}
 use Rattle.scenario_text.specs.Giving.{said_data}
-use Rattle.tcmu_model.proofs.SaidLaws.{said_is}
-use Rattle.tcmu_model.specs.Lines.{fields_of}
+use Rattle.text_model.proofs.SaidLaws.{said_is}
+use Rattle.tcmu_types.specs.Fields.{fields_of}
 use Rattle.scenario_text.proofs.reading.with_fields.Goals as goal
 
 pub with_said-requires : goal.with_said-requires

@@ -1,5 +1,5 @@
 use Rattle.std.proofs.Common.{sym, ◌∙◌}
-use Rattle.tcmu_model.proofs.SaidLaws.{settings_made}
+use Rattle.text_model.proofs.SaidLaws.{settings_made}
 use Rattle.scenario_text.specs.LineViews.{device_data}
 use Rattle.scenario_text.proofs.said.settings_of.Goals as goal
 

@@ -1,5 +1,5 @@
 use Rattle.std.proofs.Common.{◌≡◌, take, map}
-use Rattle.tcmu_model.specs.Script.{init_line}
+use Rattle.text_model.specs.Script.{init_line}
 use Rattle.scenario_text.proofs.scripts.init_lines.Given as goal
 
 abbrev pub invariant-loop-name : goal.invariant-loop-name

@@ -1,5 +1,5 @@
 use Rattle.std.proofs.Common.{◌≡◌, drop}
-use Rattle.tcmu_model.specs.Scenario.{initiators, initiators_from}
+use Rattle.text_model.specs.Scenario.{initiators, initiators_from}
 use Rattle.scenario_text.proofs.scripts.initiators.Given as goal
 
 abbrev pub invariant-loop-line : goal.invariant-loop-line

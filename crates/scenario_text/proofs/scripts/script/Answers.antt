@@ -1,5 +1,5 @@
 use Rattle.std.proofs.Common.{rules}
-use Rattle.tcmu_model.specs.Script.{script_of}
+use Rattle.text_model.specs.Script.{script_of}
 use Rattle.scenario_text.proofs.Limits.{playable}
 use Rattle.scenario_text.proofs.scripts.script.Goals as goal
 

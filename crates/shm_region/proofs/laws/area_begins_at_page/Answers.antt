@@ -1,6 +1,6 @@
 use Rattle.std.proofs.Common.{arith}
 use Rattle.shm_region.proofs.laws.area_begins_at_page.Goals as goal
-use Rattle.tcmu_model.proofs.PartLengths.{length-opening}
+use Rattle.region_model.proofs.PartLengths.{length-opening}
 
 pub returns : goal.returns
 returns c = record {

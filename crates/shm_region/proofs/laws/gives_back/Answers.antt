@@ -1,4 +1,4 @@
-use Rattle.tcmu_model.specs.Regions.{named_by}
+use Rattle.region_model.specs.Regions.{named_by}
 use Rattle.shm_region.proofs.Returned.{returned_leaves_home, returned_leaves_others}
 use Rattle.shm_region.proofs.laws.gives_back.Goals as goal
 

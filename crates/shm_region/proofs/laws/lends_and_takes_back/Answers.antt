@@ -1,5 +1,5 @@
 use Rattle.std.proofs.Common.{ap, List, Option, ℕ}
-use Rattle.tcmu_model.specs.Regions.{named_by}
+use Rattle.region_model.specs.Regions.{named_by}
 use Rattle.shm_region.proofs.Lent.{lends_back, second_true}
 use Rattle.shm_region.proofs.laws.lends_and_takes_back.Goals as goal
 

@@ -1,5 +1,5 @@
 use Rattle.std.proofs.Common.{◌≡◌, ◌-◌, ◌≤◌, length, drop}
-use Rattle.tcmu_model.specs.Regions.{are_whole}
+use Rattle.region_model.specs.Regions.{are_whole}
 use Rattle.shm_region.proofs.lending.are_whole.Given as goal
 
 abbrev pub decreases-loop-index : goal.decreases-loop-index

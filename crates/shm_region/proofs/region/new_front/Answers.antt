@@ -1,6 +1,7 @@
 use Rattle.std.proofs.Common.{◌≡◌, ℕ, ◌∙◌, ap, arith, List, ◌+◌, replicate}
 use Rattle.std.proofs.lemmas.List.{take_at}
-use Rattle.tcmu_model.specs.Layout.{mailbox_bytes, put}
+use Rattle.region_model.specs.Layout.{mailbox_bytes}
+use Rattle.tcmu_types.specs.ByteFields.{put}
 use Rattle.shm_region.proofs.Opening.{put-replicate}
 use Rattle.shm_region.proofs.region.new_front.Goals as goal
 

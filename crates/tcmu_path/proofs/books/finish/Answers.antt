@@ -2,10 +2,10 @@ use Rattle.std.proofs.Common.{◌≡◌, ℕ, List, ◌+◌, ◌≤◌, None, tr
 use Rattle.tcmu_types.specs.Data.{SettingsData}
 use Rattle.tcmu_model.specs.declared.state.CommandState.TheVariants.{Placed}
 use Rattle.tcmu_model.specs.Device.{Unfinished, is_at}
-use Rattle.tcmu_model.specs.Lists.{first_of, without_first}
+use Rattle.tcmu_types.specs.Lists.{first_of, without_first}
 use Rattle.tcmu_model.specs.Lengths.{blocks_of}
 use Rattle.tcmu_model.specs.Events.{is_open}
-use Rattle.tcmu_model.proofs.Firsts.{without_first_missing}
+use Rattle.tcmu_types.proofs.Firsts.{without_first_missing}
 use Rattle.tcmu_path.specs.Room.{to_log, held_by, to_place}
 use Rattle.tcmu_path.proofs.Rooms.{to_log_taken, held_by_taken, to_place_taken, open_logs}
 use Rattle.tcmu_path.proofs.books.finish.Goals as goal

@@ -1,7 +1,7 @@
 use Rattle.std.proofs.Common.{◌≡◌, ℕ, List, ◌++◌, take, drop, sym, ap, subst, ◌∙◌}
 use Rattle.tcmu_model.specs.RingState.{Item, serials_in}
 use Rattle.tcmu_model.specs.Events.{Placing, run_placed}
-use Rattle.tcmu_model.specs.Sound.{Differ}
+use Rattle.tcmu_types.specs.Numbers.{Differ}
 use Rattle.tcmu_path.specs.Changing.{placing_of}
 use Rattle.tcmu_path.proofs.Placings.{run_from, serials-cut, serials-front}
 use Rattle.tcmu_path.proofs.placing.place_in_order.Goals as goal

@@ -3,7 +3,7 @@ use Rattle.tcmu_model.specs.declared.state.CommandState.TheVariants.{Parked, Pla
 use Rattle.tcmu_model.specs.Events.{turned, in_state}
 use Rattle.tcmu_path.specs.Room.{to_place}
 use Rattle.tcmu_path.proofs.Rooms.{to_place_less}
-use Rattle.tcmu_model.proofs.Firsts.{with_first_none}
+use Rattle.tcmu_types.proofs.Firsts.{with_first_none}
 use Rattle.tcmu_path.proofs.placing.place_one.Goals as goal
 
 pub push-requires : goal.push-requires

@@ -1,5 +1,5 @@
 use Rattle.std.proofs.Common.{◌≡◌, ◌∙◌, sym, ap, subst}
-use Rattle.tcmu_model.specs.Config.{MediumData, InFile}
+use Rattle.text_model.specs.Config.{MediumData, InFile}
 use Rattle.device_config.specs.Views.{medium_data}
 use Rattle.tcmu_top.specs.Opened.{Returns}
 use Rattle.tcmu_top.proofs.Keeping.{returned_file}

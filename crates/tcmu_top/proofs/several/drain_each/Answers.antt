@@ -1,7 +1,7 @@
 use Rattle.std.proofs.Common.{◌∙◌, ◌<◌, ◌≤◌, ◌^◌, length, arith}
 use Rattle.tcmu_model.specs.Device.{Device}
 use Rattle.tcmu_model.specs.Drain.{Drains}
-use Rattle.tcmu_model.specs.Several.{DrainsEach}
+use Rattle.text_model.specs.Several.{DrainsEach}
 use Rattle.tcmu_top.specs.Playing.{states_of}
 use Rattle.tcmu_top.proofs.Going.{every_kept, count_kept, drained_more, drained_stopped, drained_all}
 use Rattle.tcmu_top.proofs.Sets.{states_count}

@@ -1,6 +1,6 @@
 use Rattle.std.proofs.Common.{◌≡◌, ◌<◌, ◌^◌, length}
-use Rattle.tcmu_model.specs.Sound.{Every}
-use Rattle.tcmu_model.specs.Several.{DrainsEach}
+use Rattle.tcmu_types.specs.Lists.{Every}
+use Rattle.text_model.specs.Several.{DrainsEach}
 use Rattle.device_set.specs.Sets.{names}
 use Rattle.tcmu_top.specs.Playing.{states_of}
 use Rattle.tcmu_top.proofs.Each.{SoFar}

@@ -8,7 +8,7 @@ use Rattle.device_set.proofs.Places.{length-with_device, names-with_device}
 use Rattle.tcmu_top.specs.Playing.{states_of}
 use Rattle.tcmu_top.proofs.Sets.{states_get, wrote_on, wrote_on_front}
 use Rattle.tcmu_top.proofs.several.drain_on.Goals as goal
-use Rattle.tcmu_model.proofs.Indexed.{every_at}
+use Rattle.tcmu_types.proofs.Everies.{every_at}
 
 pub drain-requires-clause-few : goal.drain-requires-clause-few
 drain-requires-clause-few g c =

@@ -2,15 +2,15 @@ use Rattle.std.proofs.Common.{◌≡◌, ◌<◌, ◌^◌, ℕ, length, refl, ap
 use Rattle.std.proofs.lemmas.Option.{slice_get_read}
 use Rattle.std.proofs.lemmas.Result.{on_ok_weaker, on_err_weaker}
 use Rattle.tcmu_model.specs.Device.{Device}
-use Rattle.tcmu_model.specs.Replay.{Plays}
-use Rattle.tcmu_model.specs.ScenarioData.{LineData}
+use Rattle.text_model.specs.Replay.{Plays}
+use Rattle.text_model.specs.ScenarioData.{LineData}
 use Rattle.tcmu_model.specs.Sound.{IsSound}
 use Rattle.device_set.specs.Sets.{with_device}
 use Rattle.device_set.proofs.Places.{length-with_device, names-with_device}
 use Rattle.tcmu_top.specs.Playing.{states_of, WroteOn, WroteOnFront}
 use Rattle.tcmu_top.proofs.Sets.{states_get, wrote_on, wrote_on_front}
 use Rattle.tcmu_top.proofs.several.play_on.Goals as goal
-use Rattle.tcmu_model.proofs.Indexed.{every_at}
+use Rattle.tcmu_types.proofs.Everies.{every_at}
 
 pub play_line-requires-clause-few : goal.play_line-requires-clause-few
 play_line-requires-clause-few g c =

@@ -3,11 +3,11 @@ use Rattle.std.specs.List.{flat_map}
 use Rattle.std.proofs.lemmas.Result.{on_ok_weaker, on_err_weaker}
 use Rattle.edge.specs.Outside.{Gained, GainedFront}
 use Rattle.tcmu_model.specs.Device.{Device}
-use Rattle.tcmu_model.specs.ScenarioData.{ScenarioData, DeviceLineData, LineData}
-use Rattle.tcmu_model.specs.Several.{ReplaysEach, ends_text}
-use Rattle.tcmu_model.specs.Sound.{Every}
-use Rattle.tcmu_model.specs.Text.{device_text}
-use Rattle.tcmu_model.proofs.Everies.{every-weaker}
+use Rattle.text_model.specs.ScenarioData.{ScenarioData, DeviceLineData, LineData}
+use Rattle.text_model.specs.Several.{ReplaysEach, ends_text}
+use Rattle.tcmu_types.specs.Lists.{Every}
+use Rattle.text_model.specs.Text.{device_text}
+use Rattle.tcmu_types.proofs.Everies.{every-weaker}
 use Rattle.tcmu_top.specs.Playing.{states_of, WroteEach, WroteEachFront}
 use Rattle.tcmu_path.specs.Tasks.{IsFitFor}
 use Rattle.tcmu_top.proofs.Sets.{states_count}

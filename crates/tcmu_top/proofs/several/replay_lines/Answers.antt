@@ -2,9 +2,9 @@ use Rattle.std.proofs.Common.{◌≡◌, ◌∙◌, ◌+◌, ◌<◌, ◌^◌, l
 use Rattle.std.proofs.lemmas.List.{drop_all}
 use Rattle.std.proofs.lemmas.Result.{on_ok_weaker, on_err_weaker}
 use Rattle.tcmu_model.specs.Device.{Device}
-use Rattle.tcmu_model.specs.Sound.{Every}
-use Rattle.tcmu_model.specs.Several.{DrainsEach, ReplaysEach}
-use Rattle.tcmu_model.proofs.Everies.{every-weaker}
+use Rattle.tcmu_types.specs.Lists.{Every}
+use Rattle.text_model.specs.Several.{DrainsEach, ReplaysEach}
+use Rattle.tcmu_types.proofs.Everies.{every-weaker}
 use Rattle.tcmu_path.specs.Tasks.{IsFitFor}
 use Rattle.tcmu_top.specs.Playing.{states_of}
 use Rattle.tcmu_top.proofs.Each.{sofar_then, sofar_then_front}

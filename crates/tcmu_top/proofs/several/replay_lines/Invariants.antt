@@ -1,6 +1,6 @@
 use Rattle.std.proofs.Common.{◌≡◌, ◌+◌, ◌<◌, ◌^◌, length, drop}
-use Rattle.tcmu_model.specs.Sound.{Every}
-use Rattle.tcmu_model.specs.Several.{ReplaysEach}
+use Rattle.tcmu_types.specs.Lists.{Every}
+use Rattle.text_model.specs.Several.{ReplaysEach}
 use Rattle.device_set.specs.Sets.{names}
 use Rattle.tcmu_top.specs.Playing.{states_of}
 use Rattle.tcmu_path.specs.Tasks.{IsFitFor}

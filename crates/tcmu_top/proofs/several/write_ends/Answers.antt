@@ -2,13 +2,13 @@ use Rattle.std.proofs.Common.{◌∙◌, ◌<◌, ◌^◌, suc, length, take, dr
 use Rattle.std.proofs.lemmas.Option.{slice_get_read}
 use Rattle.tcmu_model.specs.Device.{Device}
 use Rattle.tcmu_model.specs.Sound.{IsSound}
-use Rattle.tcmu_model.specs.Several.{ends_text}
+use Rattle.text_model.specs.Several.{ends_text}
 use Rattle.tcmu_top.specs.Playing.{states_of}
 use Rattle.tcmu_top.proofs.Sets.{states_get}
 use Rattle.tcmu_top.proofs.Telling.{on_err, front_more, gained_more, gained_as}
 use Rattle.tcmu_top.proofs.Whole.{last_text, ends_more, ends_at}
 use Rattle.tcmu_top.proofs.several.write_ends.Goals as goal
-use Rattle.tcmu_model.proofs.Indexed.{every_at}
+use Rattle.tcmu_types.proofs.Everies.{every_at}
 
 pub open_count-count-requires-clause-sound : goal.open_count-count-requires-clause-sound
 open_count-count-requires-clause-sound g c =

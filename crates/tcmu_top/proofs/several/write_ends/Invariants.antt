@@ -1,6 +1,6 @@
 use Rattle.std.proofs.Common.{◌≡◌, take}
 use Rattle.edge.specs.Outside.{Gained}
-use Rattle.tcmu_model.specs.Several.{ends_text}
+use Rattle.text_model.specs.Several.{ends_text}
 use Rattle.tcmu_top.specs.Playing.{states_of}
 use Rattle.tcmu_top.proofs.several.write_ends.Given as goal
 

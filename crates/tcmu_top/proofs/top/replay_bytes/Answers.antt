@@ -1,4 +1,4 @@
-use Rattle.tcmu_model.proofs.ServedLaws.{scenario_served}
+use Rattle.text_model.proofs.ServedLaws.{scenario_served}
 use Rattle.tcmu_top.proofs.top.replay_bytes.Goals as goal
 
 pub replay_scenario-requires-clause-served : goal.replay_scenario-requires-clause-served

@@ -1,5 +1,5 @@
 use Rattle.std.proofs.Common.{◌≡◌, ◌∙◌, ap, sym, subst, List, length, Err, inr}
-use Rattle.tcmu_model.specs.ScenarioData.{ScenarioData, DeviceLineData}
+use Rattle.text_model.specs.ScenarioData.{ScenarioData, DeviceLineData}
 use Rattle.tcmu_top.specs.Opened.{KeepsEach}
 use Rattle.tcmu_top.specs.Playing.{states_of}
 use Rattle.tcmu_top.specs.declared.writing.Stop.{Stop}

@@ -1,5 +1,5 @@
 use Rattle.std.proofs.Common.{◌∙◌, refl, ap, subst, List, Err}
-use Rattle.tcmu_model.specs.ScenarioData.{ScenarioData, DeviceLineData}
+use Rattle.text_model.specs.ScenarioData.{ScenarioData, DeviceLineData}
 use Rattle.media.specs.declared.make.MakeFault.{MakeFault}
 use Rattle.media.specs.declared.make.MakeFault.TheVariants as fault
 use Rattle.tcmu_top.specs.Opened.{AreOpen, Unopened}

@@ -1,6 +1,6 @@
 use Rattle.std.specs.List.{flat_map}
 use Rattle.std.proofs.Common.{take, drop, ◌+◌}
-use Rattle.tcmu_model.specs.Text.{completion_text}
+use Rattle.text_model.specs.Text.{completion_text}
 use Rattle.tcmu_top.proofs.Telling.{front_more, on_err, pieces_at}
 use Rattle.tcmu_top.proofs.writing.write_completions.Goals as goal
 

@@ -1,7 +1,7 @@
 use Rattle.std.proofs.Common.{◌≡◌, take}
 use Rattle.std.specs.List.{flat_map}
 use Rattle.edge.specs.Outside.{Gained}
-use Rattle.tcmu_model.specs.Text.{completion_text}
+use Rattle.text_model.specs.Text.{completion_text}
 use Rattle.tcmu_top.proofs.writing.write_completions.Given as goal
 
 abbrev pub invariant-loop-done : goal.invariant-loop-done

@@ -2,7 +2,7 @@ use Rattle.std.proofs.Common.{refl}
 use Rattle.std.specs.List.{flat_map}
 use Rattle.std.proofs.lemmas.Result.{on_ok_weaker, on_err_weaker}
 use Rattle.tcmu_types.specs.Views.{event_data, answer_data}
-use Rattle.tcmu_model.specs.Text.{event_line, completion_text}
+use Rattle.text_model.specs.Text.{event_line, completion_text}
 use Rattle.tcmu_top.proofs.Telling.{front_first, front_behind, gained_more, on_err}
 use Rattle.tcmu_top.proofs.writing.write_entry.Goals as goal
 

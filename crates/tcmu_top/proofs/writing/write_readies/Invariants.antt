@@ -1,7 +1,7 @@
 use Rattle.std.proofs.Common.{◌≡◌, take}
 use Rattle.std.specs.List.{flat_map}
 use Rattle.edge.specs.Outside.{Gained}
-use Rattle.tcmu_model.specs.Text.{device_text}
+use Rattle.text_model.specs.Text.{device_text}
 use Rattle.tcmu_top.proofs.writing.write_readies.Given as goal
 
 abbrev pub invariant-loop-device : goal.invariant-loop-device

@@ -1,7 +1,7 @@
 use Rattle.std.proofs.Common.{◌≡◌, ◌+◌, ◌*◌, length, ap, ◌∙◌, arith, rules}
 use Rattle.tcmu_types.specs.Overwriting.{overwritten}
 use Rattle.tcmu_model.specs.MediumState.{MediumState}
-use Rattle.tcmu_model.specs.Medium.{repeated}
+use Rattle.scsi_model.specs.Medium.{repeated}
 use Rattle.handler_trait.proofs.Repeating.{fill_more}
 use Rattle.media.proofs.InMemory.{fills_here}
 use Rattle.media.proofs.memory.MemMediumMedium.fill.Goals as goal

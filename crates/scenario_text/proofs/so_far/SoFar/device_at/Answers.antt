@@ -1,6 +1,6 @@
 use Rattle.std.proofs.Common.{◌∙◌, ap, sym}
-use Rattle.tcmu_model.specs.ScenarioData.{ScenarioData}
-use Rattle.tcmu_model.specs.Said.{device_at}
+use Rattle.text_model.specs.ScenarioData.{ScenarioData}
+use Rattle.text_model.specs.Said.{device_at}
 use Rattle.scenario_text.proofs.Naming.{place_told}
 use Rattle.scenario_text.proofs.so_far.SoFar.device_at.Goals as goal
 

@@ -1,5 +1,5 @@
 use Rattle.std.proofs.Common.{arith, ◌+◌, ◌≤◌, length, ap, sym, subst}
-use Rattle.tcmu_model.specs.ScenarioData.{ScenarioData, DeviceLineData}
+use Rattle.text_model.specs.ScenarioData.{ScenarioData, DeviceLineData}
 use Rattle.scenario_text.specs.Counts.{IsNewName}
 use Rattle.scenario_text.proofs.Counting.{counted_device}
 use Rattle.scenario_text.proofs.Naming.{are_names_more}

@@ -1,5 +1,5 @@
 use Rattle.std.proofs.Common.{◌∙◌, ap, subst, sym, List, ℕ, length, ◌+◌, ◌<◌, ◌∷◌, [], ◌++◌}
-use Rattle.tcmu_model.specs.ScenarioData.{ScenarioData, LineData}
+use Rattle.text_model.specs.ScenarioData.{ScenarioData, LineData}
 use Rattle.scenario_text.proofs.Counting.{dump_found, many_found, refused_dump, refused_many, taken_as, counted_more}
 use Rattle.scenario_text.proofs.so_far.SoFar.with_line.Goals as goal
 

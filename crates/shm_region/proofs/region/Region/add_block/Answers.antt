@@ -1,6 +1,6 @@
 use Rattle.std.proofs.Common.{◌≡◌, ◌∙◌, ap, arith, length, ◌*◌}
-use Rattle.tcmu_model.proofs.Written.{length-zeros}
-use Rattle.tcmu_model.specs.Regions.{RegionState}
+use Rattle.tcmu_types.proofs.ByteFields.{length-zeros}
+use Rattle.region_model.specs.Regions.{RegionState}
 use Rattle.shm_region.proofs.Sized.{sized-cond, length-cond, with_blocks}
 use Rattle.shm_region.proofs.region.Region.add_block.Goals as goal
 

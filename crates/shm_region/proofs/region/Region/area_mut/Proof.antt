@@ -2,7 +2,7 @@
 use Rattle.std.proofs.Common.{◌≡◌, ℕ, ◌<◌, ◌^◌, List, [], ◌∷◌, Some, None, length, refl, sym, ap, w32, lit<, MutBor}
 use Rattle.std.proofs.raw_atomic.Walks.{proved}
 use Rattle.std.specs.Prelude.{slice_get, true, Bool}
-use Rattle.tcmu_model.specs.Regions.{is_home, block_at}
+use Rattle.region_model.specs.Regions.{is_home, block_at}
 use Rattle.shm_region.specs.Lends.{LendsBlock}
 use base.Fraction.{full_share}
 use base.Logic.{id⊢, emp}

@@ -1,8 +1,7 @@
-use Rattle.std.proofs.Common.{◌≡◌, ℕ, ◌≤◌, ◌∙◌, ap, sym, arith, subst, length, take, List, ◌+◌, ◌-◌}
+use Rattle.std.proofs.Common.{◌≡◌, ℕ, ◌≤◌, ◌∙◌, ap, sym, arith, subst, length, take, List, ◌+◌, ◌-◌, get_or}
 use Rattle.tcmu_types.specs.declared.iovec.Iov.{Iov}
-use Rattle.tcmu_model.specs.Regions.{size_of, numbers_of, first_block, block_count, returned, HaveSize}
+use Rattle.region_model.specs.Regions.{size_of, numbers_of, first_block, block_count, returned, HaveSize}
 use Rattle.std.proofs.lemmas.List.{length-take}
-use Rattle.std.proofs.Common.{get_or}
 use Rattle.shm_region.proofs.Lent.{back_count, back_iov_step, have-take}
 use Rattle.shm_region.proofs.region.Region.back_iovs.Goals as goal
 

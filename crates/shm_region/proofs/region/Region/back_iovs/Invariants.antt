@@ -1,5 +1,5 @@
 use Rattle.std.proofs.Common.{◌≡◌, ◌+◌, ◌≤◌, length, take}
-use Rattle.tcmu_model.specs.Regions.{size_of, returned, given_back, HaveSize, numbers_of}
+use Rattle.region_model.specs.Regions.{size_of, returned, given_back, HaveSize, numbers_of}
 use Rattle.shm_region.proofs.region.Region.back_iovs.Given as goal
 
 abbrev pub decreases-loop-left : goal.decreases-loop-left

@@ -1,6 +1,6 @@
 use Rattle.std.proofs.Common.{◌≡◌, ℕ, ◌∙◌, ap, sym, arith, length, take, drop, List, ◌+◌, ◌-◌, ◌++◌, ◌∷◌, [], length-append}
 use Rattle.std.proofs.lemmas.List.{take-append-le, drop-append-le, length-drop}
-use Rattle.tcmu_model.specs.Regions.{size_of, RegionState, HaveSize, returned, numbers_from}
+use Rattle.region_model.specs.Regions.{size_of, RegionState, HaveSize, returned, numbers_from}
 use Rattle.shm_region.proofs.Lent.{back_step, have-last, length-numbers, numbers-last}
 use Rattle.shm_region.proofs.region.Region.back_range.Goals as goal
 

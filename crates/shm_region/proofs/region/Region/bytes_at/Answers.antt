@@ -1,7 +1,7 @@
 use Rattle.std.proofs.Common.{◌≡◌, ◌<◌, ◌*◌, Option, List, ℕ, ◌∙◌, ap, sym, refl, length, arith, set}
 use Rattle.std.specs.Prelude.{option_map}
 use Rattle.std.proofs.Math.ListN.{length-set}
-use Rattle.tcmu_model.specs.Regions.{RegionState, block_at, fitted}
+use Rattle.region_model.specs.Regions.{RegionState, block_at, fitted}
 use Rattle.shm_region.specs.Lends.{with_bytes}
 use Rattle.shm_region.proofs.Sized.{with_blocks}
 use Rattle.shm_region.proofs.Area.{sized-fitted, home-got, home-inside}

@@ -1,6 +1,6 @@
 use Rattle.std.proofs.Common.{◌≡◌, ◌∙◌, ap, sym, length}
-use Rattle.tcmu_model.proofs.Written.{length-zeros}
-use Rattle.tcmu_model.specs.Regions.{size_of, RegionState}
+use Rattle.tcmu_types.proofs.ByteFields.{length-zeros}
+use Rattle.region_model.specs.Regions.{size_of, RegionState}
 use Rattle.shm_region.proofs.Sized.{clear_is}
 use Rattle.shm_region.proofs.region.Region.clear.Goals as goal
 

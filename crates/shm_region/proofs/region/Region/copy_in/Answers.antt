@@ -1,6 +1,6 @@
 use Rattle.std.proofs.Common.{subst, sym, List}
 use Rattle.tcmu_types.specs.declared.iovec.Iov.{Iov}
-use Rattle.tcmu_model.specs.Iovecs.{EndBelow}
+use Rattle.region_model.specs.Iovecs.{EndBelow}
 use Rattle.shm_region.proofs.Shown.{region_small, ends_below}
 use Rattle.shm_region.proofs.region.Region.copy_in.Goals as goal
 

@@ -1,5 +1,5 @@
 use Rattle.std.proofs.Common.{ℕ, refl, ap, ◌∙◌, sym, take, drop, length, ◌++◌}
-use Rattle.tcmu_model.specs.Regions.{RegionState, fitted}
+use Rattle.region_model.specs.Regions.{RegionState, fitted}
 use Rattle.shm_region.proofs.region.Region.front_mut.Goals as goal
 
 pub returns : goal.returns

@@ -1,6 +1,6 @@
 use Rattle.std.proofs.Common.{◌≡◌, ℕ, ◌∙◌, ap, arith, length, Some, ◌-◌, ◌++◌, replicate}
-use Rattle.tcmu_model.specs.Layout.{zeros}
-use Rattle.tcmu_model.specs.Regions.{size_of}
+use Rattle.tcmu_types.specs.ByteFields.{zeros}
+use Rattle.region_model.specs.Regions.{size_of}
 use Rattle.shm_region.proofs.region.Region.grow.Goals as goal
 
 pub returns-clause-ok : goal.returns-clause-ok

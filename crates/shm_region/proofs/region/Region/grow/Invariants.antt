@@ -1,6 +1,6 @@
 use Rattle.std.proofs.Common.{◌≡◌, ◌-◌, ◌≤◌, length, Some, ◌++◌, replicate, max}
-use Rattle.tcmu_model.specs.Layout.{zeros}
-use Rattle.tcmu_model.specs.Regions.{size_of}
+use Rattle.tcmu_types.specs.ByteFields.{zeros}
+use Rattle.region_model.specs.Regions.{size_of}
 use Rattle.shm_region.proofs.region.Region.grow.Given as goal
 
 abbrev pub invariant-loop : goal.invariant-loop

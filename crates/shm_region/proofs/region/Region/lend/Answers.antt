@@ -1,5 +1,5 @@
 use Rattle.std.proofs.Common.{◌≡◌, false, sym, ◌∙◌, rules}
-use Rattle.tcmu_model.specs.Regions.{can_lend}
+use Rattle.region_model.specs.Regions.{can_lend}
 use Rattle.shm_region.proofs.Lent.{lends_by_rule}
 use Rattle.shm_region.proofs.region.Region.lend.Goals as goal
 

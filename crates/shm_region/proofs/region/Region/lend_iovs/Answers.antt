@@ -1,10 +1,9 @@
-use Rattle.std.proofs.Common.{◌≡◌, ℕ, ◌≤◌, ◌∙◌, ap, sym, arith, rules, subst, length, take, drop, List, ◌+◌, ◌++◌, true, false, length-append}
+use Rattle.std.proofs.Common.{◌≡◌, ℕ, ◌≤◌, ◌∙◌, ap, sym, arith, rules, subst, length, take, drop, List, ◌+◌, ◌++◌, true, false, length-append, get_or}
 use Rattle.tcmu_types.specs.declared.iovec.Iov.{Iov}
-use Rattle.tcmu_model.specs.Regions.{size_of, RegionState, numbers_of, numbers_from, first_block, block_count, returned, without, taken, can_take, HaveSize}
-use Rattle.std.proofs.Common.{get_or}
+use Rattle.region_model.specs.Regions.{size_of, RegionState, numbers_of, numbers_from, first_block, block_count, returned, without, taken, can_take, HaveSize}
 use Rattle.shm_region.proofs.Lent.{length-numbers, split_first, split_more, first_room, range_step, cannot_range}
 use Rattle.shm_region.proofs.region.Region.lend_iovs.Goals as goal
-use Rattle.tcmu_model.proofs.Areas.{length-taken}
+use Rattle.region_model.proofs.Areas.{length-taken}
 
 abbrev none : Iov
 none = record { base = 0; len = 0 }

@@ -1,5 +1,5 @@
 use Rattle.std.proofs.Common.{◌≡◌, ◌+◌, ◌-◌, ◌≤◌, ◌++◌, length, take, drop}
-use Rattle.tcmu_model.specs.Regions.{size_of, can_take, taken, without, returned, lent, parts_of, named_by, HaveSize, numbers_of}
+use Rattle.region_model.specs.Regions.{size_of, can_take, taken, without, returned, lent, parts_of, named_by, HaveSize, numbers_of}
 use Rattle.shm_region.proofs.region.Region.lend_iovs.Given as goal
 
 abbrev pub decreases-loop-done : goal.decreases-loop-done

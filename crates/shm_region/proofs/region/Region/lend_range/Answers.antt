@@ -1,6 +1,6 @@
 use Rattle.std.proofs.Common.{◌≡◌, ℕ, ◌∙◌, ap, sym, arith, length, drop, List, Option, ◌+◌, ◌-◌, ◌++◌, ◌∷◌, [], length-append}
 use Rattle.std.proofs.lemmas.List.{take-append-le, drop-append-le, length-drop}
-use Rattle.tcmu_model.specs.Regions.{size_of, RegionState, returned, can_take, taken, without, numbers_from}
+use Rattle.region_model.specs.Regions.{size_of, RegionState, returned, can_take, taken, without, numbers_from}
 use Rattle.shm_region.proofs.Lent.{lend_step, have-push, home_some, set-not-home, length-numbers, numbers-last, numbers-rest}
 use Rattle.shm_region.proofs.region.Region.lend_range.Goals as goal
 

@@ -1,8 +1,8 @@
 use Rattle.std.proofs.Common.{◌≡◌, ◌∙◌, ap, arith, length, ◌+◌}
-use Rattle.tcmu_model.proofs.Written.{length-padded}
-use Rattle.tcmu_model.specs.Layout.{device_mailbox}
+use Rattle.tcmu_types.proofs.ByteFields.{length-padded}
+use Rattle.region_model.specs.Layout.{device_mailbox}
 use Rattle.shm_region.proofs.region.Region.new.Goals as goal
-use Rattle.tcmu_model.proofs.PartLengths.{length-mailbox}
+use Rattle.region_model.proofs.PartLengths.{length-mailbox}
 
 pub invariant_of-result : goal.invariant_of-result
 invariant_of-result c =

@@ -1,5 +1,5 @@
 use Rattle.std.proofs.Common.{◌≡◌, ℕ, ◌∙◌, ap, sym, length, ◌*◌, ◌+◌}
-use Rattle.tcmu_model.specs.Regions.{size_of, RegionState, overlaid}
+use Rattle.region_model.specs.Regions.{size_of, RegionState, overlaid}
 use Rattle.shm_region.proofs.Over.{change_is, length-overlaid}
 use Rattle.shm_region.proofs.region.Region.overlay_block.Goals as goal
 

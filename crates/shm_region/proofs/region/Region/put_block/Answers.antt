@@ -1,6 +1,6 @@
 use Rattle.std.proofs.Common.{◌≡◌, ◌∙◌, ap, sym, arith, length, Some, ◌*◌}
 use Rattle.std.proofs.Math.ListN.{length-set}
-use Rattle.tcmu_model.specs.Regions.{size_of}
+use Rattle.region_model.specs.Regions.{size_of}
 use Rattle.shm_region.proofs.Sized.{sized-set, with_blocks}
 use Rattle.shm_region.proofs.region.Region.put_block.Goals as goal
 

@@ -1,6 +1,6 @@
 use Rattle.std.proofs.Common.{◌≡◌, ℕ, ◌-◌, length, get_or, min, ◌∙◌, ap, arith}
 use Rattle.tcmu_types.specs.declared.iovec.Iov.{Iov}
-use Rattle.tcmu_model.specs.Regions.{bytes_of}
+use Rattle.region_model.specs.Regions.{bytes_of}
 use Rattle.shm_region.proofs.Shown.{read_step, lies_rest, total_rest, length-chunk}
 use Rattle.shm_region.proofs.region.Region.read_along.Goals as goal
 

@@ -1,6 +1,6 @@
 use Rattle.std.proofs.Common.{◌≡◌, ◌+◌, ◌-◌, ◌++◌, length, take, drop, ◌≤◌}
-use Rattle.tcmu_model.specs.Iovecs.{total_of, along}
-use Rattle.tcmu_model.specs.Regions.{bytes_of, LieInRegion}
+use Rattle.region_model.specs.Iovecs.{total_of, along}
+use Rattle.region_model.specs.Regions.{bytes_of, LieInRegion}
 use Rattle.shm_region.proofs.region.Region.read_along.Given as goal
 
 abbrev pub invariant-loop-iov : goal.invariant-loop-iov

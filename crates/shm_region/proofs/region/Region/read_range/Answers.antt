@@ -1,7 +1,7 @@
 use Rattle.std.proofs.Common.{◌≡◌, ℕ, ◌+◌, ◌-◌, ◌≤◌, List, length, take, drop, ◌∙◌, ap, sym, arith, refl}
-use Rattle.tcmu_model.specs.Layout.{put}
-use Rattle.tcmu_model.specs.Regions.{bytes_of}
-use Rattle.tcmu_model.proofs.Written.{put-nothing}
+use Rattle.tcmu_types.specs.ByteFields.{put}
+use Rattle.region_model.specs.Regions.{bytes_of}
+use Rattle.tcmu_types.proofs.ByteFields.{put-nothing}
 use Rattle.shm_region.proofs.Shown.{region_small, chunk_step, length-chunk}
 use Rattle.shm_region.proofs.region.Region.read_range.Goals as goal
 

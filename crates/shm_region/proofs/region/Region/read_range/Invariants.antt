@@ -1,6 +1,6 @@
 use Rattle.std.proofs.Common.{◌≡◌, ◌-◌, ◌≤◌, length, take, drop}
-use Rattle.tcmu_model.specs.Layout.{put}
-use Rattle.tcmu_model.specs.Regions.{bytes_of}
+use Rattle.tcmu_types.specs.ByteFields.{put}
+use Rattle.region_model.specs.Regions.{bytes_of}
 use Rattle.shm_region.proofs.region.Region.read_range.Given as goal
 
 abbrev pub decreases-loop-done : goal.decreases-loop-done

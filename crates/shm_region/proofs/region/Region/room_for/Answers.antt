@@ -1,7 +1,7 @@
 use Rattle.std.proofs.Common.{◌≡◌, ℕ, ◌+◌, ◌^◌, ◌<◌, ◌≤◌, List, [], length, drop, get_or, ◌∙◌, ap, arith, rules, refl}
 use Rattle.std.proofs.lemmas.List.{drop_all}
 use Rattle.tcmu_types.specs.declared.iovec.Iov.{Iov}
-use Rattle.tcmu_model.specs.Regions.{size_of, numbers_of, first_block, block_count}
+use Rattle.region_model.specs.Regions.{size_of, numbers_of, first_block, block_count}
 use Rattle.shm_region.proofs.Lent.{first_room, told_less, told_none}
 use Rattle.shm_region.proofs.region.Region.room_for.Goals as goal
 

@@ -1,5 +1,5 @@
 use Rattle.std.proofs.Common.{◌^◌, ◌<◌, ◌≡◌, ◌+◌, length, drop}
-use Rattle.tcmu_model.specs.Regions.{size_of, numbers_of}
+use Rattle.region_model.specs.Regions.{size_of, numbers_of}
 use Rattle.shm_region.proofs.region.Region.room_for.Given as goal
 
 abbrev pub invariant-loop-iov : goal.invariant-loop-iov

@@ -1,7 +1,7 @@
 use Rattle.std.proofs.Common.{◌≡◌, ◌∙◌, ap, arith, length, ◌*◌}
 use Rattle.std.proofs.lemmas.List.{length-take}
 use Rattle.shm_region.proofs.region.Region.shrink.Goals as goal
-use Rattle.tcmu_model.proofs.Areas.{sized-take}
+use Rattle.region_model.proofs.Areas.{sized-take}
 
 pub invariant_of-self : goal.invariant_of-self
 invariant_of-self c =

@@ -1,6 +1,6 @@
 use Rattle.std.proofs.Common.{◌≡◌, ◌∙◌, ap, sym, arith, length, None, ◌*◌}
 use Rattle.std.proofs.Math.ListN.{length-set}
-use Rattle.tcmu_model.specs.Regions.{RegionState}
+use Rattle.region_model.specs.Regions.{RegionState}
 use Rattle.shm_region.proofs.Sized.{sized-set-none, sized-if, with_blocks}
 use Rattle.shm_region.proofs.region.Region.take_block.Goals as goal
 

@@ -1,6 +1,6 @@
 use Rattle.std.proofs.Common.{◌≡◌, ◌+◌, ◌-◌, length, drop, min, ◌≤◌}
-use Rattle.tcmu_model.specs.Iovecs.{total_of, EndBelow}
-use Rattle.tcmu_model.specs.Regions.{copied_in}
+use Rattle.region_model.specs.Iovecs.{total_of, EndBelow}
+use Rattle.region_model.specs.Regions.{copied_in}
 use Rattle.shm_region.proofs.region.Region.write_along.Given as goal
 
 abbrev pub invariant-loop-iov : goal.invariant-loop-iov

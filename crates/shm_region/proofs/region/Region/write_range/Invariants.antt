@@ -1,5 +1,5 @@
 use Rattle.std.proofs.Common.{◌≡◌, ◌+◌, ◌*◌, length, take, drop, ◌++◌}
-use Rattle.tcmu_model.specs.Regions.{size_of, blocks_over, wrote}
+use Rattle.region_model.specs.Regions.{size_of, blocks_over, wrote}
 use Rattle.shm_region.proofs.region.Region.write_range.Given as goal
 
 abbrev pub invariant-loop-index : goal.invariant-loop-index

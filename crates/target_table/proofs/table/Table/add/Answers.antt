@@ -1,5 +1,5 @@
 use Rattle.std.proofs.Common.{◌≡◌, ◌-◌, ◌+◌, ◌≤◌, ◌<◌, ◌++◌, ◌∷◌, [], Some, slice_set, refl, sym, ap, subst, ◌∙◌, arith}
-use Rattle.tcmu_model.specs.Pending.{PendingData}
+use Rattle.region_model.specs.Pending.{PendingData}
 use Rattle.target_table.specs.Kept.{rows_of}
 use Rattle.target_table.proofs.Ordered.{all-precede-same}
 use Rattle.target_table.proofs.Changes.{Adding, last-free, added-fresh, added-kept, added-view, length-added}

@@ -1,6 +1,6 @@
 use Rattle.std.proofs.Common.{◌≡◌, ◌≤◌, ◌-◌, nat_le, true, false, length, List, None, ◌==◌, ℕ, sym, ap, subst, ◌∙◌, arith}
 use Rattle.std.specs.List.Sorted.{IsNonDecreasingBy, IsPartitionPoint}
-use Rattle.tcmu_model.specs.Lists.{without_first}
+use Rattle.tcmu_types.specs.Lists.{without_first}
 use Rattle.target_table.specs.declared.table.Ranked.{Ranked}
 use Rattle.target_table.proofs.Places.{at-tells, serials-rise}
 use Rattle.target_table.proofs.Changes.{Taking, Ranking, rank-facts, taken-some, taken-tells, taken-kept, taken-view, missing-view, length-added, less}

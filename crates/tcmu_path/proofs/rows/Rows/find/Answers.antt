@@ -1,7 +1,7 @@
 use Rattle.std.proofs.Common.{Some, sym, ap, ◌∙◌}
 use Rattle.tcmu_types.specs.Data.{Spared}
 use Rattle.tcmu_model.specs.Device.{Unfinished, is_at}
-use Rattle.tcmu_model.proofs.Firsts.{first_of_at, first_of_none}
+use Rattle.tcmu_types.proofs.Firsts.{first_of_at, first_of_none}
 use Rattle.tcmu_path.proofs.rows.Rows.find.Goals as goal
 
 pub returns-in-Some : goal.returns-in-Some

@@ -1,8 +1,8 @@
 use Rattle.std.proofs.Common.{◌≤◌, List, length, sym, ap, subst, arith}
 use Rattle.tcmu_types.specs.Data.{Spared}
-use Rattle.tcmu_model.specs.Lists.{IsRising}
+use Rattle.tcmu_types.specs.Numbers.{IsRising}
 use Rattle.tcmu_model.specs.Device.{Unfinished, is_at}
-use Rattle.tcmu_model.proofs.Counts.{serial_at}
+use Rattle.tcmu_model.proofs.CommandStates.{serial_at}
 use Rattle.tcmu_path.specs.Tallies.{serials_of}
 use Rattle.tcmu_path.proofs.Rising.{none_at, none_at_end}
 use Rattle.tcmu_path.proofs.rows.Rows.index_of.Goals as goal

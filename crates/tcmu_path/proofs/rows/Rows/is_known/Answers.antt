@@ -1,9 +1,9 @@
 use Rattle.std.proofs.Common.{◌≡◌, ◌<◌, ◌≤◌, true, false, eqb, List, length, get_or, sym, ap, subst, ◌∙◌, arith, ⊎_elim}
 use Rattle.std.proofs.lemmas.Bool.{cases_Bool, eqb-true}
 use Rattle.tcmu_types.specs.Data.{Spared}
-use Rattle.tcmu_model.specs.Lists.{IsRising}
+use Rattle.tcmu_types.specs.Numbers.{IsRising}
 use Rattle.tcmu_model.specs.Device.{Unfinished, has_serial}
-use Rattle.tcmu_model.proofs.Firsts.{any_at}
+use Rattle.tcmu_types.proofs.Firsts.{any_at}
 use Rattle.tcmu_path.specs.Tallies.{serials_of}
 use Rattle.tcmu_path.proofs.Rising.{none_at, none_at_end, first_there}
 use Rattle.tcmu_path.proofs.rows.Rows.is_known.Goals as goal

@@ -1,10 +1,10 @@
 use Rattle.std.proofs.Common.{List, Some, refl, sym, ap, subst, ◌∙◌}
 use Rattle.tcmu_types.specs.Data.{Spared}
 use Rattle.tcmu_model.specs.declared.state.CommandState.TheVariants.{Out}
-use Rattle.tcmu_model.specs.Lists.{IsFirst, with_first}
+use Rattle.tcmu_types.specs.Lists.{IsFirst, with_first}
 use Rattle.tcmu_model.specs.Device.{Unfinished, is_at}
 use Rattle.tcmu_model.specs.Events.{with_reply}
-use Rattle.tcmu_model.proofs.Firsts.{first_of_at, with_first_set, with_first_none}
+use Rattle.tcmu_types.proofs.Firsts.{first_of_at, with_first_set, with_first_none}
 use Rattle.tcmu_path.specs.Tallies.{AreRows}
 use Rattle.tcmu_path.specs.Room.{KeepsRoom}
 use Rattle.tcmu_path.proofs.Rooms.{KeepsRoom-replied}

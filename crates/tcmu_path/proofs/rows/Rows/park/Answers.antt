@@ -2,10 +2,10 @@ use Rattle.std.proofs.Common.{◌≡◌, true, List, refl, sym, ap, subst, ◌�
 use Rattle.std.specs.List.{list_any}
 use Rattle.tcmu_types.specs.Data.{Spared}
 use Rattle.tcmu_model.specs.declared.state.CommandState.TheVariants.{Handled, Parked}
-use Rattle.tcmu_model.specs.Lists.{IsFirst}
+use Rattle.tcmu_types.specs.Lists.{IsFirst}
 use Rattle.tcmu_model.specs.Device.{Unfinished, is_at}
 use Rattle.tcmu_model.specs.Events.{in_state, turned}
-use Rattle.tcmu_model.proofs.Firsts.{any_at, with_first_set, with_first_none}
+use Rattle.tcmu_types.proofs.Firsts.{any_at, with_first_set, with_first_none}
 use Rattle.tcmu_path.specs.Tallies.{AreRows}
 use Rattle.tcmu_path.specs.Room.{KeepsRoom}
 use Rattle.tcmu_path.proofs.Rooms.{KeepsRoom-turned, any-turned}

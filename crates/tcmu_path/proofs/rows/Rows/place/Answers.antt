@@ -1,10 +1,10 @@
 use Rattle.std.proofs.Common.{List, refl, sym, ap, subst, ◌∙◌}
 use Rattle.tcmu_types.specs.Data.{Spared}
 use Rattle.tcmu_model.specs.declared.state.CommandState.TheVariants.{Parked, Placed}
-use Rattle.tcmu_model.specs.Lists.{IsFirst}
+use Rattle.tcmu_types.specs.Lists.{IsFirst}
 use Rattle.tcmu_model.specs.Device.{Unfinished, is_at}
 use Rattle.tcmu_model.specs.Events.{in_state, turned}
-use Rattle.tcmu_model.proofs.Firsts.{with_first_set, with_first_none}
+use Rattle.tcmu_types.proofs.Firsts.{with_first_set, with_first_none}
 use Rattle.tcmu_path.specs.Tallies.{AreRows}
 use Rattle.tcmu_path.specs.Room.{KeepsRoom}
 use Rattle.tcmu_path.proofs.Rooms.{KeepsRoom-turned}

@@ -1,7 +1,7 @@
 use Rattle.std.proofs.Common.{◌<◌, List, sym, ap, subst}
 use Rattle.tcmu_types.specs.Data.{Spared}
 use Rattle.tcmu_model.specs.Device.{Unfinished}
-use Rattle.tcmu_model.specs.Sound.{Every}
+use Rattle.tcmu_types.specs.Lists.{Every}
 use Rattle.tcmu_path.specs.Tallies.{serials_of, AreRows}
 use Rattle.tcmu_path.proofs.RowsAfter.{rows_pushed}
 use Rattle.tcmu_path.proofs.rows.Rows.push.Goals as goal

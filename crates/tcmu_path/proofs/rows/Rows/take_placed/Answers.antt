@@ -1,9 +1,9 @@
 use Rattle.std.proofs.Common.{◌≡◌, List, sym, ap, subst, ◌∙◌}
 use Rattle.tcmu_types.specs.Data.{Spared}
 use Rattle.tcmu_model.specs.declared.state.CommandState.TheVariants.{Placed}
-use Rattle.tcmu_model.specs.Lists.{IsFirst, first_of, without_first}
+use Rattle.tcmu_types.specs.Lists.{IsFirst, first_of, without_first}
 use Rattle.tcmu_model.specs.Device.{Unfinished, is_at}
-use Rattle.tcmu_model.proofs.Firsts.{first_of_none, without_first_none}
+use Rattle.tcmu_types.proofs.Firsts.{first_of_none, without_first_none}
 use Rattle.tcmu_path.specs.Tallies.{AreRows}
 use Rattle.tcmu_path.proofs.RowsAfter.{rows_taken}
 use Rattle.tcmu_path.proofs.Taking.{removed, removed_is}

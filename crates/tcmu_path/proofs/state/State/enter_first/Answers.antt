@@ -3,7 +3,7 @@ use Rattle.tcmu_model.specs.Lengths.{blocks_of}
 use Rattle.tcmu_model.specs.Device.{Unfinished, Delayed, DeviceState}
 use Rattle.tcmu_model.specs.Events.{held_blocks, blocks_in}
 use Rattle.tcmu_path.specs.Room.{held_by, to_place}
-use Rattle.tcmu_model.specs.Sound.{Every}
+use Rattle.tcmu_types.specs.Lists.{Every}
 use Rattle.tcmu_path.specs.Tallies.{serials_of}
 use Rattle.tcmu_path.proofs.Bounds.{rows_before}
 use Rattle.tcmu_path.proofs.Plains.{plain_laid, lays_item}

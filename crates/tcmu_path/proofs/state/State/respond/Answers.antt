@@ -1,7 +1,7 @@
 use Rattle.std.proofs.Common.{subst, sym}
 use Rattle.tcmu_model.specs.RingState.{serials_in}
 use Rattle.tcmu_model.specs.Device.{DeviceState}
-use Rattle.tcmu_model.specs.Sound.{Differ}
+use Rattle.tcmu_types.specs.Numbers.{Differ}
 use Rattle.tcmu_path.proofs.Bounds.{laid_differ}
 use Rattle.tcmu_path.proofs.state.State.respond.Goals as goal
 

@@ -1,5 +1,5 @@
 use Rattle.std.proofs.Common.{ℕ, ◌≤◌, List, length, subst, sym, arith, ap, ◌∙◌}
-use Rattle.tcmu_model.specs.Lists.{IsRising}
+use Rattle.tcmu_types.specs.Numbers.{IsRising}
 use Rattle.tcmu_path.proofs.Bounds.{few_known}
 use Rattle.tcmu_path.proofs.state.State.unknown.Goals as goal
 

@@ -1,0 +1,9 @@
+pub mod HeaderLengths
+pub mod RingSizes
+pub mod Areas
+pub mod Iovecs
+pub mod PartLengths
+pub mod EntriesThere
+pub mod Showing
+pub mod Computed
+pub mod ComputedSides

@@ -1,0 +1,4 @@
+pub mod Decoding
+pub mod Pages
+pub mod Medium
+pub mod Scsi

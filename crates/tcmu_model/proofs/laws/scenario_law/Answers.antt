@@ -1,5 +1,0 @@
-use Rattle.tcmu_model.proofs.ScenarioLaws.{scenario_is}
-use Rattle.tcmu_model.proofs.laws.scenario_law.Goals as goal
-
-pub returns : goal.returns
-returns c = scenario_is

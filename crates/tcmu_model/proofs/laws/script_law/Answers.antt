@@ -1,5 +1,0 @@
-use Rattle.tcmu_model.proofs.ScriptLaws.{script_is}
-use Rattle.tcmu_model.proofs.laws.script_law.Goals as goal
-
-pub returns : goal.returns
-returns c = script_is

@@ -1,5 +1,0 @@
-use Rattle.tcmu_model.proofs.ComputedSides.{waits_five, expire_once, cleans_one, answers_are}
-use Rattle.tcmu_model.proofs.worked_region.side_examples.Goals as goal
-
-pub returns : goal.returns
-returns c = record { waits = waits_five; expire = expire_once; cleans = cleans_one; answers = answers_are }

@@ -1,5 +1,0 @@
-use Rattle.tcmu_model.proofs.ComputedRegion.{id_of_none, tail_inside, id_twice, length_past_data, said_unknown_is}
-use Rattle.tcmu_model.proofs.worked_region.target_examples.Goals as goal
-
-pub returns : goal.returns
-returns c = record { id_of_none = id_of_none; tail_inside = tail_inside; id_twice = id_twice; length_past_data = length_past_data; said_unknown = said_unknown_is }

@@ -1,0 +1,13 @@
+pub mod Words
+pub mod Fields
+pub mod Config
+pub mod Lines
+pub mod ScenarioData
+pub mod Said
+pub mod Scenario
+pub mod Script
+pub mod ScenarioRules
+pub mod Text
+pub mod Replay
+pub mod Several
+pub mod Load

@@ -1,0 +1,29 @@
+-- What a scenario says: its devices, and then its lines.
+use Rattle.std.specs.Prelude.{ℕ, List, Option, Some, None}
+use Rattle.tcmu_types.specs.Data.{CommandData, SettingsData}
+use Rattle.tcmu_types.specs.Events.{EventData}
+use Rattle.tcmu_types.specs.Events as ev
+use Rattle.text_model.specs.Config.{ConfigData}
+
+pub record DeviceLineData : Type 0 where
+  pub name : List ℕ
+  pub config : ConfigData
+  pub settings : SettingsData
+
+pub data LineWhat : Type 0 where
+  Makes : EventData → LineWhat
+  Drains : LineWhat
+  Dumps : LineWhat
+
+-- a line that is no device line, with the number of its device
+pub record LineData : Type 0 where
+  pub device : ℕ
+  pub what : LineWhat
+
+pub record ScenarioData : Type 0 where
+  pub devices : List DeviceLineData
+  pub lines : List LineData
+
+-- the command of a submit line
+abbrev pub command_of : LineData → Option CommandData
+command_of l = elim (l.what) [ Makes e ↦ elim e [ ev.Submit c ↦ Some c | _ ↦ None ] | Drains ↦ None | Dumps ↦ None ]

@@ -1,0 +1,13 @@
+//! The texts: configs, scenarios and their scripts, journals, and the load; and, over the device, what a replay of a scenario is. The
+//! definitions stand in specs/; here are the code types that they cite, and the laws of the scenario language.
+#![tactic(auto)]
+
+mod faults;
+mod laws;
+mod words;
+mod worked;
+
+pub use faults::{ConfigFault, Why};
+pub use laws::{config_law, scenario_law, script_law, served_law};
+pub use words::{Subtype, Verb};
+pub use worked::load_examples;
