@@ -37,5 +37,5 @@ unmaps_filled e count m after failed h c fills =
     rw some here
 
 -- what is known of the rest of a list, and goes on for all of it
-abbrev pub GoesOn : List Extent → MediumState → List Extent → MediumState → Type 0
-GoesOn all start rest m = (failed : Bool) (end : MediumState) → Unmaps rest m failed end → Unmaps all start failed end
+abbrev pub UnmapsOn : List Extent → MediumState → List Extent → MediumState → Type 0
+UnmapsOn all start rest m = (failed : Bool) (end : MediumState) → Unmaps rest m failed end → Unmaps all start failed end

@@ -7,7 +7,7 @@ use Rattle.std.proofs.lemmas.Slice.Eq.{bytes_eq-Decides}
 use Rattle.std.proofs.Math.Path.{fun_ext}
 use Rattle.std.proofs.lemmas.Bool.{and_parts, leb-true, eqb-true}
 use Rattle.tcmu_types.specs.Numbered.{is_listed, next_call}
-use Rattle.edge.specs.Stores.{Opened, store_of, is_medium_size, Content, Place, missing, out, at_home, can_open, with_place, given_back, FilesState}
+use Rattle.edge.specs.Stores.{FetchGives, store_of, is_medium_size, Content, Place, missing, out, at_home, can_open, with_place, given_back, FilesState}
 use Rattle.edge.specs.Memory.{StoreInMemory, NamedStore, FilesInMemory, files_state, after_add, content_of, place_of, place_in}
 
 -- ==== tests of names
@@ -172,7 +172,7 @@ unlisted fails call fetches c e = ap (λ (n : ℕ). list_any (λ k. nat_eq k n) 
 pub fetched_state : (old : FilesInMemory) (fetches : ℕ) (files : List NamedStore) (name : List ℕ) (s : StoreInMemory) → fetches ≡ next_call old.fetches
     → is_listed old.fails old.fetches ≡ false → can_open (place_in old.files name) ≡ true → place_in old.files name ≡ at_home (content_of s)
     → ((q : List ℕ) → place_in files q ≡ with_place name out (place_in old.files) q)
-    → Opened name (store_of (content_of s)) (Some (files_state old)) (Some (files_state (record old { files = files; fetches = fetches })))
+    → FetchGives name (store_of (content_of s)) (Some (files_state old)) (Some (files_state (record old { files = files; fetches = fetches })))
 fetched_state old fetches files name s more unlisted can home places =
     let size = whole_blocks (length s.bytes) (ap can_open (sym home) ∙ can) in
     record {

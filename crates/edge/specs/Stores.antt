@@ -73,7 +73,7 @@ abbrev pub after_fetch : List ℕ → FilesState → FilesState
 after_fetch name f = record (one_more_fetch f) { places = with_place name out f.places }
 
 -- The store of a file that was fetched: whole logical blocks, from one to 2^35 of them, and, where the files tell, what the name stood for.
-pub record Opened (name : List ℕ) (s : StoreState) (old new : Option FilesState) : Type 0 where
+pub record FetchGives (name : List ℕ) (s : StoreState) (old new : Option FilesState) : Type 0 where
   pub whole : s.size % 512 ≡ 0
   pub some : 512 ≤ s.size
   pub most : s.size ≤ 2 ^ 44

@@ -4,7 +4,7 @@ ghost use Rattle.std.specs.Option.{option_map};
 ghost use Rattle.tcmu_types.specs.Numbered.{HasCause};
 ghost use Rattle.edge.specs.Outside.{CountsFailed};
 ghost use Rattle.edge.specs.declared.files.FetchOk.TheVariants.{File, NoMemory};
-ghost use Rattle.edge.specs.Stores.{FilesState, Content, store_of, Opened, fetch_fails, one_more_fetch, after_keep, is_medium_size};
+ghost use Rattle.edge.specs.Stores.{FilesState, Content, store_of, FetchGives, fetch_fails, one_more_fetch, after_keep, is_medium_size};
 
 use crate::{Failed, Store};
 use std::alloc::Global;
@@ -31,7 +31,7 @@ pub trait Files {
     /// Takes the file of this name out. A name that is missing or out, and a file whose length is not a multiple of 512 from 512 to
     /// 2^44 bytes, is a fault.
     fn fetch(&mut self, alloc: Global, name: &[u8]) -> Result<FetchOk<Self::File>, Failed>
-        ensures fetched { IfOk result (λ given. elim given [ File f ↦ Opened name.now (Self.File.state f) (state self.old) (state self.new) | NoMemory ↦ state self.new ≡ state self.old ]) }
+        ensures fetched { IfOk result (λ given. elim given [ File f ↦ FetchGives name.now (Self.File.state f) (state self.old) (state self.new) | NoMemory ↦ state self.new ≡ state self.old ]) }
         ensures failed { OnErr result (IfSome (state self.old) (λ f. fetch_fails name.now f ≡ true)) }
         ensures counted { OnErr result (state self.new ≡ option_map one_more_fetch (state self.old)) }
         ensures cause { HasCause (faults self.old) (faults self.new) result }

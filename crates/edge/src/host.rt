@@ -2,7 +2,7 @@
 ghost use Rattle.std.specs.Prelude.{◌≡◌, ◌≤◌, ◌%◌, ◌^◌, ◌+◌, None, length, is_err, IfOk, OnErr};
 ghost use Rattle.tcmu_types.specs.Numbered.{HasCause, next_call};
 ghost use Rattle.edge.specs.Outside.{CountsFailed};
-ghost use Rattle.edge.specs.Stores.{Opened};
+ghost use Rattle.edge.specs.Stores.{FetchGives};
 ghost use Rattle.edge.specs.Host.{IsFresh, untold};
 
 use crate::files::has_medium_size;
@@ -132,7 +132,7 @@ impl<R: fs::Files<File = File> + Drop> Files for HostFiles<R> {
     ghost faults = { λ f. f };
 
     fn fetch(&mut self, _alloc: Global, name: &[u8]) -> Result<FetchOk<HostStore>, Failed>
-        ensures fetched { IfOk result (λ given. elim given [ FetchOk.File s ↦ Opened name.now (untold s) None None | FetchOk.NoMemory ↦ ⊥ ]) }
+        ensures fetched { IfOk result (λ given. elim given [ FetchOk.File s ↦ FetchGives name.now (untold s) None None | FetchOk.NoMemory ↦ ⊥ ]) }
         ensures cause { HasCause self.old self.new result }
         ensures count { CountsFailed self.old (is_err result) self.new }
         // Of the store that is given no call was made yet.

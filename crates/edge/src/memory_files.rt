@@ -5,7 +5,7 @@ ghost use Rattle.std.specs.Option.{option_map};
 ghost use Rattle.tcmu_types.specs.Numbered.{HasCause};
 ghost use Rattle.edge.specs.Outside.{CountsFailed};
 ghost use Rattle.edge.specs.declared.files.FetchOk.TheVariants.{File};
-ghost use Rattle.edge.specs.Stores.{missing, out, can_open, fetch_fails, one_more_fetch, given_back, with_place, store_of, at_home, Opened};
+ghost use Rattle.edge.specs.Stores.{missing, out, can_open, fetch_fails, one_more_fetch, given_back, with_place, store_of, at_home, FetchGives};
 ghost use Rattle.edge.specs.Memory.{files_state, after_add, content_at, content_of, place_of, place_in};
 
 use crate::files::has_medium_size;
@@ -163,7 +163,7 @@ impl Files for MemFiles {
 
     // It takes no memory.
     fn fetch(&mut self, _alloc: Global, name: &[u8]) -> Result<FetchOk<MemStore>, Failed>
-        ensures fetched { IfOk result (λ given. elim given [ File s ↦ Opened name.now (store_of (content_of s)) (Some (files_state self.old)) (Some (files_state self.new)) | FetchOk.NoMemory ↦ ⊥ ]) }
+        ensures fetched { IfOk result (λ given. elim given [ File s ↦ FetchGives name.now (store_of (content_of s)) (Some (files_state self.old)) (Some (files_state self.new)) | FetchOk.NoMemory ↦ ⊥ ]) }
         ensures exact { is_err result ≡ fetch_fails name.now (files_state self.old) }
         ensures counted { OnErr result (files_state self.new ≡ one_more_fetch (files_state self.old)) }
         ensures cause { HasCause self.old.faults self.new.faults result }

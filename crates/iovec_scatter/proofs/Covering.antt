@@ -8,7 +8,7 @@ use Rattle.std.proofs.lemmas.Bool.Decides.{nat_tests}
 use Rattle.tcmu_types.specs.declared.iovec.Iov.{Iov}
 use Rattle.iovec_scatter.specs.Ends.{EndsAlong}
 use Rattle.region_model.specs.Iovecs.{piece, joined, merged, iovs_along, EndBelow, total_of, along, payload_along, AreApart, Covers}
-use Rattle.iovec_scatter.specs.Growing.{grown, Ends, before}
+use Rattle.iovec_scatter.specs.Growing.{grown, EndsBelow, before}
 use Rattle.region_model.proofs.Iovecs.{total_merged}
 
 touches : (a b : ℕ) → a == b ≡ true → a ≡ b
@@ -133,7 +133,7 @@ before_step (Some g) next fs = cases ((g.base + g.len) == next.base) (λ t. join
 
 pub piece_ends : (into whole : List Iov) (grows : Option Iov) (start size left i : ℕ) (blocks : List ℕ) → i < length blocks
     → into ++ before grows (iovs_along start size (drop i blocks) left) ≡ whole → EndBelow whole
-    → Ends grows × (start + size * get_or blocks i 0 + min size left < 2 ^ 64)
+    → EndsBelow grows × (start + size * get_or blocks i 0 + min size left < 2 ^ 64)
 unfolding iovs_along
 piece_ends into whole grows start size left i blocks inside is ends =
     let next : Iov = piece start size (get_or blocks i 0) left in
@@ -143,7 +143,7 @@ piece_ends into whole grows start size left i blocks inside is ends =
     (subst (λ (xs : List Iov). EndBelow xs) (sym is ∙ ap (λ (xs : List ℕ). into ++ before grows (iovs_along start size xs left)) (rest_of blocks i 0 inside)) ends) in
     split grows next rest here
   where
-    split : (grows : Option Iov) (next : Iov) (rest : List Iov) → EndBelow (before grows (merged next rest)) → Ends grows × (next.base + next.len < 2 ^ 64)
+    split : (grows : Option Iov) (next : Iov) (rest : List Iov) → EndBelow (before grows (merged next rest)) → EndsBelow grows × (next.base + next.len < 2 ^ 64)
     split None next rest h = (tt, ends_first next rest h)
     split (Some last) next rest h = (ends_first last (merged next rest) h, ends_first next rest (ends_rest last (merged next rest) h))
 

@@ -13,8 +13,8 @@ abbrev pub grown : Option Iov → Iov → (List Iov × Iov)
 grown None next = ([], next)
 grown (Some last) next = if (last.base + last.len) == next.base then ([], joined last next) else (last ∷ [], next)
 
-abbrev pub Ends : Option Iov → Type 0
-Ends grows = IfSome grows (λ last. last.base + last.len < 2 ^ 64)
+abbrev pub EndsBelow : Option Iov → Type 0
+EndsBelow grows = IfSome grows (λ last. last.base + last.len < 2 ^ 64)
 
 -- it stands before other iovecs
 abbrev pub before : Option Iov → List Iov → List Iov

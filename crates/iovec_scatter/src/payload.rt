@@ -2,7 +2,7 @@
 ghost use Rattle.std.specs.Prelude.{◌≡◌, ◌+◌, ◌*◌, ◌^◌, ◌<◌, ◌≤◌, [], ◌++◌, length, min};
 ghost use Rattle.tcmu_model.specs.Lengths.{blocks_for, block_size};
 ghost use Rattle.region_model.specs.Iovecs.{piece, iovs_along, EndBelow, Covers};
-ghost use Rattle.iovec_scatter.specs.Growing.{grown, growing, Ends};
+ghost use Rattle.iovec_scatter.specs.Growing.{grown, growing, EndsBelow};
 
 use tcmu_types::{BlockList, Iov, Iovs, PAGE};
 
@@ -21,7 +21,7 @@ fn piece(data_off: u64, size: u64, block: u32, left: u64) -> Iov
 /// Joins the next piece to the iovec before it, or puts that one down.
 fn grow(grows: Option<Iov>, next: Iov, into: &mut Iovs) -> Iov
     requires room { growing grows ≤ into.old.spare }
-    requires ends { Ends grows }
+    requires ends { EndsBelow grows }
     requires next_ends { next.base + next.len < 2 ^ 64 }
     ensures list { into.new.items ≡ into.old.items ++ (grown grows next).0 }
     ensures spare { into.old.spare ≤ into.new.spare + growing grows }

@@ -27,10 +27,10 @@ command_is tag x = go (load_writes x) refl
     go false e = rw e (read_is tag (load_lba x) (load_count x) (count_few x))
 
 abbrev pub submit_line : ℕ → ℕ → LineData
-submit_line i x = load_line (line.Makes (ev.Submit (load_command i x)))
+submit_line i x = load_line (line.EventLine (ev.Submit (load_command i x)))
 
 abbrev pub drain_if : Bool → List LineData
-drain_if b = cond b (load_line line.Drains ∷ []) []
+drain_if b = cond b (load_line line.DrainLine ∷ []) []
 
 step_is : (i x : ℕ) → load_step i x ≡ submit_line i x ∷ drain_if (i % 16 == 0)
 unfolding load_step
@@ -57,11 +57,11 @@ lines_few seed (suc i) =
     let d = drain_if (suc i % 16 == 0) in
     omega (arith, ap length (lines_more seed i), length-append (load_lines seed i) (submit_line (suc i) x ∷ d), lines_few seed i, drain_length (suc i % 16 == 0))
 
-drain_sum : (f : LineData → ℕ) (b : Bool) → f (load_line line.Drains) ≡ 0 → sum_by f (drain_if b) ≡ 0
+drain_sum : (f : LineData → ℕ) (b : Bool) → f (load_line line.DrainLine) ≡ 0 → sum_by f (drain_if b) ≡ 0
 drain_sum f true e = omega (arith, e)
 drain_sum f false e = refl
 
-sum_few : (f : LineData → ℕ) (most : ℕ) → f (load_line line.Drains) ≡ 0 → ((i x : ℕ) → f (submit_line i x) ≤ most) → (seed i : ℕ) → sum_by f (load_lines seed i) ≤ i * most
+sum_few : (f : LineData → ℕ) (most : ℕ) → f (load_line line.DrainLine) ≡ 0 → ((i x : ℕ) → f (submit_line i x) ≤ most) → (seed i : ℕ) → sum_by f (load_lines seed i) ≤ i * most
 sum_few f most none few seed zero = rw (lines_none seed) (omega arith)
 sum_few f most none few seed (suc i) =
     let x = random_of seed (suc i) in
@@ -103,7 +103,7 @@ submit_is : (ds : List DeviceLineData) (i x : ℕ) → 0 < length ds → IsLine 
 submit_is ds i x lt = record { device = lt; what = (command_is i x).command; dumped = λ e. absurd (cc) }
 
 drain_is : (ds : List DeviceLineData) (b : Bool) → 0 < length ds → All (IsLine ds) (drain_if b)
-drain_is ds true lt = All-cons (IsLine ds) (load_line line.Drains) [] (record { device = lt; what = tt; dumped = λ e. absurd (cc) }) (λ k d lt. absurd (omega arith))
+drain_is ds true lt = All-cons (IsLine ds) (load_line line.DrainLine) [] (record { device = lt; what = tt; dumped = λ e. absurd (cc) }) (λ k d lt. absurd (omega arith))
 drain_is ds false lt = λ k d lt. absurd (omega arith)
 
 lines_are : (ds : List DeviceLineData) (seed i : ℕ) → 0 < length ds → All (IsLine ds) (load_lines seed i)

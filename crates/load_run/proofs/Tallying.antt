@@ -12,10 +12,10 @@ use Rattle.tcmu_types.specs.declared.answer.Submit.TheVariants as submit
 use Rattle.tcmu_model.specs.Device.{Device, DeviceState}
 use Rattle.tcmu_model.specs.Events.{submit_answer, after_submit, queued_or_full, queued_or_delayed, with_command, with_delayed, entry_length_in, blocks_in, fits_ring, fits_blocks, free_blocks}
 use Rattle.tcmu_model.specs.RingState.{need, free}
-use Rattle.tcmu_model.specs.Steps.{HandlerRelation, Step, Run, Makes, accepted_by}
+use Rattle.tcmu_model.specs.Steps.{HandlerRelation, Step, Run, Makes, most_accepted}
 use Rattle.tcmu_model.specs.Drain.{Drains, drain_event}
 use Rattle.tcmu_model.specs.Sound.{IsSound}
-use Rattle.tcmu_model.specs.Work.{GoesOn, work}
+use Rattle.tcmu_model.specs.Work.{DrainGoesOn, work}
 use Rattle.text_model.specs.ScenarioData.{LineWhat, LineData}
 use Rattle.text_model.specs.ScenarioData as line
 use Rattle.text_model.specs.Replay.{Plays}
@@ -80,7 +80,7 @@ entry_of event a logged = record { device = 0; event = event; answer = a; logged
 none_more : (d d' : Device) → Accepts 0 d d' → d'.state.accepted ≡ d.state.accepted + 0
 none_more d d' k = omega (arith, k.least, k.most)
 
-pub numbered : (R : HandlerRelation) (d d' : Device) (event : EventData) (a : AnswerData) (n : ℕ) → Makes R d event a d' → Accepts (accepted_by event) d d' → Numbers d (entry_of event a n) d'
+pub numbered : (R : HandlerRelation) (d d' : Device) (event : EventData) (a : AnswerData) (n : ℕ) → Makes R d event a d' → Accepts (most_accepted event) d d' → Numbers d (entry_of event a n) d'
 numbered R d d' (ev.Submit c) (ev.Submitted a) n h k =
     record {
       count = ap (λ (x : Device). x.state.accepted) h.after ∙ submit_counts d.state c a;
@@ -102,7 +102,7 @@ numbered R d d' ev.Stat a n h k = record { count = none_more d d' k; serial = tt
 numbered R d d' ev.Enter a n h k = record { count = none_more d d' k; serial = tt }
 
 -- an event was made, and its size noted
-pub played_one : (R : HandlerRelation) (d d' : Device) (event : EventData) (a : AnswerData) (old new : List (Option ℕ)) → Makes R d event a d' → Accepts (accepted_by event) d d' → new ≡ old ++ size_in event a
+pub played_one : (R : HandlerRelation) (d d' : Device) (event : EventData) (a : AnswerData) (old new : List (Option ℕ)) → Makes R d event a d' → Accepts (most_accepted event) d d' → new ≡ old ++ size_in event a
     → Played R (IsOf 0 event) d d' old new
 played_one R d d' event a old new h k e =
     let g = makes_grows R d d' event a h in
@@ -154,7 +154,7 @@ one_of R event d d' es h run =
 pub record Draining (R : HandlerRelation) (start d : Device) (old now : List (Option ℕ)) : Type 0 where
   pub sofar : List EntryData
   pub run : RunNumbers R start sofar d
-  pub goes_on : GoesOn R 0 start sofar d
+  pub goes_on : DrainGoesOn R 0 start sofar d
   pub noted : now ≡ old ++ sizes_of sofar
   pub sound : IsSound d.state
 
@@ -168,7 +168,7 @@ draining_more R start d d' event old mid now so picked p =
     record {
       sofar = so.sofar ++ p.entries;
       run = run_append R start d d' so.sofar p.entries so.run p.run;
-      goes_on = subst (λ (es : List EntryData). GoesOn R 0 start (so.sofar ++ es) d') (sym one.all)
+      goes_on = subst (λ (es : List EntryData). DrainGoesOn R 0 start (so.sofar ++ es) d') (sym one.all)
           (goes_on_more R 0 start d d' so.sofar one.entry one.device (picked ∙ ap (λ (x : EventData). Some x) (sym one.is)) one.step so.goes_on);
       noted = noted_more old mid now so.sofar p.entries so.noted p.noted;
       sound = sound_step R d d' one.entry so.sound one.step;
@@ -192,11 +192,11 @@ falls_played R d d' event old now sound picked p =
 
 -- ==== lines
 
-pub line_played : (R : HandlerRelation) (d d' : Device) (event : EventData) (what : LineWhat) (old now : List (Option ℕ)) → what ≡ line.Makes event → Played R (IsOf 0 event) d d' old now
+pub line_played : (R : HandlerRelation) (d d' : Device) (event : EventData) (what : LineWhat) (old now : List (Option ℕ)) → what ≡ line.EventLine event → Played R (IsOf 0 event) d d' old now
     → Played R (λ es. Plays R 0 d what es d') d d' old now
 line_played R d d' event what old now is p =
     let one = one_of R event d d' p.entries p.right p.run in
-    let makes : Plays R 0 d (line.Makes event) p.entries d' = (one.entry, one.device, one.is, one.step, one.all) in
+    let makes : Plays R 0 d (line.EventLine event) p.entries d' = (one.entry, one.device, one.is, one.step, one.all) in
     record {
       entries = p.entries;
       right = subst (λ (w : LineWhat). Plays R 0 d w p.entries d') (sym is) makes;
@@ -254,13 +254,13 @@ none_left ls i le = drop_all i ls le
 -- an entry accepts nothing
 record Nothing (event : EventData) (a : AnswerData) : Type 0 where
   pub sizes : size_in event a ≡ []
-  pub none : (s : ℕ) → load.accepted_by s event a ≡ None
+  pub none : (s : ℕ) → load.accepted_under s event a ≡ None
 
 -- it accepts a command as the one behind the first n
 record Takes (n : ℕ) (event : EventData) (a : AnswerData) : Type 0 where
   pub command : CommandData
   pub sizes : size_in event a ≡ size_of command ∷ []
-  pub by : (s : ℕ) → load.accepted_by s event a ≡ cond (nat_eq (n + 1) s) (Some command) None
+  pub by : (s : ℕ) → load.accepted_under s event a ≡ cond (nat_eq (n + 1) s) (Some command) None
 
 kind_of : (n : ℕ) (event : EventData) (a : AnswerData) → GivesNext n event a → Nothing event a ⊎ Takes n event a
 kind_of n (ev.Submit c) (ev.Submitted (submit.Queued t)) h = inr (record { command = c; sizes = refl; by = λ s. ap (λ (m : ℕ). cond (nat_eq m s) (Some c) None) h })
@@ -282,20 +282,20 @@ none_before R d d' (e ∷ es) h s le =
     ⊎_elim
     (λ (k : Nothing e.event e.answer). ap (λ (o : Option CommandData). or_else o (load.accepted_as s es)) (k.none s) ∙ later)
     (λ (k : Takes d.state.accepted e.event e.answer).
-    let other : load.accepted_by s e.event e.answer ≡ None = k.by s ∙ cond-false _ _ _ (ne_eqb (d.state.accepted + 1) s (λ x. absurd (omega (arith, x, le)))) in
+    let other : load.accepted_under s e.event e.answer ≡ None = k.by s ∙ cond-false _ _ _ (ne_eqb (d.state.accepted + 1) s (λ x. absurd (omega (arith, x, le)))) in
     ap (λ (o : Option CommandData). or_else o (load.accepted_as s es)) other ∙ later)
     (kind_of d.state.accepted e.event e.answer h.2.serial)
 
 taken : (n m : ℕ) (e : EntryData) (es : List EntryData) (s : ℕ) → Takes n e.event e.answer → m ≡ n + length (size_in e.event e.answer)
     → ((k : ℕ) → known (load.accepted_as (m + suc k) es) ≡ get_or (sizes_of es) k None)
-    → known (or_else (load.accepted_by (n + suc s) e.event e.answer) (load.accepted_as (n + suc s) es)) ≡ get_or (size_in e.event e.answer ++ sizes_of es) s None
+    → known (or_else (load.accepted_under (n + suc s) e.event e.answer) (load.accepted_as (n + suc s) es)) ≡ get_or (size_in e.event e.answer ++ sizes_of es) s None
 taken n m e es zero k count later =
-    let here : load.accepted_by (n + suc zero) e.event e.answer ≡ Some k.command = k.by (n + suc zero) ∙ cond-true _ _ _ (eq-eqb (n + 1) (n + suc zero) (omega arith)) in
+    let here : load.accepted_under (n + suc zero) e.event e.answer ≡ Some k.command = k.by (n + suc zero) ∙ cond-true _ _ _ (eq-eqb (n + 1) (n + suc zero) (omega arith)) in
     ap (λ (o : Option CommandData). known (or_else o (load.accepted_as (n + suc zero) es))) here
     ∙ ap (λ (l : List (Option ℕ)). get_or (l ++ sizes_of es) zero None) (sym k.sizes)
 taken n m e es (suc s) k count later =
     let t = n + suc (suc s) in
-    let other : load.accepted_by t e.event e.answer ≡ None = k.by t ∙ cond-false _ _ _ (ne_eqb (n + 1) t (λ x. absurd (omega (arith, x)))) in
+    let other : load.accepted_under t e.event e.answer ≡ None = k.by t ∙ cond-false _ _ _ (ne_eqb (n + 1) t (λ x. absurd (omega (arith, x)))) in
     let more : m + suc s ≡ t = omega (arith, count, ap length k.sizes) in
     ap (λ (o : Option CommandData). known (or_else o (load.accepted_as t es))) other
     ∙ subst (λ (u : ℕ). known (load.accepted_as u es) ≡ get_or (sizes_of es) s None) more (later s)
@@ -303,7 +303,7 @@ taken n m e es (suc s) k count later =
 
 not_taken : (n m : ℕ) (e : EntryData) (es : List EntryData) (s : ℕ) → Nothing e.event e.answer → m ≡ n + length (size_in e.event e.answer)
     → ((k : ℕ) → known (load.accepted_as (m + suc k) es) ≡ get_or (sizes_of es) k None)
-    → known (or_else (load.accepted_by (n + suc s) e.event e.answer) (load.accepted_as (n + suc s) es)) ≡ get_or (size_in e.event e.answer ++ sizes_of es) s None
+    → known (or_else (load.accepted_under (n + suc s) e.event e.answer) (load.accepted_as (n + suc s) es)) ≡ get_or (size_in e.event e.answer ++ sizes_of es) s None
 not_taken n m e es s k count later =
     let same : m + suc s ≡ n + suc s = omega (arith, count, ap length k.sizes) in
     ap (λ (o : Option CommandData). known (or_else o (load.accepted_as (n + suc s) es))) (k.none (n + suc s))

@@ -7,7 +7,7 @@ ghost use Rattle.tcmu_types.specs.Lists.{Every};
 ghost use Rattle.text_model.specs.Replay.{Plays};
 ghost use Rattle.text_model.specs.Several.{ReplaysEach};
 ghost use Rattle.tcmu_path.specs.Calls.{Accepts};
-ghost use Rattle.tcmu_model.specs.Steps.{accepted_by};
+ghost use Rattle.tcmu_model.specs.Steps.{most_accepted};
 ghost use Rattle.tcmu_path.specs.Tasks.{CanBeMade, IsFit, IsFitFor};
 ghost use Rattle.load_run.specs.Tallies.{IsOf, Played, size_of, size_in};
 
@@ -52,7 +52,7 @@ fn play<P: Path>(
     requires few { (P.device path.old).state.accepted < 2 ^ 63 }
     requires can { CanBeMade (event_data event.now) }
     ensures made { OnOk result (Played P.relation (IsOf 0 (event_data event.now)) (P.device path.old) (P.device path.new) sizes.old.items sizes.new.items) }
-    ensures accepts { Accepts (accepted_by (event_data event.now)) (P.device path.old) (P.device path.new) }
+    ensures accepts { Accepts (most_accepted (event_data event.now)) (P.device path.old) (P.device path.new) }
 {
     let answer = make_event(alloc, path, event)?;
     note(sizes, event, &answer)

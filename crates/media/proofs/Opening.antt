@@ -4,10 +4,10 @@ use Rattle.std.specs.Option.{option_map}
 use Rattle.text_model.specs.Config.{ConfigData, InMemory, InFile}
 use Rattle.tcmu_model.specs.MediumState.{MediumState}
 use Rattle.scsi_model.specs.Medium.{blanked, empty_span, memory_state, opened_medium, memory_below, file_below}
-use Rattle.edge.specs.Stores.{StoreState, FilesState, Opened}
+use Rattle.edge.specs.Stores.{StoreState, FilesState, FetchGives}
 use Rattle.medium_file.specs.FileState.{file_state}
 use Rattle.media.specs.Configured.{configured}
-use Rattle.media.specs.Opening.{OpensKind, Opens}
+use Rattle.media.specs.Opening.{MakesKind, MakesMedium}
 
 -- nothing is blanked where nothing is lost
 blanked_none : (bytes : Option (List ℕ)) → option_map (blanked empty_span) bytes ≡ bytes
@@ -16,18 +16,18 @@ blanked_none (Some xs) = refl
 
 pub opens_memory : (c : ConfigData) (blocks : ℕ) (protected : Bool) (fails : List ℕ) (below m : MediumState) (old : Option FilesState)
     → c.kind ≡ InMemory blocks → protected ≡ c.protected → fails ≡ c.fails → below ≡ memory_state blocks (replicate (512 * blocks) 0) 0
-    → m ≡ configured protected fails 0 below → Opens c old old m
+    → m ≡ configured protected fails 0 below → MakesMedium c old old m
 opens_memory c blocks protected fails below m old k p f b e =
-    subst (λ kind. OpensKind kind c old old m) (sym k) (record {
+    subst (λ kind. MakesKind kind c old old m) (sym k) (record {
       medium = e ∙ ap (configured protected fails 0) b ∙ ap (λ q. opened_medium blocks q fails (memory_below blocks)) p ∙ ap (λ ns. opened_medium blocks c.protected ns (memory_below blocks)) f;
       files = refl;
     })
 
 pub opens_file : (c : ConfigData) (name : List ℕ) (s : StoreState) (protected : Bool) (fails : List ℕ) (below m : MediumState) (old new : Option FilesState)
     → c.kind ≡ InFile name → protected ≡ c.protected → fails ≡ c.fails → below ≡ file_state (s.size / 512) s empty_span 0
-    → m ≡ configured protected fails 0 below → Opened name s old new → Opens c old new m
+    → m ≡ configured protected fails 0 below → FetchGives name s old new → MakesMedium c old new m
 opens_file c name s protected fails below m old new k p f b e o =
-    subst (λ kind. OpensKind kind c old new m) (sym k) (record {
+    subst (λ kind. MakesKind kind c old new m) (sym k) (record {
       store = s;
       medium = e ∙ ap (configured protected fails 0) b
           ∙ ap (λ q. opened_medium (s.size / 512) q fails (file_below (option_map (blanked empty_span) s.bytes) s.calls)) p

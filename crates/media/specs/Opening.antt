@@ -5,29 +5,29 @@ use Rattle.tcmu_types.specs.Numbered.{Rose}
 use Rattle.text_model.specs.Config.{ConfigData, MediumData, InMemory, InFile}
 use Rattle.tcmu_model.specs.MediumState.{MediumState}
 use Rattle.scsi_model.specs.Medium.{opened_medium, memory_below, file_below}
-use Rattle.edge.specs.Stores.{StoreState, FilesState, Opened, fetch_fails, one_more_fetch}
+use Rattle.edge.specs.Stores.{StoreState, FilesState, FetchGives, fetch_fails, one_more_fetch}
 use Rattle.media.specs.declared.make.MakeFault.{MakeFault}
 use Rattle.media.specs.declared.make.MakeFault.TheVariants.{Open, NoMemory}
 
 -- so many logical blocks of zeros; the files are as they were
-pub record OpensMemory (blocks : ℕ) (c : ConfigData) (old new : Option FilesState) (m : MediumState) : Type 0 where
+pub record MakesMemory (blocks : ℕ) (c : ConfigData) (old new : Option FilesState) (m : MediumState) : Type 0 where
   pub medium : m ≡ opened_medium blocks c.protected c.fails (memory_below blocks)
   pub files : new ≡ old
 
 -- the file of this name, as its store tells it; the file is out from then on
-pub record OpensFile (name : List ℕ) (c : ConfigData) (old new : Option FilesState) (m : MediumState) : Type 0 where
+pub record MakesFile (name : List ℕ) (c : ConfigData) (old new : Option FilesState) (m : MediumState) : Type 0 where
   pub store : StoreState
   pub medium : m ≡ opened_medium (store.size / 512) c.protected c.fails (file_below store.bytes store.calls)
-  pub fetched : Opened name store old new
+  pub fetched : FetchGives name store old new
 
 -- as it opens by what bears it: memory, or a file
-abbrev pub OpensKind : MediumData → ConfigData → Option FilesState → Option FilesState → MediumState → Type 0
-OpensKind (InMemory blocks) = OpensMemory blocks
-OpensKind (InFile name) = OpensFile name
+abbrev pub MakesKind : MediumData → ConfigData → Option FilesState → Option FilesState → MediumState → Type 0
+MakesKind (InMemory blocks) = MakesMemory blocks
+MakesKind (InFile name) = MakesFile name
 
 -- the medium that a config names, as it opens from these files
-abbrev pub Opens : ConfigData → Option FilesState → Option FilesState → MediumState → Type 0
-Opens c = OpensKind c.kind c
+abbrev pub MakesMedium : ConfigData → Option FilesState → Option FilesState → MediumState → Type 0
+MakesMedium c = MakesKind c.kind c
 
 -- The file of this name could not be fetched: the fetch failed as the files have it, was counted, and counted as a fault.
 pub record LacksFile (name : List ℕ) (old new : Option FilesState) (faults later : ℕ) : Type 0 where

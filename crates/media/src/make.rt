@@ -3,8 +3,8 @@ ghost use Rattle.std.specs.Prelude.{◌≡◌, ◌≤◌, IfOk, IfErr, OnOk, IsE
 ghost use Rattle.std.specs.Option.{option_map};
 ghost use Rattle.tcmu_types.specs.Numbered.{Rose};
 ghost use Rattle.text_model.specs.ScenarioRules.{IsConfig};
-ghost use Rattle.edge.specs.Stores.{Opened, fetch_fails, one_more_fetch};
-ghost use Rattle.media.specs.Opening.{Opens, Refuses, RefusesFetch};
+ghost use Rattle.edge.specs.Stores.{FetchGives, fetch_fails, one_more_fetch};
+ghost use Rattle.media.specs.Opening.{MakesMedium, Refuses, RefusesFetch};
 ghost use Rattle.media.specs.declared.make.MakeFault.TheVariants as fault;
 
 use crate::{Configured, Media, MemMedium};
@@ -37,7 +37,7 @@ impl From<NoMemory> for MakeFault {
 
 /// Fetches the file of this name. It is out from then on: no other fetch gets it until it is given back.
 fn fetch_file<F: Files>(alloc: Global, name: &[u8], files: &mut F) -> Result<F::File, MakeFault>
-    ensures fetched { IfOk result (λ s. Opened name.now (F.File.state s) (F.state files.old) (F.state files.new)) }
+    ensures fetched { IfOk result (λ s. FetchGives name.now (F.File.state s) (F.state files.old) (F.state files.new)) }
     ensures refused { IfErr result (λ e. RefusesFetch e name.now (F.state files.old) (F.state files.new) (F.faults files.old) (F.faults files.new)) }
     ensures faults { F.faults files.old ≤ F.faults files.new }
     ensures calm { OnOk result (F.faults files.new ≡ F.faults files.old) }
@@ -59,7 +59,7 @@ pub fn make_medium<F: Files>(
     files: &mut F,
 ) -> Result<Media<F::File>, MakeFault>
     requires { IsConfig config.now }
-    ensures opened { IfOk result (λ m. Opens config.now (F.state files.old) (F.state files.new) (⟦<Media<F::File> as Medium>⟧.state m)) }
+    ensures opened { IfOk result (λ m. MakesMedium config.now (F.state files.old) (F.state files.new) (⟦<Media<F::File> as Medium>⟧.state m)) }
     ensures refused { IfErr result (λ e. Refuses e config.now (F.state files.old) (F.state files.new) (F.faults files.old) (F.faults files.new)) }
     ensures faults { F.faults files.old ≤ F.faults files.new }
     ensures calm { OnOk result (F.faults files.new ≡ F.faults files.old) }

@@ -26,7 +26,7 @@ use Rattle.region_model.specs.Represents.{has_id}
 use Rattle.region_model.specs.TargetSteps.{opening_target, blocks_held, blocks_free, blocks_wanted, row_of, closed, checked, is_due_at, expired_at, target_laid, target_submit_answer, target_submitted, enter_or_full, target_enter_answer, first_entered, target_entered, target_tmr_answer, target_noted, target_ticked, target_blocked}
 use Rattle.region_model.specs.TargetCleans.{payload_read, sense_read, completion_read, completions_read, answered_by, response_in, one_cleaned, target_cleaned, reset_log, emptied_of, target_reset}
 use Rattle.tcmu_types.proofs.Everies.{every-weaker, every-map, every-append, every-filter, every-first, every-without_first}
-use Rattle.ring_laws.specs.Calls.{TargetCall, Submits, Enters, Notes, Ticks, Blocks, Cleans, Resets, CallMade, Called, TargetSound, target_called, CompletesOwn, HasSerial, IsRowOf, IsDoneOf, IsOfCommands, accepted_by, accepted_at, accepted_along}
+use Rattle.ring_laws.specs.Calls.{TargetCall, Submits, Enters, Notes, Ticks, Blocks, Cleans, Resets, CallMade, Called, TargetSound, target_called, CompletesOwn, HasSerial, IsRowOf, IsDoneOf, IsOfCommands, accepted_command, accepted_at, accepted_along}
 use Rattle.tcmu_types.proofs.Places.{get_append_left}
 use Rattle.ring_laws.proofs.Places.{slice_get-right}
 use Rattle.ring_laws.proofs.Free.{length-least_free}
@@ -73,7 +73,7 @@ laid_row cs t s c id sound h room =
     let k : length (blocks_held t.rows) ≤ t.settings.blocks = sound.rows.room in
     record { command = c; serial = h; init = refl; tag = refl; in_len = refl; count = length-least_free t.settings.blocks (blocks_held t.rows) (blocks_wanted t c) (omega (arith, k, room)) }
 
-of_submit : (cs : List CommandData) (t : TargetState) (c : CommandData) (id : ℕ) (a : Submit) → IsOfCommands cs t → TargetSound t → Told t c a → IsOfCommands (cs ++ accepted_by c a) (target_submitted t c id a)
+of_submit : (cs : List CommandData) (t : TargetState) (c : CommandData) (id : ℕ) (a : Submit) → IsOfCommands cs t → TargetSound t → Told t c a → IsOfCommands (cs ++ accepted_command c a) (target_submitted t c id a)
 unfolding target_submitted target_laid
 of_submit cs t c id (submit.Queued s) h sound w =
     let len : length (cs ++ c ∷ []) ≡ length cs + length (c ∷ []) = length-append cs (c ∷ []) in

@@ -187,16 +187,16 @@ pub record Emptied (before : TargetState) (level : ℕ) (t : TargetState) : Type
 
 -- ==== the commands of a list of calls
 
-abbrev pub accepted_by : CommandData → Submit → List CommandData
-accepted_by c (submit.Queued s) = c ∷ []
-accepted_by c (submit.Delayed s) = c ∷ []
-accepted_by c submit.Busy = []
-accepted_by c (submit.TooBig have limit) = []
-accepted_by c (submit.FullRing need free) = []
-accepted_by c (submit.FullBlocks need free) = []
+abbrev pub accepted_command : CommandData → Submit → List CommandData
+accepted_command c (submit.Queued s) = c ∷ []
+accepted_command c (submit.Delayed s) = c ∷ []
+accepted_command c submit.Busy = []
+accepted_command c (submit.TooBig have limit) = []
+accepted_command c (submit.FullRing need free) = []
+accepted_command c (submit.FullBlocks need free) = []
 
 abbrev pub accepted_at : TargetState → TargetCall → List CommandData
-accepted_at t (Submits c id) = accepted_by c (target_submit_answer t c)
+accepted_at t (Submits c id) = accepted_command c (target_submit_answer t c)
 accepted_at t (Enters id) = []
 accepted_at t (Notes type_ ss) = []
 accepted_at t (Ticks n) = []

@@ -2,7 +2,7 @@
 use Rattle.std.proofs.Common.{◌≡◌, ◌≤◌, ◌+◌, ℕ, List, [], ◌∷◌, length, Ok, Err, sym, ap, ◌∙◌, subst}
 use Rattle.std.proofs.lemmas.Bool.{cond-false, le-ltb}
 use Rattle.text_model.specs.ScenarioData.{ScenarioData}
-use Rattle.text_model.specs.Said.{Said, Opens, Adds}
+use Rattle.text_model.specs.Said.{Said, SaysDevice, SaysLine}
 use Rattle.tcmu_types.specs.Fields.{pieces}
 use Rattle.text_model.specs.Scenario.{with_text, with_lines, nothing_yet, scenario_of}
 use Rattle.text_model.specs.Script.{ScriptData, script_of}
@@ -14,8 +14,8 @@ use Rattle.scenario_text.specs.Giving.{HasPlace}
 
 -- a line opens a device with a new name, or speaks of a device that is there
 pub has_place : (s : ScenarioData) (said : Said) → IsSaid s said → HasPlace s said
-has_place s (Opens d) is = record { name = is.line.name; other = is.name }
-has_place s (Adds l) is = is.device
+has_place s (SaysDevice d) is = record { name = is.line.name; other = is.name }
+has_place s (SaysLine l) is = is.device
 
 pub playable : (x : ScriptData) (s : ScenarioData) (device : ℕ) → x ≡ script_of s device → IsScenario s → IsScript x
 playable x s device e k = subst IsScript (sym e) (script_is s device k)

@@ -2,7 +2,7 @@
 use Rattle.std.specs.Prelude.{◌≡◌, ◌<◌, length, Result, Ok, Err}
 use Rattle.text_model.specs.declared.faults.Why.{Why}
 use Rattle.text_model.specs.ScenarioData.{ScenarioData}
-use Rattle.text_model.specs.Said.{Said, Opens, Adds}
+use Rattle.text_model.specs.Said.{Said, SaysDevice, SaysLine}
 use Rattle.text_model.specs.Scenario.{Bad}
 use Rattle.scenario_text.specs.Counts.{IsNewName}
 use Rattle.scenario_text.specs.declared.kinds.LineFault.{LineFault}
@@ -31,10 +31,10 @@ Gives (Ok x) read = read ≡ Ok x
 Gives (Err e) read = Fails e read
 
 abbrev pub said_data : SaidLine → Said
-said_data (said.Opens d) = Opens d
-said_data (said.Adds l) = Adds l
+said_data (said.Opens d) = SaysDevice d
+said_data (said.Adds l) = SaysLine l
 
 -- a device with a new name, or a line of a device that is there
 abbrev pub HasPlace : ScenarioData → Said → Type 0
-HasPlace s (Opens d) = IsNewName s d
-HasPlace s (Adds l) = l.device < length s.devices
+HasPlace s (SaysDevice d) = IsNewName s d
+HasPlace s (SaysLine l) = l.device < length s.devices

@@ -6,8 +6,8 @@ ghost use Rattle.tcmu_types.specs.Rules.{is_directed};
 ghost use Rattle.tcmu_types.specs.Events as ev;
 ghost use Rattle.tcmu_types.specs.Fields.{fields_of, only_if};
 ghost use Rattle.tcmu_types.specs.Decimals.{number_of};
-ghost use Rattle.text_model.specs.ScenarioData.{Makes};
-ghost use Rattle.text_model.specs.Said.{Adds, new_name, is_own, device_config, ring_of, qfull_of, pages_of, settings_of, payload_of, device_line, submit_line, plain_line, number_at, number_line, tmr_line, said_by};
+ghost use Rattle.text_model.specs.ScenarioData.{EventLine};
+ghost use Rattle.text_model.specs.Said.{SaysLine, new_name, is_own, device_config, ring_of, qfull_of, pages_of, settings_of, payload_of, device_line, submit_line, plain_line, number_at, number_line, tmr_line, said_by};
 ghost use Rattle.scenario_text.specs.Giving.{LineGives, said_data};
 ghost use Rattle.scenario_text.specs.LineViews.{payload_data, device_data};
 ghost use Rattle.scenario_text.specs.Views.{kind_data};
@@ -29,7 +29,7 @@ use tcmu_types::{
 #[derive(Debug, Drop)]
 pub enum SaidLine {
     Opens(DeviceLine),
-    Adds(Line),
+    SaysLine(Line),
 }
 
 /// Whether a config has this name and a file of its own.
@@ -204,7 +204,7 @@ fn plain_line(so_far: &SoFar, what: LineKind, text: &[u8]) -> Result<SaidLine, L
 {
     let name = one_field(text).ok_or(Why::Fields)?;
     let device = so_far.device_at(name).ok_or(Why::Name)?;
-    Ok(SaidLine::Adds(Line { device, what }))
+    Ok(SaidLine::SaysLine(Line { device, what }))
 }
 
 #[tactic(auto, unfolding(text_model::specs::Said::number_at))]
@@ -219,9 +219,9 @@ fn number_at(so_far: &SoFar, low: u32, high: u32, text: &[u8]) -> Result<(u32, u
 }
 
 fn event_line(device: u32, event: Event) -> SaidLine
-    ensures { said_data result ≡ Adds (record { device = device; what = Makes (event_data event) }) }
+    ensures { said_data result ≡ SaysLine (record { device = device; what = EventLine (event_data event) }) }
 {
-    SaidLine::Adds(Line {
+    SaidLine::SaysLine(Line {
         device,
         what: LineKind::Event(event),
     })

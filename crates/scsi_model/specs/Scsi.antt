@@ -20,38 +20,38 @@ use Rattle.scsi_model.specs.declared.op.CdbFault.TheVariants as fault
 
 -- ==== sense data (SPC-4, sense key and additional sense code assignments), none with a qualifier
 
-abbrev pub sense_of : ℕ → ℕ → SenseData
-sense_of key asc = record { key = key; asc = asc; ascq = 0 }
+abbrev pub sense_with : ℕ → ℕ → SenseData
+sense_with key asc = record { key = key; asc = asc; ascq = 0 }
 
 abbrev pub no_sense : SenseData
-no_sense = sense_of 0x0 0x00
+no_sense = sense_with 0x0 0x00
 
 abbrev pub unrecovered_read_error : SenseData
-unrecovered_read_error = sense_of 0x3 0x11
+unrecovered_read_error = sense_with 0x3 0x11
 
 abbrev pub write_error : SenseData
-write_error = sense_of 0x3 0x0c
+write_error = sense_with 0x3 0x0c
 
 abbrev pub parameter_list_length_error : SenseData
-parameter_list_length_error = sense_of 0x5 0x1a
+parameter_list_length_error = sense_with 0x5 0x1a
 
 abbrev pub invalid_operation_code : SenseData
-invalid_operation_code = sense_of 0x5 0x20
+invalid_operation_code = sense_with 0x5 0x20
 
 abbrev pub address_out_of_range : SenseData
-address_out_of_range = sense_of 0x5 0x21
+address_out_of_range = sense_with 0x5 0x21
 
 abbrev pub invalid_field_in_cdb : SenseData
-invalid_field_in_cdb = sense_of 0x5 0x24
+invalid_field_in_cdb = sense_with 0x5 0x24
 
 abbrev pub invalid_field_in_list : SenseData
-invalid_field_in_list = sense_of 0x5 0x26
+invalid_field_in_list = sense_with 0x5 0x26
 
 abbrev pub write_protected : SenseData
-write_protected = sense_of 0x7 0x27
+write_protected = sense_with 0x7 0x27
 
 abbrev pub miscompare : SenseData
-miscompare = sense_of 0xe 0x1d
+miscompare = sense_with 0xe 0x1d
 
 -- whether sense data say that a call of the medium failed
 abbrev pub is_medium_error : Option SenseData → Bool

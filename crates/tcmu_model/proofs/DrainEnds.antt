@@ -15,7 +15,7 @@ use Rattle.tcmu_model.specs.Events.{with_command, enter_answer, after_enter, dis
 use Rattle.tcmu_model.specs.Steps.{HandlerRelation, asked, moved, Makes, Step}
 use Rattle.tcmu_model.specs.Drain.{drain_event, Drains}
 use Rattle.tcmu_model.specs.Sound.{IsLaid, Along, IsItem, IsSound, times_logged, times_open, is_open_at, is_delayed_at}
-use Rattle.tcmu_model.specs.Work.{work, Outcome, HasOutcomes, Ends}
+use Rattle.tcmu_model.specs.Work.{work, HasOutcome, HasOutcomes, DrainEnds}
 use Rattle.tcmu_types.proofs.Everies.{every-first}
 use Rattle.tcmu_model.proofs.Draining.{Choice, handles, responds, publishes, cleans, enters, dispatches, chosen_attached, work_falls}
 use Rattle.tcmu_model.proofs.Runs.{sound_step}
@@ -148,7 +148,7 @@ out_made R device d s o h a =
     let f = first_found (is_at s Out) d.state.unfinished a in
     let u : Unfinished = f.0 in
     let c : IsCommand u.command = every-first (is_at s Out) (λ v. IsCommand v.command) d.state.unfinished u (rows_commands d.state h) f.1 in
-    let r : Outcome R d.name d.medium (asked u.command) = o d.name d.medium u.command c in
+    let r : HasOutcome R d.name d.medium (asked u.command) = o d.name d.medium u.command c in
     record {
       entry = record { device = device; event = ev.Handle s; answer = ev.Answered (handle.Done r.reply); logged = 0 };
       after = record { name = d.name; medium = r.after; state = after_handle d.state s r.reply };
@@ -183,11 +183,11 @@ choice_made R device d e o h (dispatches a k) = subst (λ (x : EventData). Made 
 
 -- ==== the drain ends
 
-ends_within : (fuel : ℕ) (R : HandlerRelation) (device : ℕ) (d : Device) → HasOutcomes R → IsSound d.state → work d.state < fuel → Ends R device d
+ends_within : (fuel : ℕ) (R : HandlerRelation) (device : ℕ) (d : Device) → HasOutcomes R → IsSound d.state → work d.state < fuel → DrainEnds R device d
 ends_within zero R device d o h l = absurd (omega (arith, l))
 ends_within (suc fuel) R device d o h l = go (drain_event d.state) refl (λ m k w. ends_within fuel R device m o k w)
   where
-    go : (e : Option EventData) → drain_event d.state ≡ e → ((m : Device) → IsSound m.state → work m.state < fuel → Ends R device m) → Ends R device d
+    go : (e : Option EventData) → drain_event d.state ≡ e → ((m : Device) → IsSound m.state → work m.state < fuel → DrainEnds R device m) → DrainEnds R device d
     go None e more = record { entries = []; end = d; drain = (e, refl) }
     go (Some x) e more =
         let c = chosen_attached d.state x e in
@@ -198,7 +198,7 @@ ends_within (suc fuel) R device d o h l = go (drain_event d.state) refl (λ m k 
         record { entries = m.entry ∷ rest.entries; end = rest.end; drain = (m.device_is, e', m.after, m.step, rest.drain) }
 
 -- from each sound device the drain has an end
-pub drain_ends : (R : HandlerRelation) (device : ℕ) (d : Device) → HasOutcomes R → IsSound d.state → Ends R device d
+pub drain_ends : (R : HandlerRelation) (device : ℕ) (d : Device) → HasOutcomes R → IsSound d.state → DrainEnds R device d
 drain_ends R device d o h = ends_within (work d.state + 1) R device d o h (omega arith)
 
 -- a drain keeps its device sound

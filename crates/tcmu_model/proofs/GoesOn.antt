@@ -4,12 +4,12 @@ use Rattle.tcmu_types.specs.Events.{EntryData}
 use Rattle.tcmu_model.specs.Device.{Device}
 use Rattle.tcmu_model.specs.Steps.{HandlerRelation, Step, Run}
 use Rattle.tcmu_model.specs.Drain.{drain_event, Drains}
-use Rattle.tcmu_model.specs.Work.{GoesOn}
+use Rattle.tcmu_model.specs.Work.{DrainGoesOn}
 
-pub goes_on_first : (R : HandlerRelation) (device : ℕ) (start : Device) → GoesOn R device start [] start
+pub goes_on_first : (R : HandlerRelation) (device : ℕ) (start : Device) → DrainGoesOn R device start [] start
 goes_on_first R device start rest end h = h
 
-pub goes_on_more : (R : HandlerRelation) (device : ℕ) (start d d' : Device) (sofar : List EntryData) (e : EntryData) → e.device ≡ device → drain_event d.state ≡ Some e.event → Step R d e d' → GoesOn R device start sofar d → GoesOn R device start (sofar ++ e ∷ []) d'
+pub goes_on_more : (R : HandlerRelation) (device : ℕ) (start d d' : Device) (sofar : List EntryData) (e : EntryData) → e.device ≡ device → drain_event d.state ≡ Some e.event → Step R d e d' → DrainGoesOn R device start sofar d → DrainGoesOn R device start (sofar ++ e ∷ []) d'
 goes_on_more R device start d d' sofar e here picked step g rest end h =
     subst (λ (es : List EntryData). Drains R device start es end) (sym (append_assoc sofar (e ∷ []) rest)) (g (e ∷ rest) end (here, picked, d', step, h))
 

@@ -27,9 +27,9 @@ abbrev pub asked : CommandData → Asked
 asked c = record { cdb = c.cdb; sent = c.sent; in_len = c.in_len }
 
 -- how many commands an event accepts at most
-abbrev pub accepted_by : EventData → ℕ
-accepted_by (ev.Submit c) = 1
-accepted_by _ = 0
+abbrev pub most_accepted : EventData → ℕ
+most_accepted (ev.Submit c) = 1
+most_accepted _ = 0
 
 -- what a handler may do: its name, the medium before, what it is asked, its reply, the medium after
 abbrev pub HandlerRelation : Type 1

@@ -24,7 +24,7 @@ abbrev pub work : DeviceState → ℕ
 work d = 9 * length d.delayed + sum_by weight d.unfinished + ring_work d.ring
 
 -- what a handler can answer to a request
-pub record Outcome (R : HandlerRelation) (name : List ℕ) (medium : MediumState) (request : Asked) : Type 0 where
+pub record HasOutcome (R : HandlerRelation) (name : List ℕ) (medium : MediumState) (request : Asked) : Type 0 where
   pub reply : ReplyData
   pub after : MediumState
   pub relation : R name medium request reply after
@@ -33,14 +33,14 @@ pub record Outcome (R : HandlerRelation) (name : List ℕ) (medium : MediumState
 
 -- the handler can answer each request
 abbrev pub HasOutcomes : HandlerRelation → Type 0
-HasOutcomes R = (name : List ℕ) (medium : MediumState) (c : CommandData) → IsCommand c → Outcome R name medium (asked c)
+HasOutcomes R = (name : List ℕ) (medium : MediumState) (c : CommandData) → IsCommand c → HasOutcome R name medium (asked c)
 
 -- these entries lead a drain from one device to another, from which it can go on
-abbrev pub GoesOn : HandlerRelation → ℕ → Device → List EntryData → Device → Type 0
-GoesOn R device start sofar d = (rest : List EntryData) (end : Device) → Drains R device d rest end → Drains R device start (sofar ++ rest) end
+abbrev pub DrainGoesOn : HandlerRelation → ℕ → Device → List EntryData → Device → Type 0
+DrainGoesOn R device start sofar d = (rest : List EntryData) (end : Device) → Drains R device d rest end → Drains R device start (sofar ++ rest) end
 
 -- a drain from here has an end
-pub record Ends (R : HandlerRelation) (device : ℕ) (d : Device) : Type 0 where
+pub record DrainEnds (R : HandlerRelation) (device : ℕ) (d : Device) : Type 0 where
   pub entries : List EntryData
   pub end : Device
   pub drain : Drains R device d entries end

@@ -5,7 +5,7 @@ ghost use Rattle.tcmu_model.specs.Device.{Device, DeviceState};
 ghost use Rattle.tcmu_model.specs.Steps.{Step, Run};
 ghost use Rattle.tcmu_model.specs.Drain.{drain_event, Drains};
 ghost use Rattle.tcmu_model.specs.Sound.{IsSound, times_logged};
-ghost use Rattle.tcmu_model.specs.Work.{work, HasOutcomes, GoesOn, Ends};
+ghost use Rattle.tcmu_model.specs.Work.{work, HasOutcomes, DrainGoesOn, DrainEnds};
 
 use crate::Answering;
 
@@ -13,13 +13,13 @@ use crate::Answering;
 /// drain ends.
 pub fn drain_ends<H: Answering>()
     ensures falls { (d d' : Device) (e : EntryData) → IsSound d.state → drain_event d.state ≡ Some e.event → Step H.relation d e d' → work d'.state < work d.state }
-    ensures ends { (device : ℕ) (d : Device) → HasOutcomes H.relation → IsSound d.state → Ends H.relation device d }
+    ensures ends { (device : ℕ) (d : Device) → HasOutcomes H.relation → IsSound d.state → DrainEnds H.relation device d }
 {}
 
 /// A drain goes on by one event, and its entries are a run.
 pub fn drain_goes_on<H: Answering>()
-    ensures first { (device : ℕ) (start : Device) → GoesOn H.relation device start [] start }
-    ensures more { (device : ℕ) (start d d' : Device) (sofar : List EntryData) (e : EntryData) → e.device ≡ device → drain_event d.state ≡ Some e.event → Step H.relation d e d' → GoesOn H.relation device start sofar d → GoesOn H.relation device start (sofar ++ e ∷ []) d' }
+    ensures first { (device : ℕ) (start : Device) → DrainGoesOn H.relation device start [] start }
+    ensures more { (device : ℕ) (start d d' : Device) (sofar : List EntryData) (e : EntryData) → e.device ≡ device → drain_event d.state ≡ Some e.event → Step H.relation d e d' → DrainGoesOn H.relation device start sofar d → DrainGoesOn H.relation device start (sofar ++ e ∷ []) d' }
     ensures run { (device : ℕ) (d d' : Device) (es : List EntryData) → Drains H.relation device d es d' → Run H.relation d es d' }
 {}
 

@@ -51,5 +51,5 @@ can_be_made ev.Stat h = tt
 can_be_made ev.Enter h = tt
 
 -- a line within its limits asks for an event that can be made
-pub can_of_fit : (event : EventData) (task : LineWhat) → task ≡ line.Makes event → IsFit task → CanBeMade event
+pub can_of_fit : (event : EventData) (task : LineWhat) → task ≡ line.EventLine event → IsFit task → CanBeMade event
 can_of_fit event task is fit = can_be_made event (subst IsFit is fit)

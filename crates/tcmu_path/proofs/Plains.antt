@@ -5,7 +5,7 @@ use Rattle.tcmu_types.specs.Data.{SettingsData}
 use Rattle.tcmu_model.specs.Lengths.{blocks_of}
 use Rattle.tcmu_model.specs.RingState.{RingState, Item, with_item, pads, pad, serials_in}
 use Rattle.tcmu_model.specs.Device.{Unfinished, Delayed}
-use Rattle.tcmu_path.specs.Room.{IsPlain, KeepsRoom, to_place, to_log, held_by}
+use Rattle.tcmu_path.specs.Room.{IsPlain, KeepsRoom, to_place, to_log, blocks_of_commands}
 use Rattle.tcmu_path.proofs.Rooms.{to_place-push, to_log-push, held_by-push}
 
 -- the commands hold the same, and ask for no more
@@ -50,7 +50,7 @@ plain_noted s laid new us ws placed h p l n t k =
     }
 
 -- a command is laid: it holds its blocks, and there is room for its answer and its completion
-pub plain_laid : (s : SettingsData) (laid new : List Item) (us us' : List Unfinished) (u : Unfinished) (ws ws' : List Delayed) (placed placed' : List ℕ) (h p l h' p' l' n : ℕ) → IsPlain s laid us ws placed h p l n → Lays laid new → us' ≡ us ++ u ∷ [] → h' ≡ held_by s.pages us + blocks_of s.pages u.command → to_place us + 1 ≤ p' → to_log us + 1 + length ws' ≤ l' → placed' ≡ placed → IsPlain s new us' ws' placed' h' p' l' n
+pub plain_laid : (s : SettingsData) (laid new : List Item) (us us' : List Unfinished) (u : Unfinished) (ws ws' : List Delayed) (placed placed' : List ℕ) (h p l h' p' l' n : ℕ) → IsPlain s laid us ws placed h p l n → Lays laid new → us' ≡ us ++ u ∷ [] → h' ≡ blocks_of_commands s.pages us + blocks_of s.pages u.command → to_place us + 1 ≤ p' → to_log us + 1 + length ws' ≤ l' → placed' ≡ placed → IsPlain s new us' ws' placed' h' p' l' n
 plain_laid s laid new us us' u ws ws' placed placed' h p l h' p' l' n t k e b q r f =
     record {
       held_is = b ∙ sym (held_by-push s.pages us us' u e);

@@ -13,7 +13,7 @@ use Rattle.std.proofs.lemmas.List.Sums.{sum_by-cons, sum_by_push, count_by-le-le
 use Rattle.tcmu_model.proofs.CommandStates.{state_at, state_same}
 use Rattle.tcmu_types.proofs.Counts.{sum-with_first_less, sum-with_first_same, sum-without_first, sum-with_first_le, sum-map_same, sum-map_le}
 use Rattle.tcmu_types.proofs.Firsts.{any-with_first}
-use Rattle.tcmu_path.specs.Room.{may_be_placed, is_placeable, to_place, to_log, held_by, KeepsRoom}
+use Rattle.tcmu_path.specs.Room.{may_be_placed, is_placeable, to_place, to_log, blocks_of_commands, KeepsRoom}
 use Rattle.tcmu_model.proofs.Accounts.{at_most_one}
 
 -- a parked command that is placed is no more to be placed
@@ -26,7 +26,7 @@ to_place_less s us h =
 pub to_log_taken : (p : Unfinished → Bool) (us : List Unfinished) (u : Unfinished) → first_of p us ≡ Some u → to_log (without_first p us) + cond (is_open u) 1 0 ≡ to_log us
 to_log_taken p us u h = sum-without_first p (λ x. cond (is_open x) 1 0) us u h
 
-pub held_by_taken : (pages : ℕ) (p : Unfinished → Bool) (us : List Unfinished) (u : Unfinished) → first_of p us ≡ Some u → held_by pages (without_first p us) + blocks_of pages u.command ≡ held_by pages us
+pub held_by_taken : (pages : ℕ) (p : Unfinished → Bool) (us : List Unfinished) (u : Unfinished) → first_of p us ≡ Some u → blocks_of_commands pages (without_first p us) + blocks_of pages u.command ≡ blocks_of_commands pages us
 held_by_taken pages p us u h = sum-without_first p (λ x. blocks_of pages x.command) us u h
 
 -- what logs is open
@@ -141,8 +141,8 @@ to_place-push us vs u h =
     let one : cond {A = ℕ} (may_be_placed u) 1 0 ≤ 1 = at_most_one (may_be_placed u) in
     omega (arith, e, one)
 
-pub held_by-push : (pages : ℕ) (us vs : List Unfinished) (u : Unfinished) → vs ≡ us ++ u ∷ [] → held_by pages vs ≡ held_by pages us + blocks_of pages u.command
-held_by-push pages us vs u h = ap (held_by pages) h ∙ sum_by_push (λ (x : Unfinished). blocks_of pages x.command) us u
+pub held_by-push : (pages : ℕ) (us vs : List Unfinished) (u : Unfinished) → vs ≡ us ++ u ∷ [] → blocks_of_commands pages vs ≡ blocks_of_commands pages us + blocks_of pages u.command
+held_by-push pages us vs u h = ap (blocks_of_commands pages) h ∙ sum_by_push (λ (x : Unfinished). blocks_of pages x.command) us u
 
 pub ruleset pushes = (to_log-push, to_place-push, held_by-push)
 

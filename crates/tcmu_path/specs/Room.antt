@@ -31,19 +31,19 @@ abbrev pub to_log : List Unfinished → ℕ
 to_log us = count_by is_open us
 
 -- the data blocks that commands hold
-abbrev pub held_by : ℕ → List Unfinished → ℕ
-held_by pages us = sum_by (λ u. blocks_of pages u.command) us
+abbrev pub blocks_of_commands : ℕ → List Unfinished → ℕ
+blocks_of_commands pages us = sum_by (λ u. blocks_of pages u.command) us
 
 -- the commands hold the same blocks, and ask for no more room
 pub record KeepsRoom (old new : List Unfinished) : Type 0 where
-  pub blocks : (pages : ℕ) → held_by pages new ≡ held_by pages old
+  pub blocks : (pages : ℕ) → blocks_of_commands pages new ≡ blocks_of_commands pages old
   pub to_log : to_log new ≤ to_log old
   pub to_place : to_place new ≤ to_place old
 
 -- What a plain device keeps beside its state: the data blocks that are held, room for all that is to come without memory, and
 -- in order how many items stand before the first whose answer is not placed.
 pub record IsPlain (s : SettingsData) (laid : List Item) (us : List Unfinished) (ws : List Delayed) (placed : List ℕ) (held placed_spare log_spare passed : ℕ) : Type 0 where
-  pub held_is : held ≡ held_by s.pages us
+  pub held_is : held ≡ blocks_of_commands s.pages us
   pub placed_room : to_place us ≤ placed_spare
   pub log_room : to_log us + length ws ≤ log_spare
   pub within : passed ≤ length laid

@@ -15,9 +15,9 @@ CanBeMade _ = Unit {0}
 
 -- an event within its limits, or a drain; dumps are not served yet
 abbrev pub IsFit : LineWhat → Type 0
-IsFit (line.Makes event) = IsEvent event
-IsFit line.Drains = Unit {0}
-IsFit line.Dumps = ⊥
+IsFit (line.EventLine event) = IsEvent event
+IsFit line.DrainLine = Unit {0}
+IsFit line.DumpLine = ⊥
 
 -- a line that is served, of one of so many devices
 pub record IsFitFor (devices : ℕ) (l : LineData) : Type 0 where

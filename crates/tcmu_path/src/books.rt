@@ -5,7 +5,7 @@ ghost use Rattle.tcmu_model.specs.Events.{finish, finish_all, expire, is_due, ex
 ghost use Rattle.tcmu_model.specs.RingState.{cleared_commands, published_commands};
 ghost use Rattle.tcmu_path.specs.Away.{AreAway};
 ghost use Rattle.tcmu_path.specs.Changing.{books_of};
-ghost use Rattle.tcmu_path.specs.Room.{to_place, to_log, held_by, KeepsRoom};
+ghost use Rattle.tcmu_path.specs.Room.{to_place, to_log, blocks_of_commands, KeepsRoom};
 
 use crate::closings::reset_completion;
 use crate::ring::Ring;
@@ -19,10 +19,10 @@ use tcmu_types::{Done, Listed, Serials, Settings};
 /// Finishes the placed command of a serial, where it is there, and logs its completion.
 fn finish(rows: &mut Rows, log: &mut Listed<Done>, held: &mut u32, serial: u64, settings: &Settings)
     requires room { to_log rows.old.items ≤ log.old.spare }
-    requires held { held.old ≡ held_by settings.now.pages rows.old.items }
+    requires held { held.old ≡ blocks_of_commands settings.now.pages rows.old.items }
     ensures books { books_of rows.new log.new ≡ finish settings.now.flags.read_len (books_of rows.old log.old) serial }
     ensures room { to_log rows.new.items + log.old.spare ≤ log.new.spare + to_log rows.old.items }
-    ensures held { held.new ≡ held_by settings.now.pages rows.new.items }
+    ensures held { held.new ≡ blocks_of_commands settings.now.pages rows.new.items }
     ensures less { held.new ≤ held.old }
     ensures to_place { to_place rows.new.items ≤ to_place rows.old.items }
     ensures grows { length log.old.items ≤ length log.new.items }
@@ -44,10 +44,10 @@ fn finish_all(
     settings: &Settings,
 )
     requires room { to_log rows.old.items ≤ log.old.spare }
-    requires held { held.old ≡ held_by settings.now.pages rows.old.items }
+    requires held { held.old ≡ blocks_of_commands settings.now.pages rows.old.items }
     ensures books { books_of rows.new log.new ≡ finish_all settings.now.flags.read_len (books_of rows.old log.old) serials.now }
     ensures room { to_log rows.new.items + log.old.spare ≤ log.new.spare + to_log rows.old.items }
-    ensures held { held.new ≡ held_by settings.now.pages rows.new.items }
+    ensures held { held.new ≡ blocks_of_commands settings.now.pages rows.new.items }
     ensures less { held.new ≤ held.old }
     ensures to_place { to_place rows.new.items ≤ to_place rows.old.items }
     ensures grows { length log.old.items ≤ length log.new.items }
@@ -136,12 +136,12 @@ pub fn finish_published(
     settings: &Settings,
 )
     requires room { to_log rows.old.items ≤ log.old.spare }
-    requires held { held.old ≡ held_by settings.now.pages rows.old.items }
+    requires held { held.old ≡ blocks_of_commands settings.now.pages rows.old.items }
     requires published { published_commands ring.now ≤ length placed.now.items }
     requires away { AreAway (take (cleared_commands ring.now) placed.now.items) rows.old.items }
     ensures books { books_of rows.new log.new ≡ finish_all settings.now.flags.read_len (books_of rows.old log.old) (take (published_commands ring.now) placed.now.items) }
     ensures room { to_log rows.new.items + log.old.spare ≤ log.new.spare + to_log rows.old.items }
-    ensures held { held.new ≡ held_by settings.now.pages rows.new.items }
+    ensures held { held.new ≡ blocks_of_commands settings.now.pages rows.new.items }
     ensures to_place { to_place rows.new.items ≤ to_place rows.old.items }
     ensures grows { length log.old.items ≤ length log.new.items }
 {

@@ -7,7 +7,7 @@ ghost use Rattle.tcmu_model.specs.Lengths.{blocks_of};
 ghost use Rattle.tcmu_model.specs.Events.{is_running, item_answer, after_item};
 ghost use Rattle.tcmu_types.specs.Lists.{Every};
 ghost use Rattle.tcmu_path.specs.Tallies.{serials_of};
-ghost use Rattle.tcmu_path.specs.Room.{to_place, to_log, held_by, KeepsRoom};
+ghost use Rattle.tcmu_path.specs.Room.{to_place, to_log, blocks_of_commands, KeepsRoom};
 
 use crate::ring::{Content, RingItem};
 use crate::row::Row;
@@ -23,7 +23,7 @@ pub fn append(rows: &mut Rows, row: Row)
     requires waits { row.state ≡ Waiting }
     requires above { Every (λ s. s < row.serial) (serials_of rows.old.items) }
     ensures rows { rows.new.items ≡ rows.old.items ++ row ∷ [] }
-    ensures blocks { (pages : ℕ) → held_by pages rows.new.items ≡ held_by pages rows.old.items + blocks_of pages row.command }
+    ensures blocks { (pages : ℕ) → blocks_of_commands pages rows.new.items ≡ blocks_of_commands pages rows.old.items + blocks_of pages row.command }
     ensures to_log { to_log rows.new.items ≤ to_log rows.old.items + 1 }
     ensures to_place { to_place rows.new.items ≤ to_place rows.old.items + 1 }
 {

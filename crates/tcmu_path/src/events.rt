@@ -2,7 +2,7 @@
 ghost use Rattle.std.specs.Prelude.{◌≡◌, ℕ, ◌^◌, ◌≤◌, ◌<◌, length, drop, IfOk, IfSome, OnOk, OnErr, IsErrOf};
 ghost use Rattle.std.specs.Option.{option_map};
 ghost use Rattle.tcmu_types.specs.Views.{event_data, answer_data};
-ghost use Rattle.tcmu_model.specs.Steps.{Makes, accepted_by};
+ghost use Rattle.tcmu_model.specs.Steps.{Makes, most_accepted};
 ghost use Rattle.tcmu_model.specs.Drain.{chosen};
 ghost use Rattle.tcmu_path.specs.Calls.{Keeps, Accepts, ListsGoOn};
 ghost use Rattle.tcmu_path.specs.Tasks.{CanBeMade};
@@ -19,7 +19,7 @@ pub fn make_event<P: Path>(alloc: Global, path: &mut P, event: &Event) -> Result
     ensures makes { IfOk result (λ a. Makes P.relation (P.device path.old) (event_data event.now) (answer_data a) (P.device path.new)) }
     ensures lists { IfOk result (λ a. ListsGoOn (P.lists path.old) (P.device path.old) (event_data event.now) (answer_data a) (P.device path.new) (P.lists path.new)) }
     ensures unchanged { OnErr result (Keeps (P.device path.old) (P.device path.new) (P.lists path.old) (P.lists path.new)) }
-    ensures accepts { Accepts (accepted_by (event_data event.now)) (P.device path.old) (P.device path.new) }
+    ensures accepts { Accepts (most_accepted (event_data event.now)) (P.device path.old) (P.device path.new) }
 {
     match event {
         Event::Submit(command) => Ok(Answer::Submit(path.submit(alloc, command)?)),
@@ -43,7 +43,7 @@ pub fn make_event<P: Path>(alloc: Global, path: &mut P, event: &Event) -> Result
 pub fn next_event(todo: &Todo) -> Option<Event>
     ensures value { option_map event_data result ≡ chosen todo.now }
     ensures can { IfSome result (λ e. CanBeMade (event_data e)) }
-    ensures accepts { IfSome result (λ e. accepted_by (event_data e) ≡ 0) }
+    ensures accepts { IfSome result (λ e. most_accepted (event_data e) ≡ 0) }
 {
     if let Some(serial) = todo.handle {
         return Some(Event::Handle(serial));

@@ -6,7 +6,7 @@ use Rattle.std.proofs.lemmas.Bool.{cases_Bool, cases_lt, le-ltb, or_parts}
 use Rattle.std.proofs.lemmas.List.{append-nil, length-map, length-take-le, map-append, take_more}
 use Rattle.std.proofs.lemmas.Option.{slice_get_within, slice_get_read, get_or_from_slice_get}
 use Rattle.std.proofs.lemmas.Slice.Eq.{bytes_eq-Decides}
-use Rattle.edge.specs.Stores.{StoreState, Content, store_of, out, at_home, FilesState, fetch_fails, after_fetch, Opened}
+use Rattle.edge.specs.Stores.{StoreState, Content, store_of, out, at_home, FilesState, fetch_fails, after_fetch, FetchGives}
 use Rattle.tcmu_model.specs.MediumState.{MediumState}
 use Rattle.tcmu_model.specs.Device.{Device, opening}
 use Rattle.text_model.specs.Config.{ConfigData, MediumData, InMemory, InFile}
@@ -87,7 +87,7 @@ pub fetched_first : (files : Option FilesState) → Fetched [] files files
 fetched_first None = record { none = tt; after = refl }
 fetched_first (Some f) = record { none = refl; after = refl }
 
-fetched_more : (names : List (List ℕ)) (name : List ℕ) (store : StoreState) (files mid new : Option FilesState) → Fetched names files mid → Opened name store mid new → Fetched (names ++ name ∷ []) files new
+fetched_more : (names : List (List ℕ)) (name : List ℕ) (store : StoreState) (files mid new : Option FilesState) → Fetched names files mid → FetchGives name store mid new → Fetched (names ++ name ∷ []) files new
 fetched_more names name store None mid new h o = record { none = tt; after = o.after ∙ ap (option_map (after_fetch name)) h.after }
 fetched_more names name store (Some f) mid new h o =
     let told = subst (λ (x : Option FilesState). IfSome x (λ g. (fetch_fails name g ≡ false) × ((c : Content) × (g.places name ≡ at_home c) × (store ≡ store_of c)))) h.after o.told in
@@ -97,7 +97,7 @@ fetched_more names name store (Some f) mid new h o =
       after = o.after ∙ ap (option_map (after_fetch name)) h.after ∙ ap (λ (x : FilesState). Some x) (sym (fetches_append names (name ∷ []) f));
     }
 
-opens_file : (names : List (List ℕ)) (name : List ℕ) (c : ConfigData) (m : MediumState) (files mid new : Option FilesState) → Fetched names files mid → IsFree names name → made.OpensFile name c mid new m → OpensFile name files c m
+opens_file : (names : List (List ℕ)) (name : List ℕ) (c : ConfigData) (m : MediumState) (files mid new : Option FilesState) → Fetched names files mid → IsFree names name → made.MakesFile name c mid new m → OpensFile name files c m
 opens_file names name c m files mid new h free o =
     record { store = o.store; whole = o.fetched.whole; some = o.fetched.some; most = o.fetched.most; told = told files h; medium = o.medium }
   where
@@ -123,14 +123,14 @@ open_append files [] (e ∷ ds) l d h o = absurd h
 open_append files (k ∷ ls) [] l d h o = absurd h
 open_append files (k ∷ ls) (e ∷ ds) l d h o = (h.0, open_append files ls ds l d h.1 o)
 
-kind_opens : (k : MediumData) (names : List (List ℕ)) (c : ConfigData) (m : MediumState) (files mid new : Option FilesState) → Fetched names files mid → IsOwn names k → made.OpensKind k c mid new m
+kind_opens : (k : MediumData) (names : List (List ℕ)) (c : ConfigData) (m : MediumState) (files mid new : Option FilesState) → Fetched names files mid → IsOwn names k → made.MakesKind k c mid new m
     → OpensKind k files c m × Fetched (names ++ name_in k []) files new
 kind_opens (InMemory blocks) names c m files mid new h own o =
     (o.medium, subst (λ (xs : List (List ℕ)). Fetched xs files new) (sym (append-nil names)) (subst (Fetched names files) (sym o.files) h))
 kind_opens (InFile name) names c m files mid new h own o = (opens_file names name c m files mid new h own o, fetched_more names name o.store files mid new h o.fetched)
 
 pub open_more : (files mid new : Option FilesState) (ls : List DeviceLineData) (ds : List Device) (l : DeviceLineData) (m : MediumState) → AreOpen files mid ls ds → IsOwn (file_names ls) l.config.kind
-    → made.Opens l.config mid new m → AreOpen files new (ls ++ l ∷ []) (ds ++ opening l.settings l.name m ∷ [])
+    → made.MakesMedium l.config mid new m → AreOpen files new (ls ++ l ∷ []) (ds ++ opening l.settings l.name m ∷ [])
 open_more files mid new ls ds l m h own o =
     let x = kind_opens l.config.kind (file_names ls) l.config m files mid new h.fetched own o in
     record {

@@ -92,9 +92,9 @@ drains_own R at d d' [] h = tt
 drains_own R at d d' (e ∷ es) h = (h.0, drains_own R at h.2 d' es h.4)
 
 pub plays_own : (R : HandlerRelation) (at : ℕ) (d d' : Device) (what : LineWhat) (es : List EntryData) → Plays R at d what es d' → AreOf at es
-plays_own R at d d' (line.Makes event) es h = subst (AreOf at) (sym h.4) (h.1, tt)
-plays_own R at d d' line.Drains es h = drains_own R at d d' es h
-plays_own R at d d' line.Dumps es h = absurd h
+plays_own R at d d' (line.EventLine event) es h = subst (AreOf at) (sym h.4) (h.1, tt)
+plays_own R at d d' line.DrainLine es h = drains_own R at d d' es h
+plays_own R at d d' line.DumpLine es h = absurd h
 
 -- ==== each device
 

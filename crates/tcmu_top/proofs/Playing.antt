@@ -15,7 +15,7 @@ use Rattle.tcmu_model.specs.Events.{submit_answer, after_submit, enter_answer, a
 use Rattle.tcmu_model.specs.Steps.{HandlerRelation, Step, Run, Makes, asked, moved}
 use Rattle.tcmu_model.specs.Drain.{Drains, drain_event}
 use Rattle.tcmu_model.specs.Sound.{IsSound}
-use Rattle.tcmu_model.specs.Work.{Outcome, HasOutcomes, GoesOn, work}
+use Rattle.tcmu_model.specs.Work.{HasOutcome, HasOutcomes, DrainGoesOn, work}
 use Rattle.text_model.specs.ScenarioData.{DeviceLineData, LineWhat, LineData}
 use Rattle.text_model.specs.ScenarioData as line
 use Rattle.text_model.specs.Replay.{Plays}
@@ -37,9 +37,9 @@ pub run_one : (R : HandlerRelation) (d d' : Device) (e : EntryData) → Step R d
 run_one R d d' e s = (d', s, refl)
 
 pub plays_run : (R : HandlerRelation) (at : ℕ) (d d' : Device) (task : LineWhat) (es : List EntryData) → Plays R at d task es d' → Run R d es d'
-plays_run R at d d' (line.Makes event) es h = subst (λ (xs : List EntryData). Run R d xs d') (sym (h.4)) (run_one R d d' (h.0) (h.3))
-plays_run R at d d' line.Drains es h = drains_run R at d d' es h
-plays_run R at d d' line.Dumps es h = absurd h
+plays_run R at d d' (line.EventLine event) es h = subst (λ (xs : List EntryData). Run R d xs d') (sym (h.4)) (run_one R d d' (h.0) (h.3))
+plays_run R at d d' line.DrainLine es h = drains_run R at d d' es h
+plays_run R at d d' line.DumpLine es h = absurd h
 
 -- from each sound device a drain has an end
 pub drained : (R : HandlerRelation) (at : ℕ) (d : Device) → HasOutcomes R → IsSound d.state → (es : List EntryData) × (end : Device) × Drains R at d es end
@@ -73,7 +73,7 @@ handled : (R : HandlerRelation) (at : ℕ) (d : Device) (s : ℕ) (o : Option Un
 handled R at d s None e outcomes sound = entry_made R at d d (ev.Handle s) (ev.Answered (handle.NotOut s)) (refl, e, refl)
 handled R at d s (Some u) e outcomes sound =
     let c : IsCommand u.command = first_every (λ v. IsCommand v.command) (is_at s Out) d.state.unfinished u (rows_commands d.state sound) e in
-    let r : Outcome R d.name d.medium (asked u.command) = outcomes d.name d.medium u.command c in
+    let r : HasOutcome R d.name d.medium (asked u.command) = outcomes d.name d.medium u.command c in
     let d' : Device = record { name = d.name; medium = r.after; state = after_handle d.state s r.reply } in
     entry_made R at d d' (ev.Handle s) (ev.Answered (handle.Done r.reply)) (u, record { found = e; relation = r.relation; whole = r.rules; payload = r.payload; name = refl; state = refl })
 
@@ -98,13 +98,13 @@ event_made R at d (ev.Tmr kind ss) o k h =
 event_made R at d ev.Stat o k h = entry_made R at d d ev.Stat (ev.Told (stat_answer d.state)) (record { answer = refl; after = refl })
 event_made R at d ev.Enter o k h = entry_made R at d (moved d (after_enter d.state (enter_answer d.state))) ev.Enter (ev.Entered (enter_answer d.state)) (record { answer = refl; after = refl })
 
-pub plays_made : (R : HandlerRelation) (at : ℕ) (d d' : Device) (event : EventData) (m : MadeEvent R at event d d') → Plays R at d (line.Makes event) (m.entry ∷ []) d'
+pub plays_made : (R : HandlerRelation) (at : ℕ) (d d' : Device) (event : EventData) (m : MadeEvent R at event d d') → Plays R at d (line.EventLine event) (m.entry ∷ []) d'
 plays_made R at d d' event m = (m.entry, m.device, m.is, m.step, refl)
 
 pub plays_total : (R : HandlerRelation) (at : ℕ) (d : Device) (task : LineWhat) → HasOutcomes R → IsSound d.state → IsFit task → (es : List EntryData) × (d' : Device) × Plays R at d task es d'
-plays_total R at d (line.Makes event) outcomes sound fit = let m = event_made R at d event outcomes sound fit in (m.1.entry ∷ [], m.0, plays_made R at d (m.0) event (m.1))
-plays_total R at d line.Drains outcomes sound fit = drained R at d outcomes sound
-plays_total R at d line.Dumps outcomes sound fit = absurd fit
+plays_total R at d (line.EventLine event) outcomes sound fit = let m = event_made R at d event outcomes sound fit in (m.1.entry ∷ [], m.0, plays_made R at d (m.0) event (m.1))
+plays_total R at d line.DrainLine outcomes sound fit = drained R at d outcomes sound
+plays_total R at d line.DumpLine outcomes sound fit = absurd fit
 
 -- ==== a drain
 
@@ -112,7 +112,7 @@ plays_total R at d line.Dumps outcomes sound fit = absurd fit
 pub record Draining (R : HandlerRelation) (at : ℕ) (l : DeviceLineData) (start d : Device) (old now : Option (List ℕ)) : Type 0 where
   pub sofar : List EntryData
   pub run : Run R start sofar d
-  pub goes_on : GoesOn R at start sofar d
+  pub goes_on : DrainGoesOn R at start sofar d
   pub wrote : Gained old (run_text l start sofar d) now
   pub sound : IsSound d.state
 
@@ -197,7 +197,7 @@ draining_stopped R at l start d d' event old mid now outcomes so picked (inl not
 draining_stopped R at l start d d' event old mid now outcomes so picked (inr told) =
     let m = told.made in
     let one = run_one R d d' m.entry m.step in
-    let goes : GoesOn R at start (so.sofar ++ m.entry ∷ []) d' = goes_on_more R at start d d' so.sofar m.entry m.device (picked ∙ ap (λ (x : EventData). Some x) (sym m.is)) m.step so.goes_on in
+    let goes : DrainGoesOn R at start (so.sofar ++ m.entry ∷ []) d' = goes_on_more R at start d d' so.sofar m.entry m.device (picked ∙ ap (λ (x : EventData). Some x) (sym m.is)) m.step so.goes_on in
     let rest = drained R at d' outcomes (sound_step R d d' m.entry so.sound m.step) in
     record {
       made = so.sofar ++ m.entry ∷ [];
@@ -271,7 +271,7 @@ nothing_came R at l d d' event old e = inl (record { device = e; wrote = refl })
 -- ==== one task
 
 pub told_wrote : (R : HandlerRelation) (at : ℕ) (l : DeviceLineData) (d d' : Device) (event : EventData) (old now : Option (List ℕ)) → Played R at l event d d' old now
-    → Wrote R l (λ es. Plays R at d (line.Makes event) es d') d d' old now
+    → Wrote R l (λ es. Plays R at d (line.EventLine event) es d') d d' old now
 told_wrote R at l d d' event old now told =
     record {
       entries = told.made.entry ∷ [];
@@ -281,10 +281,10 @@ told_wrote R at l d d' event old now told =
     }
 
 pub stopped_front : (R : HandlerRelation) (at : ℕ) (l : DeviceLineData) (d d' : Device) (event : EventData) (old now : Option (List ℕ)) → HasOutcomes R → IsSound d.state → IsEvent event → Stopped R at l event d d' old now
-    → WroteFront R l (Plays R at d (line.Makes event)) d d' old now
+    → WroteFront R l (Plays R at d (line.EventLine event)) d d' old now
 stopped_front R at l d d' event old now outcomes sound fit (inl nothing) =
     let m = event_made R at d event outcomes sound fit in
-    let front : WroteFront R l (Plays R at d (line.Makes event)) d d old old =
+    let front : WroteFront R l (Plays R at d (line.EventLine event)) d d old old =
     record {
       made = [];
       rest = m.1.entry ∷ [];
@@ -295,8 +295,8 @@ stopped_front R at l d d' event old now outcomes sound fit (inl nothing) =
       wrote = front_none old [];
       stopped = all_told R l d d [] old old refl (gained_none old);
     } in
-    subst (λ (w : Option (List ℕ)). WroteFront R l (Plays R at d (line.Makes event)) d d' old w) (sym nothing.wrote)
-    (subst (λ (x : Device). WroteFront R l (Plays R at d (line.Makes event)) d x old old) (sym nothing.device) front)
+    subst (λ (w : Option (List ℕ)). WroteFront R l (Plays R at d (line.EventLine event)) d d' old w) (sym nothing.wrote)
+    (subst (λ (x : Device). WroteFront R l (Plays R at d (line.EventLine event)) d x old old) (sym nothing.device) front)
 stopped_front R at l d d' event old now outcomes sound fit (inr told) =
     record {
       made = told.made.entry ∷ [];
@@ -311,20 +311,20 @@ stopped_front R at l d d' event old now outcomes sound fit (inr told) =
 
 -- ==== from what the code finds
 
-pub told_task : (R : HandlerRelation) (at : ℕ) (l : DeviceLineData) (d d' : Device) (event : EventData) (task : LineWhat) (old now : Option (List ℕ)) → task ≡ line.Makes event → Played R at l event d d' old now
+pub told_task : (R : HandlerRelation) (at : ℕ) (l : DeviceLineData) (d d' : Device) (event : EventData) (task : LineWhat) (old now : Option (List ℕ)) → task ≡ line.EventLine event → Played R at l event d d' old now
     → Wrote R l (λ es. Plays R at d task es d') d d' old now
 told_task R at l d d' event task old now is told =
     subst (λ (t : LineWhat). Wrote R l (λ es. Plays R at d t es d') d d' old now) (sym is) (told_wrote R at l d d' event old now told)
 
-pub stopped_task : (R : HandlerRelation) (at : ℕ) (l : DeviceLineData) (d d' : Device) (event : EventData) (task : LineWhat) (old now : Option (List ℕ)) → task ≡ line.Makes event → HasOutcomes R → IsSound d.state → IsFit task → Stopped R at l event d d' old now
+pub stopped_task : (R : HandlerRelation) (at : ℕ) (l : DeviceLineData) (d d' : Device) (event : EventData) (task : LineWhat) (old now : Option (List ℕ)) → task ≡ line.EventLine event → HasOutcomes R → IsSound d.state → IsFit task → Stopped R at l event d d' old now
     → WroteFront R l (Plays R at d task) d d' old now
 stopped_task R at l d d' event task old now is outcomes sound fit stopped =
     subst (λ (t : LineWhat). WroteFront R l (Plays R at d t) d d' old now) (sym is) (stopped_front R at l d d' event old now outcomes sound (subst IsFit is fit) stopped)
 
-pub drained_task : (R : HandlerRelation) (at : ℕ) (l : DeviceLineData) (d d' : Device) (task : LineWhat) (old now : Option (List ℕ)) → task ≡ line.Drains → Wrote R l (λ es. Drains R at d es d') d d' old now
+pub drained_task : (R : HandlerRelation) (at : ℕ) (l : DeviceLineData) (d d' : Device) (task : LineWhat) (old now : Option (List ℕ)) → task ≡ line.DrainLine → Wrote R l (λ es. Drains R at d es d') d d' old now
     → Wrote R l (λ es. Plays R at d task es d') d d' old now
 drained_task R at l d d' task old now is w = subst (λ (t : LineWhat). Wrote R l (λ es. Plays R at d t es d') d d' old now) (sym is) w
 
-pub drained_task_front : (R : HandlerRelation) (at : ℕ) (l : DeviceLineData) (d d' : Device) (task : LineWhat) (old now : Option (List ℕ)) → task ≡ line.Drains → WroteFront R l (Drains R at d) d d' old now
+pub drained_task_front : (R : HandlerRelation) (at : ℕ) (l : DeviceLineData) (d d' : Device) (task : LineWhat) (old now : Option (List ℕ)) → task ≡ line.DrainLine → WroteFront R l (Drains R at d) d d' old now
     → WroteFront R l (Plays R at d task) d d' old now
 drained_task_front R at l d d' task old now is w = subst (λ (t : LineWhat). WroteFront R l (Plays R at d t) d d' old now) (sym is) w

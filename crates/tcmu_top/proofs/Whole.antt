@@ -168,9 +168,9 @@ opened_none n (l ∷ ls) (d ∷ ds) h = (let none : d.state.accepted ≡ 0 = ap 
 -- ==== lines
 
 fit_line : (w : LineWhat) (l : LineData) → l.what ≡ w → IsWhat w → is_dump l ≡ false → IsFit w
-fit_line (line.Makes e) l is k dumpless = k
-fit_line line.Drains l is k dumpless = tt
-fit_line line.Dumps l is k dumpless = let yes : is_dump l ≡ true = rw is refl in absurd (cc)
+fit_line (line.EventLine e) l is k dumpless = k
+fit_line line.DrainLine l is k dumpless = tt
+fit_line line.DumpLine l is k dumpless = let yes : is_dump l ≡ true = rw is refl in absurd (cc)
 
 pub lines_fit : (ds : List DeviceLineData) (n : ℕ) (ls : List LineData) → length ds ≡ n → All (IsLine ds) ls → All (λ l. is_dump l ≡ false) ls → Every (IsFitFor n) ls
 lines_fit ds n [] e k dumpless = tt

@@ -34,7 +34,7 @@ LieInMemory ls = Every (λ l. LiesInMemory l.config.kind) ls
 abbrev pub TextsAgree : Type 0
 TextsAgree =
     (files : Option FilesState) (s : ScenarioData) (text : List ℕ) → LieInMemory s.devices
-    → (IsTextOf files s text → memory.IsTextOf s text) × (memory.IsTextOf s text → IsTextOf files s text)
+    → (IsTextOf files s text → memory.IsTextInMemory s text) × (memory.IsTextInMemory s text → IsTextOf files s text)
 
 -- ==== texts over files whose stores list no failing call
 

@@ -134,7 +134,7 @@ AsTheyWere Fetches ls files files' = IfSome files (λ f. (f' : FilesState) × (f
 
 -- a device was opened over the medium that was made for it
 abbrev pub Made : DeviceLineData → Option FilesState → Option FilesState → Device → Type 0
-Made l old new d = (m : MediumState) × medium.Opens l.config old new m × (d ≡ opening l.settings l.name m)
+Made l old new d = (m : MediumState) × medium.MakesMedium l.config old new m × (d ≡ opening l.settings l.name m)
 
 -- these names were fetched: no fetch failed, and the files are as these leave them
 pub record Fetched (names : List (List ℕ)) (files files' : Option FilesState) : Type 0 where

@@ -2,7 +2,7 @@
 ghost use Rattle.std.specs.Prelude.{◌≡◌, ℕ, ◌^◌, ◌≤◌, ◌<◌, length, drop, IfOk, IfSome, OnOk, OnErr};
 ghost use Rattle.std.specs.Option.{option_map};
 ghost use Rattle.tcmu_types.specs.Views.{event_data, answer_data};
-ghost use Rattle.tcmu_model.specs.Steps.{Makes, accepted_by};
+ghost use Rattle.tcmu_model.specs.Steps.{Makes, most_accepted};
 ghost use Rattle.tcmu_model.specs.Drain.{chosen, Drains};
 ghost use Rattle.tcmu_model.specs.Sound.{IsSound};
 ghost use Rattle.tcmu_model.specs.Work.{HasOutcomes};
@@ -40,7 +40,7 @@ fn play<P: Path, K: Sink>(
     ensures ok { OnOk result ((at : ℕ) → Played P.relation at device.now (event_data event.now) (P.device path.old) (P.device path.new) (K.written out.old) (K.written out.new)) }
     ensures err { OnErr result ((at : ℕ) → Stopped P.relation at device.now (event_data event.now) (P.device path.old) (P.device path.new) (K.written out.old) (K.written out.new)) }
     ensures faults { SinkFaults (K.faults out.old) (K.faults out.new) result }
-    ensures accepts { Accepts (accepted_by (event_data event.now)) (P.device path.old) (P.device path.new) }
+    ensures accepts { Accepts (most_accepted (event_data event.now)) (P.device path.old) (P.device path.new) }
 {
     let before = path.log().len();
     let answer = make_event(alloc, path, event)?;

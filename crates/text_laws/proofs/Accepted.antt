@@ -10,10 +10,10 @@ use Rattle.tcmu_types.specs.declared.answer.Tmr.{Tmr}
 use Rattle.tcmu_types.specs.declared.answer.Tmr.TheVariants as tmr
 use Rattle.tcmu_model.specs.Device.{DeviceState, Device}
 use Rattle.tcmu_model.specs.Events.{after_submit, with_command, with_delayed, after_handle, after_clean, after_tick, after_block, emptied, count_in_hand, after_reset, after_restart, with_note, after_tmr}
-use Rattle.tcmu_model.specs.Steps.{HandlerRelation, Makes, accepted_by}
+use Rattle.tcmu_model.specs.Steps.{HandlerRelation, Makes, most_accepted}
 use Rattle.tcmu_model.proofs.Unnamed.{enter_kept, dispatch_kept, respond_kept, publish_kept}
 
-pub accepts_one : (e : EventData) → accepted_by e ≤ 1
+pub accepts_one : (e : EventData) → most_accepted e ≤ 1
 accepts_one (ev.Submit c) = omega arith
 accepts_one ev.Dispatch = omega arith
 accepts_one (ev.Handle s) = omega arith
@@ -85,7 +85,7 @@ none d d' e = record { least = omega (arith, e); most = omega (arith, e) }
 kept : (d d' : Device) (s : DeviceState) → d' ≡ record d { state = s } → s.accepted ≡ d.state.accepted → AcceptsUpTo 0 d.state d'.state
 kept d d' s e k = none d.state d'.state (ap (λ (x : Device). x.state.accepted) e ∙ k)
 
-pub makes_accepts : (R : HandlerRelation) (d d' : Device) (e : EventData) (a : AnswerData) → Makes R d e a d' → AcceptsUpTo (accepted_by e) d.state d'.state
+pub makes_accepts : (R : HandlerRelation) (d d' : Device) (e : EventData) (a : AnswerData) → Makes R d e a d' → AcceptsUpTo (most_accepted e) d.state d'.state
 unfolding with_command
 makes_accepts R d d' (ev.Submit c) (ev.Submitted a) h = subst (λ (x : Device). AcceptsUpTo 1 d.state x.state) (sym h.after) (after_submit_accepts d.state c a)
 makes_accepts R d d' ev.Dispatch (ev.Dispatched a) h = kept d d' _ h.after (dispatch_kept (λ x. x.accepted) d.state (λ i. refl))

@@ -10,7 +10,7 @@ use Rattle.tcmu_types.specs.declared.stat.Todo.{Todo}
 use Rattle.tcmu_types.specs.Lists.{first_of, Every}
 use Rattle.tcmu_model.specs.declared.state.CommandState.TheVariants.{Out, Handled}
 use Rattle.tcmu_model.specs.Device.{Unfinished, DeviceState, Device, has_state}
-use Rattle.tcmu_model.specs.Steps.{HandlerRelation, Step, accepted_by}
+use Rattle.tcmu_model.specs.Steps.{HandlerRelation, Step, most_accepted}
 use Rattle.tcmu_model.specs.Drain.{least_serial, chosen, todo_of, nothing_to_do, drain_event, Drains}
 use Rattle.text_model.specs.ScenarioData.{LineWhat, LineData, command_of}
 use Rattle.text_model.specs.ScenarioData as line
@@ -54,7 +54,7 @@ least_served d p s h e =
 pub record IsQuiet (e : EventData) : Type 0 where
   pub event : IsEvent e
   pub bytes : CarriesBytes e
-  pub accepts : accepted_by e ≡ 0
+  pub accepts : most_accepted e ≡ 0
   pub silent : (at : ℕ) → sends (made at e) ≡ false
 
 serial_quiet : (make : ℕ → EventData) (d : DeviceState) (s : ℕ) (e : EventData) → d.accepted ≤ 1000000000 → ((n : ℕ) → 1 ≤ n → n ≤ 1000000000 → IsQuiet (make n)) → IsServed d s → Some (make s) ≡ Some e → IsQuiet e
@@ -101,12 +101,12 @@ pub more_accepted : (n m : ℕ) (d : Device) → n ≤ m → HasAccepted n d →
 more_accepted n m d le h = record { sound = h.sound; few = omega (arith, le, h.few) }
 
 -- what stands of entries that a device makes: their lines are within the limits, they send these lines, and the device is as so
-record Makes (devices : ℕ) (n : ℕ) (es : List EntryData) (lines : List LineData) (d' : Device) : Type 0 where
+record MadeOf (devices : ℕ) (n : ℕ) (es : List EntryData) (lines : List LineData) (d' : Device) : Type 0 where
   entries : Every (IsWithinLines devices) es
   sends_these : sent (lines_of es) ≡ sent lines
   after : HasAccepted n d'
 
-pub step_accepts : (R : HandlerRelation) (n : ℕ) (d d' : Device) (e : EntryData) → HasAccepted n d → Step R d e d' → HasAccepted (n + accepted_by e.event) d'
+pub step_accepts : (R : HandlerRelation) (n : ℕ) (d d' : Device) (e : EntryData) → HasAccepted n d → Step R d e d' → HasAccepted (n + most_accepted e.event) d'
 step_accepts R n d d' e h s = record { sound = sound_step R d d' e h.sound s; few = omega (arith, (makes_accepts R d d' e.event e.answer s.makes).most, h.few) }
 
 silent_line : (l : LineData) (ls : List LineData) → sends l ≡ false → sent (l ∷ ls) ≡ sent ls
@@ -114,7 +114,7 @@ silent_line l ls e = ap (λ b. cond b (l ∷ sent ls) (sent ls)) e
 
 -- a drain of a device sends nothing, and leaves nothing to do
 record Drained (devices : ℕ) (n : ℕ) (es : List EntryData) (d' : Device) : Type 0 where
-  made : Makes devices n es [] d'
+  made : MadeOf devices n es [] d'
   rest : drain_event d'.state ≡ None
 
 drained : (R : HandlerRelation) (devices at n : ℕ) (d d' : Device) (es : List EntryData) → at < devices → n ≤ 1000000000 → HasAccepted n d → Drains R at d es d' → Drained devices n es d'
@@ -125,7 +125,7 @@ drained R devices at n d d' [] lt few h drains = record {
 drained R devices at n d d' (e ∷ es) lt few h drains =
     let quiet = drain_quiet d.state e.event h.sound (omega (arith, h.few, few)) drains.1 in
     let step = step_accepts R n d drains.2 e h drains.3 in
-    let next = drained R devices at n drains.2 d' es lt few (more_accepted (n + accepted_by e.event) n drains.2 (omega (arith, quiet.accepts)) step) drains.4 in
+    let next = drained R devices at n drains.2 d' es lt few (more_accepted (n + most_accepted e.event) n drains.2 (omega (arith, quiet.accepts)) step) drains.4 in
     record {
       made = record {
         entries = (record { device = omega (arith, drains.0, lt); event = quiet.event; bytes = quiet.bytes }, next.made.entries);
@@ -141,23 +141,23 @@ abbrev pub IsAskable : LineData → Type 0
 IsAskable l = IsWhat l.what × IsCarriedWhat l.what
 
 plays : (R : HandlerRelation) (devices n : ℕ) (l : LineData) (what : LineWhat) (d d' : Device) (es : List EntryData) → l.device < devices → n ≤ 1000000000 → HasAccepted n d → IsWhat what → IsCarriedWhat what → Plays R l.device d what es d'
-    → Makes devices (n + 1) es (record { device = l.device; what = what } ∷ []) d'
-plays R devices n l (line.Makes event) d d' es lt few h is carried p =
+    → MadeOf devices (n + 1) es (record { device = l.device; what = what } ∷ []) d'
+plays R devices n l (line.EventLine event) d d' es lt few h is carried p =
     let e = p.0 in
     let line_is : made e.device e.event ≡ made l.device event = ap (λ (k : ℕ). made k e.event) p.1 ∙ ap (made l.device) p.2 in
-    let made_one : Makes devices (n + 1) (e ∷ []) (made l.device event ∷ []) d' = record {
+    let made_one : MadeOf devices (n + 1) (e ∷ []) (made l.device event ∷ []) d' = record {
       entries = (record { device = omega (arith, p.1, lt); event = subst IsEvent (sym p.2) is; bytes = subst CarriesBytes (sym p.2) carried }, tt);
       sends_these = ap (λ (x : LineData). sent (x ∷ [])) line_is;
-      after = more_accepted (n + accepted_by e.event) (n + 1) d' (at_most e.event) (step_accepts R n d d' e h p.3);
+      after = more_accepted (n + most_accepted e.event) (n + 1) d' (at_most e.event) (step_accepts R n d d' e h p.3);
     } in
-    subst (λ (xs : List EntryData). Makes devices (n + 1) xs (made l.device event ∷ []) d') (sym p.4) made_one
+    subst (λ (xs : List EntryData). MadeOf devices (n + 1) xs (made l.device event ∷ []) d') (sym p.4) made_one
   where
-    at_most : (e : EventData) → n + accepted_by e ≤ n + 1
+    at_most : (e : EventData) → n + most_accepted e ≤ n + 1
     at_most e = omega (arith, accepts_one e)
-plays R devices n l line.Drains d d' es lt few h is carried p =
+plays R devices n l line.DrainLine d d' es lt few h is carried p =
     let all = drained R devices l.device n d d' es lt few h p in
     record { entries = all.made.entries; sends_these = all.made.sends_these; after = more_accepted n (n + 1) d' (omega arith) all.made.after }
-plays R devices n l line.Dumps d d' es lt few h is carried p = absurd p
+plays R devices n l line.DumpLine d d' es lt few h is carried p = absurd p
 
 -- ---- all lines
 

@@ -16,9 +16,9 @@ use Rattle.tcmu_types.specs.Fields.{after_word, only_if, pieces, before_hash, fi
 use Rattle.text_model.specs.Words.{verb_of}
 use Rattle.text_model.specs.Lines.{one_field, three_fields, submit_fields, device_fields, DeviceFields, LastFields, last_fields, PayloadField, NoPayload, InBytes, OutRuns}
 use Rattle.text_model.specs.Config.{ConfigData, config_of}
-use Rattle.text_model.specs.ScenarioData.{DeviceLineData, LineData, LineWhat, Makes, Drains, Dumps, ScenarioData}
+use Rattle.text_model.specs.ScenarioData.{DeviceLineData, LineData, LineWhat, EventLine, DrainLine, DumpLine, ScenarioData}
 use Rattle.text_model.specs.ScenarioRules.{IsDeviceLine}
-use Rattle.text_model.specs.Said.{Said, Opens, Adds, device_at, new_name, device_config, is_own, settings_of, payload_of, device_line, submit_line, plain_line, number_at, number_line, tmr_line, said_by}
+use Rattle.text_model.specs.Said.{Said, SaysDevice, SaysLine, device_at, new_name, device_config, is_own, settings_of, payload_of, device_line, submit_line, plain_line, number_at, number_line, tmr_line, said_by}
 use Rattle.text_model.specs.Scenario.{with_rules, is_not_yet, with_said, with_fields, with_text, with_lines, nothing_yet, scenario_of, Bad}
 use Rattle.tcmu_types.specs.Lists.{Every}
 use Rattle.text_model.specs.declared.faults.ConfigFault.{ConfigFault}
@@ -110,8 +110,8 @@ abbrev IsLegible : ConfigData → Type 0
 IsLegible c = (0 < length c.fails → c.protected ≡ false) × FileLacks 58 c.kind × FileLacks 35 c.kind
 
 abbrev IsCarriedSaid : Said → Type 0
-IsCarriedSaid (Opens d) = IsLegible d.config
-IsCarriedSaid (Adds l) = IsCarriedWhat l.what
+IsCarriedSaid (SaysDevice d) = IsLegible d.config
+IsCarriedSaid (SaysLine l) = IsCarriedWhat l.what
 
 payload_bytes : (p : PayloadField) (x : List ℕ × ℕ) → payload_of p ≡ Ok x → AreBytes x.0
 payload_bytes NoPayload x e = subst (λ (y : List ℕ × ℕ). AreBytes y.0) (same_ok _ x e) tt
@@ -209,21 +209,21 @@ said_carries : (s : ScenarioData) (v : Verb) (fields : List (List ℕ)) (said : 
 unfolding said_by
 said_carries s verb.Device fields said clean e = device_carries s fields said clean e
 said_carries s verb.Submit fields said clean e = submit_carries s fields said e
-said_carries s verb.Dispatch fields said clean e = plain_carries s (Makes ev.Dispatch) fields said tt e
+said_carries s verb.Dispatch fields said clean e = plain_carries s (EventLine ev.Dispatch) fields said tt e
 said_carries s verb.Handle fields said clean e = number_carries s 1 1000000000 ev.Handle fields said (λ n. tt) e
 said_carries s verb.Respond fields said clean e = number_carries s 1 1000000000 ev.Respond fields said (λ n. tt) e
-said_carries s verb.Publish fields said clean e = plain_carries s (Makes ev.Publish) fields said tt e
-said_carries s verb.Clean fields said clean e = plain_carries s (Makes ev.Clean) fields said tt e
-said_carries s verb.Enter fields said clean e = plain_carries s (Makes ev.Enter) fields said tt e
+said_carries s verb.Publish fields said clean e = plain_carries s (EventLine ev.Publish) fields said tt e
+said_carries s verb.Clean fields said clean e = plain_carries s (EventLine ev.Clean) fields said tt e
+said_carries s verb.Enter fields said clean e = plain_carries s (EventLine ev.Enter) fields said tt e
 said_carries s verb.Tick fields said clean e = number_carries s 0 1000000 ev.Tick fields said (λ n. tt) e
-said_carries s verb.Block fields said clean e = plain_carries s (Makes ev.Block) fields said tt e
-said_carries s verb.Unblock fields said clean e = plain_carries s (Makes ev.Unblock) fields said tt e
+said_carries s verb.Block fields said clean e = plain_carries s (EventLine ev.Block) fields said tt e
+said_carries s verb.Unblock fields said clean e = plain_carries s (EventLine ev.Unblock) fields said tt e
 said_carries s verb.Reset fields said clean e = number_carries s 1 2 ev.Reset fields said (λ n. tt) e
-said_carries s verb.Restart fields said clean e = plain_carries s (Makes ev.Restart) fields said tt e
+said_carries s verb.Restart fields said clean e = plain_carries s (EventLine ev.Restart) fields said tt e
 said_carries s verb.Tmr fields said clean e = tmr_carries s fields said e
-said_carries s verb.Stat fields said clean e = plain_carries s (Makes ev.Stat) fields said tt e
-said_carries s verb.Dump fields said clean e = plain_carries s Dumps fields said tt e
-said_carries s verb.Drain fields said clean e = plain_carries s Drains fields said tt e
+said_carries s verb.Stat fields said clean e = plain_carries s (EventLine ev.Stat) fields said tt e
+said_carries s verb.Dump fields said clean e = plain_carries s DumpLine fields said tt e
+said_carries s verb.Drain fields said clean e = plain_carries s DrainLine fields said tt e
 
 -- ---- scenarios
 
@@ -232,8 +232,8 @@ record IsCarriedAll (s : ScenarioData) : Type 0 where
   devices : Every (λ d. IsLegible d.config) s.devices
 
 rules_carry : (s t : ScenarioData) (said : Said) → IsCarriedAll s → IsCarriedSaid said → with_rules s said ≡ Ok t → IsCarriedAll t
-rules_carry s t (Opens d) k n e = subst IsCarriedAll (kept_device s t d e).0 (record { lines = k.lines; devices = every-append (λ (x : DeviceLineData). IsLegible x.config) s.devices (d ∷ []) k.devices (n, tt) })
-rules_carry s t (Adds l) k n e = subst IsCarriedAll (kept_line s t l e).0 (record { lines = every-append (λ (x : LineData). IsCarriedWhat x.what) s.lines (l ∷ []) k.lines (n, tt); devices = k.devices })
+rules_carry s t (SaysDevice d) k n e = subst IsCarriedAll (kept_device s t d e).0 (record { lines = k.lines; devices = every-append (λ (x : DeviceLineData). IsLegible x.config) s.devices (d ∷ []) k.devices (n, tt) })
+rules_carry s t (SaysLine l) k n e = subst IsCarriedAll (kept_line s t l e).0 (record { lines = every-append (λ (x : LineData). IsCarriedWhat x.what) s.lines (l ∷ []) k.lines (n, tt); devices = k.devices })
 
 with_said_carries : (s t : ScenarioData) (said : Said) → IsCarriedAll s → IsCarriedSaid said → with_said s said ≡ Ok t → IsCarriedAll t
 unfolding with_said

@@ -18,7 +18,7 @@ use Rattle.text_model.specs.Config.{ConfigData, MediumData, InMemory, InFile, is
 use Rattle.text_model.specs.Lines.{LastFields, last_fields, DeviceFields, device_fields}
 use Rattle.text_model.specs.ScenarioData.{DeviceLineData, ScenarioData}
 use Rattle.text_model.specs.ScenarioRules.{IsMedium}
-use Rattle.text_model.specs.Said.{Opens, has_name, new_name, is_own, device_config, ring_of, qfull_of, pages_of, settings_of, device_line, said_by}
+use Rattle.text_model.specs.Said.{SaysDevice, has_name, new_name, is_own, device_config, ring_of, qfull_of, pages_of, settings_of, device_line, said_by}
 use Rattle.text_model.specs.Scenario.{with_fields, with_text}
 use Rattle.text_model.specs.Text.{spaced, config_text, flags_text, last_text, settings_text, device_spelling}
 use Rattle.text_laws.specs.Words.{is_field_byte, IsWord, AreWords}
@@ -202,7 +202,7 @@ config_again s d is new =
     ap (λ r. elim r [ Ok c ↦ only_if (is_own s d.name) c | Err e ↦ None ]) (configs_again d.config is.config)
     ∙ cond-true _ _ _ (and_from _ _ (same_text d.config.name d.name is.line.config_name) (ap not new.file))
 
-line_says : (s : ScenarioData) (d : DeviceLineData) → IsSpelledDevice d → IsNew s d → device_line s (d.name ∷ config_text d.config ∷ settings_list d.settings) ≡ Ok (Opens d)
+line_says : (s : ScenarioData) (d : DeviceLineData) → IsSpelledDevice d → IsNew s d → device_line s (d.name ∷ config_text d.config ∷ settings_list d.settings) ≡ Ok (SaysDevice d)
 unfolding device_line new_name
 line_says s d is new =
     let last = last_again d.settings is.line.settings in

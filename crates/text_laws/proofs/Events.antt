@@ -17,7 +17,7 @@ use Rattle.text_model.specs.Words.{verb_of}
 use Rattle.text_model.specs.Lines.{submit_fields, PayloadField, NoPayload, InBytes, OutRuns, payload_fields}
 use Rattle.text_model.specs.ScenarioData.{ScenarioData, LineWhat}
 use Rattle.text_model.specs.ScenarioRules.{IsNote}
-use Rattle.text_model.specs.Said.{Adds, device_at, said_by, plain_line, number_at, tmr_line, submit_line, payload_of}
+use Rattle.text_model.specs.Said.{SaysLine, device_at, said_by, plain_line, number_at, tmr_line, submit_line, payload_of}
 use Rattle.text_model.specs.Scenario.{with_said, with_fields, with_text}
 use Rattle.text_model.specs.Text.{spaced, event_text, command_text, data_fields, serials_text, runs_text}
 use Rattle.tcmu_types.specs.Hex.{hex_byte}
@@ -38,12 +38,12 @@ line_again s w fs rest h t =
 
 -- ---- lines of a name alone
 
-plain_said : (s : ScenarioData) (at : ℕ) (name : List ℕ) (what : LineWhat) → device_at s name ≡ Some at → plain_line s what (name ∷ []) ≡ Ok (Adds (record { device = at; what = what }))
+plain_said : (s : ScenarioData) (at : ℕ) (name : List ℕ) (what : LineWhat) → device_at s name ≡ Some at → plain_line s what (name ∷ []) ≡ Ok (SaysLine (record { device = at; what = what }))
 unfolding plain_line
 plain_said s at name what d = rw d refl
 
 abbrev Again : ScenarioData → ℕ → List ℕ → EventData → List ℕ → Type 0
-Again s at name e answer = with_text s (event_text name e ++ (codes " # " ++ answer)) ≡ with_said s (Adds (made at e))
+Again s at name e answer = with_text s (event_text name e ++ (codes " # " ++ answer)) ≡ with_said s (SaysLine (made at e))
 
 dispatch_again : (s : ScenarioData) (at : ℕ) (name answer : List ℕ) → device_at s name ≡ Some at → is_name name ≡ true → Again s at name ev.Dispatch answer
 unfolding event_text with_fields verb_of said_by plain_line
@@ -167,7 +167,7 @@ payload_again c is h = go (takes_payload c.cdb) is.directed
     go true e = out (nat_eq (length c.sent) 0) refl (eqb-true _ _ e)
     go false e = into (nat_eq c.in_len 0) refl (eqb-true _ _ e)
 
-submit_said : (s : ScenarioData) (at : ℕ) (name : List ℕ) (c : CommandData) → device_at s name ≡ Some at → IsCommand c → IsCarried c → submit_line s (name ∷ c.init ∷ decimal c.tag ∷ flat_map hex_byte c.cdb ∷ data_fields c) ≡ Ok (Adds (made at (ev.Submit c)))
+submit_said : (s : ScenarioData) (at : ℕ) (name : List ℕ) (c : CommandData) → device_at s name ≡ Some at → IsCommand c → IsCarried c → submit_line s (name ∷ c.init ∷ decimal c.tag ∷ flat_map hex_byte c.cdb ∷ data_fields c) ≡ Ok (SaysLine (made at (ev.Submit c)))
 unfolding submit_line submit_fields
 submit_said s at name c d is h =
     let p = payload_again c is h in

@@ -18,7 +18,7 @@ use Rattle.text_model.proofs.ScenarioLaws.{scenario_is}
 use Rattle.block_engine.specs.Determined.{LosesNothing}
 use Rattle.text_laws.specs.Replays.{entries_of, written, OpenAs, IsJournalOf}
 use Rattle.text_laws.specs.Values.{IsEventValue}
-use Rattle.text_laws.specs.InMemory.{memory_device, IsTextOf, IsOwnText, LawOfReplay, LawOfJournals, HasOneText, HasOneJournal}
+use Rattle.text_laws.specs.InMemory.{memory_device, IsTextInMemory, IsOwnText, LawOfReplay, LawOfJournals, HasOneText, HasOneJournal}
 use Rattle.text_laws.proofs.Asked.{IsWithinLines}
 use Rattle.text_laws.proofs.Asks.{line_value}
 use Rattle.text_laws.proofs.Carried.{spelled_read}
@@ -58,9 +58,9 @@ all_open (l ∷ ls) ds e =
 pub has_one_text : HasOneText
 has_one_text bytes t u r s read read' is it = go r (same_ok r s (sym read ∙ read')) is
   where
-    go : (r : ScenarioData) → r ≡ s → IsTextOf r t → t ≡ u
+    go : (r : ScenarioData) → r ≡ s → IsTextInMemory r t → t ≡ u
     go r same is =
-        let mine : IsTextOf s t = subst (λ (x : ScenarioData). IsTextOf x t) same is in
+        let mine : IsTextInMemory s t = subst (λ (x : ScenarioData). IsTextInMemory x t) same is in
         let starts = all_open s.devices mine.opened mine.memory in
         let devices : it.opened ≡ mine.opened = same_some it.opened mine.opened (sym it.memory ∙ mine.memory) in
         one_text bytes s mine.opened t u read' starts.0 starts.1 mine.replay (subst (λ (x : List Device). IsReplayOf Serves s.devices x s.lines u) devices it.replay)
@@ -68,7 +68,7 @@ has_one_text bytes t u r s read read' is it = go r (same_ok r s (sym read ∙ re
 -- the text of a scenario's replay is its own
 own_text : (text : List ℕ) (t : ScenarioData) (opened : List Device) → scenario_of text ≡ Ok t → each memory_device t.devices ≡ Some opened → IsReplayOf Serves t.devices opened t.lines text → IsOwnText t text
 own_text text t opened read memory replay =
-    let is : IsTextOf t text = record { opened = opened; memory = memory; replay = replay } in
+    let is : IsTextInMemory t text = record { opened = opened; memory = memory; replay = replay } in
     record { is = is; only = λ own it. has_one_text text own text t t read read it is }
 
 pub law_of_replay : LawOfReplay
@@ -85,13 +85,13 @@ law_of_journals bytes text s js read is keeps =
     (back, own_text text (written s.devices (entries_of js)) is.opened back is.memory replay)
 
 -- the events of a scenario's replay are events of the code
-are_values : (bytes text : List ℕ) (s : ScenarioData) → scenario_of bytes ≡ Ok s → (is : IsTextOf s text) → Every (λ j. IsEventValue j.entry.event) is.replay.journal
+are_values : (bytes text : List ℕ) (s : ScenarioData) → scenario_of bytes ≡ Ok s → (is : IsTextInMemory s text) → Every (λ j. IsEventValue j.entry.event) is.replay.journal
 are_values bytes text s read is =
     let starts = all_open s.devices is.opened is.memory in
     let asked = replay_asked Serves bytes text s is.opened read starts.0 is.replay in
     every-mapped (λ (j : Journaled). j.entry) (λ (e : EntryData). IsEventValue e.event) is.replay.journal (every-weaker (IsWithinLines (length s.devices)) (λ (e : EntryData). IsEventValue e.event) (entries_of is.replay.journal) (λ e h. line_value e.event h.event h.bytes) asked.entries)
 
-journal_of : (bytes text : List ℕ) (s : ScenarioData) → scenario_of bytes ≡ Ok s → (is : IsTextOf s text) → IsJournalOf Serves s.devices is.opened is.replay.journal is.replay.ends text
+journal_of : (bytes text : List ℕ) (s : ScenarioData) → scenario_of bytes ≡ Ok s → (is : IsTextInMemory s text) → IsJournalOf Serves s.devices is.opened is.replay.journal is.replay.ends text
 journal_of bytes text s read is = let starts = all_open s.devices is.opened is.memory in replay_journal Serves bytes text s is.opened read starts.0 is.replay
 
 pub has_one_journal : HasOneJournal

@@ -97,7 +97,7 @@ opened_sound ls ds sp h = every-weaker (HasAccepted 0) (λ d. IsSound d.state) d
 -- ---- journals
 
 -- devices from which a journal goes on to its end
-pub record GoesOn (R : HandlerRelation) (ls : List DeviceLineData) (ds : List Device) (js : List Journaled) (ends : List Device) : Type 0 where
+pub record ReadsOn (R : HandlerRelation) (ls : List DeviceLineData) (ds : List Device) (js : List Journaled) (ends : List Device) : Type 0 where
   pub count : length ds ≡ length ls
   pub last : length ends ≡ length ls
   pub sound : AreSound ds
@@ -111,9 +111,9 @@ record Behind (R : HandlerRelation) (ls : List DeviceLineData) (ds : List Device
   mid : Device
   step : Step R device j.entry mid
   log : mid.state.log ≡ device.state.log ++ j.completions
-  rest : GoesOn R ls (slice_set ds j.entry.device mid) js ends
+  rest : ReadsOn R ls (slice_set ds j.entry.device mid) js ends
 
-behind : (R : HandlerRelation) (ls : List DeviceLineData) (ds : List Device) (j : Journaled) (js : List Journaled) (ends : List Device) → GoesOn R ls ds (j ∷ js) ends → Behind R ls ds j js ends
+behind : (R : HandlerRelation) (ls : List DeviceLineData) (ds : List Device) (j : Journaled) (js : List Journaled) (ends : List Device) → ReadsOn R ls ds (j ∷ js) ends → Behind R ls ds j js ends
 behind R ls ds j js ends h =
     let at = h.within.0 in
     let first = get_within ds j.entry.device (omega (arith, at, h.count)) in
@@ -142,7 +142,7 @@ EntriesTell ls (j ∷ js) [] = ⊥
 EntriesTell ls (j ∷ js) (f ∷ fs) = Tells ls j f × EntriesTell ls js fs
 
 pub journals_same : (R Q : HandlerRelation) (ls : List DeviceLineData) (ds es : List Device) (js fs : List Journaled) (ends lasts : List Device) → AreAlike ds es
-    → GoesOn R ls ds js ends → GoesOn Q ls es fs lasts → EntriesTell ls js fs → (js ≡ fs) × AreAlike ends lasts
+    → ReadsOn R ls ds js ends → ReadsOn Q ls es fs lasts → EntriesTell ls js fs → (js ≡ fs) × AreAlike ends lasts
 journals_same R Q ls ds es [] [] ends lasts alike h k e = (
   refl,
   λ at x y p q.
@@ -161,7 +161,7 @@ journals_same R Q ls ds es (j ∷ js) (f ∷ fs) ends lasts alike h k e =
     let one = step_same R Q tells.line.settings.qfull a.device b.device a.mid b.mid j f same (every_at (λ d. IsSound d.state) ds j.entry.device a.device h.sound a.found) (every_at (λ d. IsSound d.state) es f.entry.device b.device k.sound b.found)
     tells.device tells.event tells.answer a.step b.step a.log b.log in
     let later = alike_set ds es j.entry.device a.device b.device a.mid b.mid alike a.found b_found one.1 in
-    let goes = subst (λ (n : ℕ). GoesOn Q ls (slice_set es n b.mid) fs lasts) (sym tells.device) b.rest in
+    let goes = subst (λ (n : ℕ). ReadsOn Q ls (slice_set es n b.mid) fs lasts) (sym tells.device) b.rest in
     let rest = journals_same R Q ls (slice_set ds j.entry.device a.mid) (slice_set es j.entry.device b.mid) js fs ends lasts later a.rest goes e.1 in
     (ap (λ (x : Journaled). x ∷ js) one.0 ∙ ap (λ (xs : List Journaled). f ∷ xs) rest.0, rest.1)
 
@@ -206,7 +206,7 @@ all_readable R ls opened ps ends text values is =
     let journal = entries_journal R ls opened ps ends text is in
     readable (length ls) ps is.devices values (journal_asks R ls opened (entries_in ps) ends (own_text ls ps ends) journal) (journal_named R ls opened (entries_in ps) ends (own_text ls ps ends) journal)
 
-goes_on : (R : HandlerRelation) (ls : List DeviceLineData) (opened : List Device) (ps : List Printed) (ends : List Device) (text : List ℕ) → Every IsSpelledDevice ls → IsListOf R ls opened ps ends text → GoesOn R ls opened (entries_in ps) ends
+goes_on : (R : HandlerRelation) (ls : List DeviceLineData) (opened : List Device) (ps : List Printed) (ends : List Device) (text : List ℕ) → Every IsSpelledDevice ls → IsListOf R ls opened ps ends text → ReadsOn R ls opened (entries_in ps) ends
 goes_on R ls opened ps ends text sp is =
     let journal = entries_journal R ls opened ps ends text is in
     record { count = opened_count ls opened is.opens; last = is.count; sound = opened_sound ls opened sp is.opens; within = journal.devices; legal = journal.legal }

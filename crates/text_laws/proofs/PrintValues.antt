@@ -4,7 +4,7 @@ use Rattle.std.specs.List.{filter}
 use Rattle.tcmu_model.specs.Device.{Device}
 use Rattle.text_model.specs.ScenarioData.{DeviceLineData}
 use Rattle.tcmu_types.specs.Lists.{Every}
-use Rattle.tcmu_model.specs.Steps.{HandlerRelation, accepted_by}
+use Rattle.tcmu_model.specs.Steps.{HandlerRelation, most_accepted}
 use Rattle.tcmu_types.proofs.Everies.{every-filter, every_at}
 use Rattle.tcmu_types.proofs.Places.{get_within}
 use Rattle.text_laws.specs.Devices.{IsSpelledDevice}
@@ -20,7 +20,7 @@ use Rattle.text_laws.proofs.Replays.{opened_count, accepted_none}
 run_values : (R : HandlerRelation) (n : ℕ) (d d' : Device) (ps : List Printed) → HasAccepted n d → IsNumber (n + length ps) → Every HasEventValue ps → RunPrints R d ps d' → Every IsValue ps
 run_values R n d d' [] h lt v r = tt
 run_values R n d d' (AnEntry j ∷ ps) h lt v r =
-    let after = more_accepted (n + accepted_by j.entry.event) (n + 1) r.0 (omega (arith, accepts_one j.entry.event)) (step_accepts R n d r.0 j.entry h r.1) in
+    let after = more_accepted (n + most_accepted j.entry.event) (n + 1) r.0 (omega (arith, accepts_one j.entry.event)) (step_accepts R n d r.0 j.entry h r.1) in
     (v.0, run_values R (n + 1) r.0 d' ps after (omega (arith, lt)) v.1 r.3)
 run_values R n d d' (ADump at dump ∷ ps) h lt v r =
     (subst IsDumpValue (sym r.0.shows) (picture_value d.state r.0.lists h.sound r.0.sound (omega (arith, h.few, lt))), run_values R n d d' ps h (omega (arith, lt)) v.1 r.1)

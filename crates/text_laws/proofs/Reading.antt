@@ -18,7 +18,7 @@ use Rattle.text_model.specs.Several.{Journaled, journaled_text, ends_text}
 use Rattle.tcmu_types.specs.Lists.{Every}
 use Rattle.text_model.specs.ScenarioData.{DeviceLineData, LineData, ScenarioData, command_of}
 use Rattle.text_model.specs.ScenarioRules.{IsEvent, IsScenario}
-use Rattle.text_model.specs.Said.{has_name, same_file, device_at, Adds, Opens}
+use Rattle.text_model.specs.Said.{has_name, same_file, device_at, SaysLine, SaysDevice}
 use Rattle.text_model.specs.Scenario.{bytes_in, bytes_out, with_name, with_initiator, initiators, initiators_from, breaks_dump, breaks_many, with_line, with_device, is_not_yet, with_said, with_text, with_lines, nothing_yet, scenario_of}
 use Rattle.text_model.specs.Text.{spaced, line, device_text, event_text, answer_text, completion_text, event_line, entry_text, end_text}
 use Rattle.tcmu_types.proofs.Everies.{every-weaker, every-none, every_at}
@@ -139,7 +139,7 @@ keeps_many ls device h = rw (le-ltb _ _ (h.initiators device), le-ltb _ _ h.few,
 abbrev pub so_far : List DeviceLineData → List LineData → ScenarioData
 so_far ls front = record { devices = ls; lines = front }
 
-pub adds : (ls : List DeviceLineData) (front : List LineData) (at : ℕ) (e : EventData) → Fits (front ++ made at e ∷ []) → with_said (so_far ls front) (Adds (made at e)) ≡ Ok (so_far ls (front ++ made at e ∷ []))
+pub adds : (ls : List DeviceLineData) (front : List LineData) (at : ℕ) (e : EventData) → Fits (front ++ made at e ∷ []) → with_said (so_far ls front) (SaysLine (made at e)) ≡ Ok (so_far ls (front ++ made at e ∷ []))
 unfolding with_said with_line breaks_dump is_not_yet
 adds ls front at e h = rw (keeps_many (front ++ made at e ∷ []) at h) refl
 
@@ -216,7 +216,7 @@ pairs_before R (x ∷ xs) y ys h = (
 abbrev DifferInFile : DeviceLineData → DeviceLineData → Type 0
 DifferInFile d e = same_file d.config.kind e.config.kind ≡ false
 
-pub opens : (ds : List DeviceLineData) (l : DeviceLineData) → length ds + 1 ≤ 16 → with_said (so_far ds []) (Opens l) ≡ Ok (so_far (ds ++ l ∷ []) [])
+pub opens : (ds : List DeviceLineData) (l : DeviceLineData) → length ds + 1 ≤ 16 → with_said (so_far ds []) (SaysDevice l) ≡ Ok (so_far (ds ++ l ∷ []) [])
 unfolding with_said with_device is_not_yet
 opens ds l few = rw (le-ltb _ _ few) refl
 

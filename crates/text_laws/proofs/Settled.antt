@@ -28,7 +28,7 @@ use Rattle.tcmu_types.proofs.Places.{get_within}
 use Rattle.text_laws.specs.Replays.{entries_of}
 use Rattle.text_laws.specs.Settled.{OneText}
 use Rattle.text_laws.proofs.Carried.{spelled_read}
-use Rattle.text_laws.proofs.OneReading.{entry_same, GoesOn, EntriesTell, journals_same, opened_alike, opened_sound}
+use Rattle.text_laws.proofs.OneReading.{entry_same, ReadsOn, EntriesTell, journals_same, opened_alike, opened_sound}
 use Rattle.text_laws.proofs.Replays.{opened_count, replay_journal}
 use Rattle.text_laws.proofs.Sets.{every_set}
 
@@ -144,11 +144,11 @@ one_drain at d (e ∷ es) (f ∷ fs) d1 d2 m h k =
     (ap (λ (x : EntryData). x ∷ es) same.0 ∙ ap (λ (x : List EntryData). f ∷ x) rest.0, rest.1, rest.2)
 
 one_play : (at : ℕ) (d : Device) (what : LineWhat) (es fs : List EntryData) (d1 d2 : Device) → LosesNothing d.medium → Plays Serves at d what es d1 → Plays Serves at d what fs d2 → Same es fs d1 d2
-one_play at d (line.Makes event) es fs d1 d2 m h k =
+one_play at d (line.EventLine event) es fs d1 d2 m h k =
     let same = one_step d h.0 k.0 d1 d2 m (h.1 ∙ sym k.1) (h.2 ∙ sym k.2) h.3 k.3 in
     (h.4 ∙ ap (λ (x : EntryData). x ∷ []) same.0 ∙ sym k.4, same.1, same.2)
-one_play at d line.Drains es fs d1 d2 m h k = one_drain at d es fs d1 d2 m h k
-one_play at d line.Dumps es fs d1 d2 m h k = absurd h
+one_play at d line.DrainLine es fs d1 d2 m h k = one_drain at d es fs d1 d2 m h k
+one_play at d line.DumpLine es fs d1 d2 m h k = absurd h
 
 -- ==== replays
 
@@ -214,8 +214,8 @@ one_text bytes s opened t u read opens lose h k =
     let spelled = spelled_read bytes s read in
     let sound = opened_sound s.devices opened spelled opens in
     let count = opened_count s.devices opened opens in
-    let goes : GoesOn Serves s.devices opened h.journal h.ends = record { count = count; last = first.count; sound = sound; within = first.devices; legal = h.legal } in
-    let goes' : GoesOn Serves s.devices opened k.journal k.ends = record { count = count; last = other.count; sound = sound; within = other.devices; legal = k.legal } in
+    let goes : ReadsOn Serves s.devices opened h.journal h.ends = record { count = count; last = first.count; sound = sound; within = first.devices; legal = h.legal } in
+    let goes' : ReadsOn Serves s.devices opened k.journal k.ends = record { count = count; last = other.count; sound = sound; within = other.devices; legal = k.legal } in
     let journals = journals_same Serves Serves s.devices opened opened h.journal k.journal h.ends k.ends (opened_alike s.devices opened opened opens opens) goes goes' (entries_tell s.devices h.journal k.journal first.devices same.0) in
     h.whole
     ∙ ap (λ (js : List Journaled). flat_map device_text s.devices ++ flat_map (journaled_text s.devices) js ++ ends_text s.devices h.ends) journals.0

@@ -1,15 +1,15 @@
 -- What a scenario that is read carries.
 use Rattle.std.specs.Prelude.{◌≡◌, ℕ, List, Ok}
 use Rattle.tcmu_types.specs.Lists.{Every}
-use Rattle.text_model.specs.ScenarioData.{LineWhat, Makes, Drains, Dumps, ScenarioData}
+use Rattle.text_model.specs.ScenarioData.{LineWhat, EventLine, DrainLine, DumpLine, ScenarioData}
 use Rattle.text_model.specs.Scenario.{scenario_of}
 use Rattle.text_laws.specs.Lines.{CarriesBytes}
 use Rattle.text_laws.specs.Devices.{IsSpelledDevice}
 
 abbrev pub IsCarriedWhat : LineWhat → Type 0
-IsCarriedWhat (Makes e) = CarriesBytes e
-IsCarriedWhat Drains = Unit {0}
-IsCarriedWhat Dumps = Unit {0}
+IsCarriedWhat (EventLine e) = CarriesBytes e
+IsCarriedWhat DrainLine = Unit {0}
+IsCarriedWhat DumpLine = Unit {0}
 
 -- The bytes of every command that is read are bytes, and its tag is a number of 32 bits.
 abbrev pub CarriedRead : Type 0

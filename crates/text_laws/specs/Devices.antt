@@ -3,7 +3,7 @@ use Rattle.std.specs.Prelude.{◌≡◌, ℕ, ◌++◌, false, List, codes}
 use Rattle.std.specs.List.{list_any}
 use Rattle.text_model.specs.ScenarioData.{DeviceLineData, ScenarioData}
 use Rattle.text_model.specs.ScenarioRules.{IsDeviceLine}
-use Rattle.text_model.specs.Said.{has_name, same_file, Opens}
+use Rattle.text_model.specs.Said.{has_name, same_file, SaysDevice}
 use Rattle.text_model.specs.Scenario.{with_said, with_text}
 use Rattle.text_model.specs.Text.{device_spelling}
 use Rattle.text_laws.specs.Configs.{FileLacks, IsSpelledConfig}
@@ -23,4 +23,4 @@ pub record IsNew (s : ScenarioData) (d : DeviceLineData) : Type 0 where
 abbrev pub DevicesAgain : Type 0
 DevicesAgain =
     (s : ScenarioData) (d : DeviceLineData) (answer : List ℕ)
-    → IsSpelledDevice d → IsNew s d → with_text s (device_spelling d ++ (codes " # " ++ answer)) ≡ with_said s (Opens d)
+    → IsSpelledDevice d → IsNew s d → with_text s (device_spelling d ++ (codes " # " ++ answer)) ≡ with_said s (SaysDevice d)

@@ -21,15 +21,15 @@ memory_device l =
     ]
 
 -- the text of a replay of a scenario over media in memory
-pub record IsTextOf (s : ScenarioData) (text : List ℕ) : Type 0 where
+pub record IsTextInMemory (s : ScenarioData) (text : List ℕ) : Type 0 where
   pub opened : List Device
   pub memory : each memory_device s.devices ≡ Some opened
   pub replay : IsReplayOf Serves s.devices opened s.lines text
 
 -- the text is the one text of the scenario's own replay
 pub record IsOwnText (s : ScenarioData) (text : List ℕ) : Type 0 where
-  pub is : IsTextOf s text
-  pub only : (own : List ℕ) → IsTextOf s own → own ≡ text
+  pub is : IsTextInMemory s text
+  pub only : (own : List ℕ) → IsTextInMemory s own → own ≡ text
 
 -- the text of a journal on devices over media in memory, which leaves them nothing to do, as a replay and as a live run do
 pub record IsJournalText (ls : List DeviceLineData) (js : List Journaled) (text : List ℕ) : Type 0 where
@@ -44,7 +44,7 @@ pub record IsJournalText (ls : List DeviceLineData) (js : List Journaled) (text 
 abbrev pub LawOfReplay : Type 0
 LawOfReplay =
     (bytes text : List ℕ) (s : ScenarioData)
-    → scenario_of bytes ≡ Ok s → (is : IsTextOf s text) → length text ≤ 4194304 → length is.replay.journal ≤ 20000
+    → scenario_of bytes ≡ Ok s → (is : IsTextInMemory s text) → length text ≤ 4194304 → length is.replay.journal ≤ 20000
     → (t : ScenarioData) × (scenario_of text ≡ Ok t) × IsOwnText t text
 
 -- The same of every journal on the devices of a scenario, which leaves them nothing to do: where its text keeps the limits of
@@ -57,12 +57,12 @@ LawOfJournals =
 
 -- A scenario over media in memory has one text.
 abbrev pub HasOneText : Type 0
-HasOneText = (bytes t u : List ℕ) (r s : ScenarioData) → scenario_of bytes ≡ Ok r → scenario_of bytes ≡ Ok s → IsTextOf r t → IsTextOf s u → t ≡ u
+HasOneText = (bytes t u : List ℕ) (r s : ScenarioData) → scenario_of bytes ≡ Ok r → scenario_of bytes ≡ Ok s → IsTextInMemory r t → IsTextInMemory s u → t ≡ u
 
 -- Texts of scenarios' replays over media in memory that are the same are of the same devices, and of the same journal: the same
 -- entries, with the same answers and the same completions.
 abbrev pub HasOneJournal : Type 0
 HasOneJournal =
     (bytes others text : List ℕ) (s t : ScenarioData)
-    → scenario_of bytes ≡ Ok s → scenario_of others ≡ Ok t → (is : IsTextOf s text) → (it : IsTextOf t text)
+    → scenario_of bytes ≡ Ok s → scenario_of others ≡ Ok t → (is : IsTextInMemory s text) → (it : IsTextInMemory t text)
     → (s.devices ≡ t.devices) × (is.replay.journal ≡ it.replay.journal)

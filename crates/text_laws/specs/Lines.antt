@@ -4,9 +4,9 @@ use Rattle.tcmu_types.specs.Naming.{is_name}
 use Rattle.tcmu_types.specs.Data.{CommandData, DoneData}
 use Rattle.tcmu_types.specs.Events.{EventData}
 use Rattle.tcmu_types.specs.Events as ev
-use Rattle.text_model.specs.ScenarioData.{LineData, Makes, ScenarioData}
+use Rattle.text_model.specs.ScenarioData.{LineData, EventLine, ScenarioData}
 use Rattle.text_model.specs.ScenarioRules.{IsEvent}
-use Rattle.text_model.specs.Said.{device_at, Adds}
+use Rattle.text_model.specs.Said.{device_at, SaysLine}
 use Rattle.text_model.specs.Scenario.{with_said, with_text}
 use Rattle.text_model.specs.Text.{event_text, completion_text, end_text}
 use Rattle.text_laws.specs.Bytes.{AreBytes}
@@ -24,7 +24,7 @@ CarriesBytes _ = Unit {0}
 
 -- the line that makes an event of the device of this number
 abbrev pub made : ℕ → EventData → LineData
-made at e = record { device = at; what = Makes e }
+made at e = record { device = at; what = EventLine e }
 
 -- The line of an event within its limits, on a device that is there, is the event's line; what stands behind it, as the event's
 -- answer does, is a comment.
@@ -32,7 +32,7 @@ abbrev pub EventsAgain : Type 0
 EventsAgain =
     (s : ScenarioData) (at : ℕ) (name : List ℕ) (e : EventData) (answer : List ℕ)
     → device_at s name ≡ Some at → IsTrue (is_name name) → IsEvent e → CarriesBytes e
-    → with_text s (event_text name e ++ (codes " # " ++ answer)) ≡ with_said s (Adds (made at e))
+    → with_text s (event_text name e ++ (codes " # " ++ answer)) ≡ with_said s (SaysLine (made at e))
 
 -- A line that begins with `#`, as each completion and each end line does, is ignored.
 abbrev pub CommentsIgnored : Type 0

@@ -18,8 +18,8 @@ use Rattle.tcmu_types.specs.Decimals.{number_of, rising_of, IsWithin, IsRisingTo
 use Rattle.tcmu_types.specs.Fields.{only_if, pieces}
 use Rattle.text_model.specs.Config.{ConfigData, config_of}
 use Rattle.text_model.specs.Lines.{one_field, two_fields, three_fields, submit_fields, device_fields, DeviceFields, PayloadField, NoPayload, InBytes, OutRuns}
-use Rattle.text_model.specs.ScenarioData.{ScenarioData, DeviceLineData, LineData, LineWhat, Makes, Drains, Dumps}
-use Rattle.text_model.specs.Said.{Said, Opens, Adds, has_name, device_at, new_name, same_file, is_own, device_config, ring_of, qfull_of, pages_of, settings_of, payload_of, device_line, submit_line, plain_line, number_at, number_line, tmr_line, said_by}
+use Rattle.text_model.specs.ScenarioData.{ScenarioData, DeviceLineData, LineData, LineWhat, EventLine, DrainLine, DumpLine}
+use Rattle.text_model.specs.Said.{Said, SaysDevice, SaysLine, has_name, device_at, new_name, same_file, is_own, device_config, ring_of, qfull_of, pages_of, settings_of, payload_of, device_line, submit_line, plain_line, number_at, number_line, tmr_line, said_by}
 use Rattle.text_model.specs.ScenarioRules.{IsConfig, IsDeviceLine, IsNote, IsEvent, IsWhat}
 use Rattle.text_model.specs.declared.faults.ConfigFault.{ConfigFault}
 use Rattle.text_model.specs.declared.faults.Why.{Why}
@@ -41,8 +41,8 @@ pub record IsNewLine (s : ScenarioData) (l : LineData) : Type 0 where
   pub what : IsWhat l.what
 
 abbrev pub IsSaid : ScenarioData → Said → Type 0
-IsSaid s (Opens d) = IsNewDevice s d
-IsSaid s (Adds l) = IsNewLine s l
+IsSaid s (SaysDevice d) = IsNewDevice s d
+IsSaid s (SaysLine l) = IsNewLine s l
 
 -- ---- device lines
 
@@ -208,7 +208,7 @@ submit_line_is s fields said e =
       sent = fits.0;
       in_len = fits.1;
     } in
-    let new : IsNewLine s (record { device = at.0; what = Makes (ev.Submit command.0) }) = record {
+    let new : IsNewLine s (record { device = at.0; what = EventLine (ev.Submit command.0) }) = record {
       device = at_within s f.0.name at.0 at.1;
       what = subst IsCommand way.1 sound;
     } in
@@ -234,7 +234,7 @@ number_line_is : (s : ScenarioData) (low high : ℕ) (event : ℕ → EventData)
 number_line_is s low high event fields said sound e =
     let x = step (number_at s low high fields) _ said e in
     let is = number_at_is s low high fields x.0 x.1 in
-    let new : IsNewLine s (record { device = x.0.0; what = Makes (event x.0.1) }) = record { device = is.0; what = sound x.0.1 is.1 } in
+    let new : IsNewLine s (record { device = x.0.0; what = EventLine (event x.0.1) }) = record { device = is.0; what = sound x.0.1 is.1 } in
     subst (IsSaid s) (same_ok _ said x.2) new
 
 serials_are : (text ns : List ℕ) → serials_of text ≡ Some ns → IsRisingTo 1000000000 ns
@@ -256,25 +256,25 @@ tmr_line_is s fields said e =
     let kind = read_step (number_of 1 7 f.0.1) why.Number _ said at.2 in
     let serials = read_step (serials_of f.0.2) why.Number _ said kind.2 in
     let note : IsNote kind.0 serials.0 = record { known = number_within 1 7 kind.0 f.0.1 kind.1; rising = serials_are f.0.2 serials.0 serials.1 } in
-    let new : IsNewLine s (record { device = at.0; what = Makes (ev.Tmr kind.0 serials.0) }) = record { device = at_within s f.0.0 at.0 at.1; what = note } in
+    let new : IsNewLine s (record { device = at.0; what = EventLine (ev.Tmr kind.0 serials.0) }) = record { device = at_within s f.0.0 at.0 at.1; what = note } in
     subst (IsSaid s) (same_ok _ said serials.2) new
 
 pub said_is : (s : ScenarioData) (v : Verb) (fields : List (List ℕ)) (said : Said) → said_by s v fields ≡ Ok said → IsSaid s said
 unfolding said_by
 said_is s verb.Device fields said e = device_line_is s fields said e
 said_is s verb.Submit fields said e = submit_line_is s fields said e
-said_is s verb.Dispatch fields said e = plain_line_is s (Makes ev.Dispatch) fields said tt e
+said_is s verb.Dispatch fields said e = plain_line_is s (EventLine ev.Dispatch) fields said tt e
 said_is s verb.Handle fields said e = number_line_is s 1 1000000000 ev.Handle fields said (λ n w. w) e
 said_is s verb.Respond fields said e = number_line_is s 1 1000000000 ev.Respond fields said (λ n w. w) e
-said_is s verb.Publish fields said e = plain_line_is s (Makes ev.Publish) fields said tt e
-said_is s verb.Clean fields said e = plain_line_is s (Makes ev.Clean) fields said tt e
-said_is s verb.Enter fields said e = plain_line_is s (Makes ev.Enter) fields said tt e
+said_is s verb.Publish fields said e = plain_line_is s (EventLine ev.Publish) fields said tt e
+said_is s verb.Clean fields said e = plain_line_is s (EventLine ev.Clean) fields said tt e
+said_is s verb.Enter fields said e = plain_line_is s (EventLine ev.Enter) fields said tt e
 said_is s verb.Tick fields said e = number_line_is s 0 1000000 ev.Tick fields said (λ n w. w.most) e
-said_is s verb.Block fields said e = plain_line_is s (Makes ev.Block) fields said tt e
-said_is s verb.Unblock fields said e = plain_line_is s (Makes ev.Unblock) fields said tt e
+said_is s verb.Block fields said e = plain_line_is s (EventLine ev.Block) fields said tt e
+said_is s verb.Unblock fields said e = plain_line_is s (EventLine ev.Unblock) fields said tt e
 said_is s verb.Reset fields said e = number_line_is s 1 2 ev.Reset fields said (λ n w. w) e
-said_is s verb.Restart fields said e = plain_line_is s (Makes ev.Restart) fields said tt e
+said_is s verb.Restart fields said e = plain_line_is s (EventLine ev.Restart) fields said tt e
 said_is s verb.Tmr fields said e = tmr_line_is s fields said e
-said_is s verb.Stat fields said e = plain_line_is s (Makes ev.Stat) fields said tt e
-said_is s verb.Dump fields said e = plain_line_is s Dumps fields said tt e
-said_is s verb.Drain fields said e = plain_line_is s Drains fields said tt e
+said_is s verb.Stat fields said e = plain_line_is s (EventLine ev.Stat) fields said tt e
+said_is s verb.Dump fields said e = plain_line_is s DumpLine fields said tt e
+said_is s verb.Drain fields said e = plain_line_is s DrainLine fields said tt e

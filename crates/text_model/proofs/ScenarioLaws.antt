@@ -9,7 +9,7 @@ use Rattle.tcmu_types.specs.Data.{CommandData}
 use Rattle.tcmu_types.specs.Fields.{pieces, before_hash, fields_of, is_allowed}
 use Rattle.text_model.specs.Words.{verb_of}
 use Rattle.text_model.specs.ScenarioData.{ScenarioData, DeviceLineData, LineData, command_of}
-use Rattle.text_model.specs.Said.{Said, Opens, Adds, has_name, same_file, said_by}
+use Rattle.text_model.specs.Said.{Said, SaysDevice, SaysLine, has_name, same_file, said_by}
 use Rattle.text_model.specs.Scenario.{with_name, with_initiator, initiators, initiators_from, is_dump, bytes_in, bytes_out, small_at, breaks_dump, breaks_many, with_line, with_device, with_rules, is_not_yet, with_said, with_fields, with_text, with_lines, nothing_yet, scenario_of, Bad}
 use Rattle.text_model.specs.ScenarioRules.{IsDeviceLine, IsLine, IsScenario}
 use Rattle.text_model.specs.declared.faults.Why.{Why}
@@ -146,8 +146,8 @@ with_said_is s t said k n e =
     served false u e = same_ok u t e
 
     rules_are : (said : Said) (u : ScenarioData) → IsSaid s said → with_rules s said ≡ Ok u → IsScenario u
-    rules_are (Opens d) u n e = device_is s u d k n e
-    rules_are (Adds l) u n e = line_is s u l k n e
+    rules_are (SaysDevice d) u n e = device_is s u d k n e
+    rules_are (SaysLine l) u n e = line_is s u l k n e
 
 with_fields_is : (s t : ScenarioData) (fields : List (List ℕ)) → IsScenario s → with_fields s fields ≡ Ok t → IsScenario t
 unfolding with_fields

@@ -8,7 +8,7 @@ use Rattle.std.proofs.lemmas.List.Elements.{All-nil, All-cons, All-append, All-m
 use Rattle.std.proofs.lemmas.List.Quantifiers.{all_pairs_push}
 use Rattle.tcmu_types.specs.Data.{CommandData}
 use Rattle.tcmu_types.specs.Events.{EventData}
-use Rattle.text_model.specs.ScenarioData.{ScenarioData, DeviceLineData, LineData, LineWhat, Makes, Drains, Dumps, command_of}
+use Rattle.text_model.specs.ScenarioData.{ScenarioData, DeviceLineData, LineData, LineWhat, EventLine, DrainLine, DumpLine, command_of}
 use Rattle.text_model.specs.Scenario.{with_name, with_initiator, initiators, initiators_from}
 use Rattle.text_model.specs.Script.{sent_by, is_admin, admin_in, admin_of, init_line, script_of}
 use Rattle.text_model.specs.ScenarioRules.{IsWhat, IsLine, IsScenario, IsInitLine, IsAdminEvent, IsScript}
@@ -94,9 +94,9 @@ admin_one d l = here (nat_eq l.device d)
     one false e = omega arith
 
     what : (w : LineWhat) → length (admin_in w) ≤ 1
-    what (Makes e) = one (is_admin e) e
-    what Drains = omega arith
-    what Dumps = omega arith
+    what (EventLine e) = one (is_admin e) e
+    what DrainLine = omega arith
+    what DumpLine = omega arith
 
     here : (b : Bool) → length (cond b (admin_in l.what) []) ≤ 1
     here true = what l.what
@@ -105,14 +105,14 @@ admin_one d l = here (nat_eq l.device d)
 admin_is : (d : ℕ) (ds : List DeviceLineData) (l : LineData) → IsLine ds l → All IsAdminEvent (admin_of d l)
 admin_is d ds l k = here (nat_eq l.device d)
   where
-    event : (e : EventData) → IsWhat (Makes e) → (b : Bool) → is_admin e ≡ b → All IsAdminEvent (cond b (e ∷ []) [])
+    event : (e : EventData) → IsWhat (EventLine e) → (b : Bool) → is_admin e ≡ b → All IsAdminEvent (cond b (e ∷ []) [])
     event e w true is = All-cons IsAdminEvent e [] (record { kind = is; event = w }) (All-nil IsAdminEvent)
     event e w false is = All-nil IsAdminEvent
 
     what : (w : LineWhat) → IsWhat w → All IsAdminEvent (admin_in w)
-    what (Makes e) w = event e w (is_admin e) refl
-    what Drains w = All-nil IsAdminEvent
-    what Dumps w = All-nil IsAdminEvent
+    what (EventLine e) w = event e w (is_admin e) refl
+    what DrainLine w = All-nil IsAdminEvent
+    what DumpLine w = All-nil IsAdminEvent
 
     here : (b : Bool) → All IsAdminEvent (cond b (admin_in l.what) [])
     here true = what l.what k.what

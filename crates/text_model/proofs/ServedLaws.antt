@@ -5,7 +5,7 @@ use Rattle.std.proofs.lemmas.List.Elements.{All-nil, All-push}
 use Rattle.tcmu_types.specs.Fields.{pieces, before_hash, fields_of, is_allowed}
 use Rattle.text_model.specs.Words.{verb_of}
 use Rattle.text_model.specs.ScenarioData.{ScenarioData, DeviceLineData, LineData}
-use Rattle.text_model.specs.Said.{Said, Opens, Adds, said_by}
+use Rattle.text_model.specs.Said.{Said, SaysDevice, SaysLine, said_by}
 use Rattle.text_model.specs.Scenario.{is_dump, with_line, with_device, with_rules, is_not_yet, with_said, with_fields, with_text, with_lines, nothing_yet, scenario_of, Bad}
 use Rattle.text_model.specs.ScenarioRules.{IsServed}
 use Rattle.text_model.specs.declared.faults.Why.{Why}
@@ -18,7 +18,7 @@ device_served s t d k e =
     let served : IsServed (record s { devices = s.devices ++ d ∷ [] }) = record { no_dumps = k.no_dumps } in
     subst IsServed (kept_device s t d e).0 served
 
-line_served : (s t : ScenarioData) (l : LineData) → IsServed s → is_not_yet s (Adds l) ≡ false → with_line s l ≡ Ok t → IsServed t
+line_served : (s t : ScenarioData) (l : LineData) → IsServed s → is_not_yet s (SaysLine l) ≡ false → with_line s l ≡ Ok t → IsServed t
 unfolding is_not_yet
 line_served s t l k n e =
     let served : IsServed (record s { lines = s.lines ++ l ∷ [] }) = record {
@@ -38,8 +38,8 @@ said_served s t said k e =
     parts false u e = (refl, same_ok u t e)
 
     by_rules : (said : Said) (u : ScenarioData) → is_not_yet s said ≡ false → with_rules s said ≡ Ok u → IsServed u
-    by_rules (Opens d) u n e = device_served s u d k e
-    by_rules (Adds l) u n e = line_served s u l k n e
+    by_rules (SaysDevice d) u n e = device_served s u d k e
+    by_rules (SaysLine l) u n e = line_served s u l k n e
 
 fields_served : (s t : ScenarioData) (fields : List (List ℕ)) → IsServed s → with_fields s fields ≡ Ok t → IsServed t
 unfolding with_fields

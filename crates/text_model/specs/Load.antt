@@ -60,7 +60,7 @@ load_line what = record { device = 0; what = what }
 
 -- the i-th command, and a drain behind each sixteenth
 unfoldable pub load_step : ℕ → ℕ → List LineData
-load_step i x = load_line (line.Makes (ev.Submit (load_command i x))) ∷ (if i % 16 == 0 then load_line line.Drains ∷ [] else [])
+load_step i x = load_line (line.EventLine (ev.Submit (load_command i x))) ∷ (if i % 16 == 0 then load_line line.DrainLine ∷ [] else [])
 
 unfoldable pub load_lines : ℕ → ℕ → List LineData
 load_lines seed zero = []
@@ -82,15 +82,15 @@ load_scenario_data seed count = record { devices = load_device ∷ []; lines = l
 -- ==== the summary
 
 -- the command of a submit that was accepted under this serial
-abbrev pub accepted_by : ℕ → EventData → AnswerData → Option CommandData
-accepted_by s (ev.Submit c) (ev.Submitted (submit.Queued t)) = if t == s then Some c else None
-accepted_by s (ev.Submit c) (ev.Submitted (submit.Delayed t)) = if t == s then Some c else None
-accepted_by s event answer = None
+abbrev pub accepted_under : ℕ → EventData → AnswerData → Option CommandData
+accepted_under s (ev.Submit c) (ev.Submitted (submit.Queued t)) = if t == s then Some c else None
+accepted_under s (ev.Submit c) (ev.Submitted (submit.Delayed t)) = if t == s then Some c else None
+accepted_under s event answer = None
 
 -- the command that these entries accepted under a serial
 abbrev pub accepted_as : ℕ → List EntryData → Option CommandData
 accepted_as s [] = None
-accepted_as s (e ∷ es) = elim (accepted_by s e.event e.answer) [ Some c ↦ Some c | None ↦ accepted_as s es ]
+accepted_as s (e ∷ es) = elim (accepted_under s e.event e.answer) [ Some c ↦ Some c | None ↦ accepted_as s es ]
 
 -- the bytes that a completion moved: those that its write sent, or those that its read got
 abbrev pub moved_by : Option CommandData → DoneData → ℕ

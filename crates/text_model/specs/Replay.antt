@@ -9,7 +9,7 @@ use Rattle.text_model.specs.ScenarioData as line
 
 -- these entries are those that a line asks for: its event, or the events of a drain; dumps are not served yet
 abbrev pub Plays : HandlerRelation → ℕ → Device → LineWhat → List EntryData → Device → Type 0
-Plays R device d (line.Makes event) es d' =
+Plays R device d (line.EventLine event) es d' =
     (e : EntryData) × (e.device ≡ device) × (e.event ≡ event) × Step R d e d' × (es ≡ e ∷ [])
-Plays R device d line.Drains es d' = Drains R device d es d'
-Plays R device d line.Dumps es d' = ⊥
+Plays R device d line.DrainLine es d' = Drains R device d es d'
+Plays R device d line.DumpLine es d' = ⊥

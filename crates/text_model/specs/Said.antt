@@ -13,7 +13,7 @@ use Rattle.tcmu_types.specs.Decimals.{number_of}
 use Rattle.tcmu_types.specs.Fields.{only_if}
 use Rattle.text_model.specs.Config.{ConfigData, MediumData, InMemory, InFile, config_of}
 use Rattle.text_model.specs.Lines.{one_field, two_fields, three_fields, submit_fields, PayloadField, NoPayload, InBytes, OutRuns, DeviceFields, device_fields}
-use Rattle.text_model.specs.ScenarioData.{DeviceLineData, LineWhat, Makes, Drains, Dumps, LineData, ScenarioData}
+use Rattle.text_model.specs.ScenarioData.{DeviceLineData, LineWhat, EventLine, DrainLine, DumpLine, LineData, ScenarioData}
 use Rattle.text_model.specs.declared.faults.Why.{Why}
 use Rattle.text_model.specs.declared.faults.Why.TheVariants as why
 use Rattle.text_model.specs.declared.words.Verb.{Verb}
@@ -80,8 +80,8 @@ payload_of (OutRuns text) = ok_or (option_map (λ bytes. (bytes, 0)) (runs_of te
 -- ---- what a line says, by its fields from left to right
 
 pub data Said : Type 0 where
-  Opens : DeviceLineData → Said
-  Adds : LineData → Said
+  SaysDevice : DeviceLineData → Said
+  SaysLine : LineData → Said
 
 unfoldable pub device_line : ScenarioData → List (List ℕ) → Result Said Why
 device_line s fields = do
@@ -89,7 +89,7 @@ device_line s fields = do
   name ← ok_or (new_name s f.name) why.Name
   config ← ok_or (device_config s name f.config) why.Config
   settings ← settings_of f
-  Ok (Opens (record { name = name; config = config; settings = settings }))
+  Ok (SaysDevice (record { name = name; config = config; settings = settings }))
 
 unfoldable pub submit_line : ScenarioData → List (List ℕ) → Result Said Why
 submit_line s fields = do
@@ -100,14 +100,14 @@ submit_line s fields = do
   cdb ← ok_or (cdb_of f.cdb) why.Cdb
   payload ← payload_of f.payload
   command ← ok_or (only_if is_directed (record { init = init; tag = tag; cdb = cdb; sent = payload.0; in_len = payload.1 })) why.Direction
-  Ok (Adds (record { device = at; what = Makes (ev.Submit command) }))
+  Ok (SaysLine (record { device = at; what = EventLine (ev.Submit command) }))
 
 -- NAME alone
 unfoldable pub plain_line : ScenarioData → LineWhat → List (List ℕ) → Result Said Why
 plain_line s what fields = do
   name ← ok_or (one_field fields) why.Fields
   at ← ok_or (device_at s name) why.Name
-  Ok (Adds (record { device = at; what = what }))
+  Ok (SaysLine (record { device = at; what = what }))
 
 -- NAME and a number within its limits
 unfoldable pub number_at : ScenarioData → ℕ → ℕ → List (List ℕ) → Result (ℕ × ℕ) Why
@@ -120,7 +120,7 @@ number_at s low high fields = do
 abbrev pub number_line : ScenarioData → ℕ → ℕ → (ℕ → EventData) → List (List ℕ) → Result Said Why
 number_line s low high event fields = do
   x ← number_at s low high fields
-  Ok (Adds (record { device = x.0; what = Makes (event x.1) }))
+  Ok (SaysLine (record { device = x.0; what = EventLine (event x.1) }))
 
 unfoldable pub tmr_line : ScenarioData → List (List ℕ) → Result Said Why
 tmr_line s fields = do
@@ -128,23 +128,23 @@ tmr_line s fields = do
   at ← ok_or (device_at s f.0) why.Name
   kind ← ok_or (number_of 1 7 f.1) why.Number
   serials ← ok_or (serials_of f.2) why.Number
-  Ok (Adds (record { device = at; what = Makes (ev.Tmr kind serials) }))
+  Ok (SaysLine (record { device = at; what = EventLine (ev.Tmr kind serials) }))
 
 unfoldable pub said_by : ScenarioData → Verb → List (List ℕ) → Result Said Why
 said_by s verb.Device fields = device_line s fields
 said_by s verb.Submit fields = submit_line s fields
-said_by s verb.Dispatch fields = plain_line s (Makes ev.Dispatch) fields
+said_by s verb.Dispatch fields = plain_line s (EventLine ev.Dispatch) fields
 said_by s verb.Handle fields = number_line s 1 1000000000 ev.Handle fields
 said_by s verb.Respond fields = number_line s 1 1000000000 ev.Respond fields
-said_by s verb.Publish fields = plain_line s (Makes ev.Publish) fields
-said_by s verb.Clean fields = plain_line s (Makes ev.Clean) fields
-said_by s verb.Enter fields = plain_line s (Makes ev.Enter) fields
+said_by s verb.Publish fields = plain_line s (EventLine ev.Publish) fields
+said_by s verb.Clean fields = plain_line s (EventLine ev.Clean) fields
+said_by s verb.Enter fields = plain_line s (EventLine ev.Enter) fields
 said_by s verb.Tick fields = number_line s 0 1000000 ev.Tick fields
-said_by s verb.Block fields = plain_line s (Makes ev.Block) fields
-said_by s verb.Unblock fields = plain_line s (Makes ev.Unblock) fields
+said_by s verb.Block fields = plain_line s (EventLine ev.Block) fields
+said_by s verb.Unblock fields = plain_line s (EventLine ev.Unblock) fields
 said_by s verb.Reset fields = number_line s 1 2 ev.Reset fields
-said_by s verb.Restart fields = plain_line s (Makes ev.Restart) fields
+said_by s verb.Restart fields = plain_line s (EventLine ev.Restart) fields
 said_by s verb.Tmr fields = tmr_line s fields
-said_by s verb.Stat fields = plain_line s (Makes ev.Stat) fields
-said_by s verb.Dump fields = plain_line s Dumps fields
-said_by s verb.Drain fields = plain_line s Drains fields
+said_by s verb.Stat fields = plain_line s (EventLine ev.Stat) fields
+said_by s verb.Dump fields = plain_line s DumpLine fields
+said_by s verb.Drain fields = plain_line s DrainLine fields

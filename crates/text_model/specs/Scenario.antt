@@ -6,15 +6,15 @@ use Rattle.tcmu_types.specs.Data.{SettingsData}
 use Rattle.tcmu_types.specs.Reading.{◌>>=◌}
 use Rattle.tcmu_types.specs.Fields.{line_feed, pieces, before_hash, fields_of, is_allowed}
 use Rattle.text_model.specs.Words.{verb_of}
-use Rattle.text_model.specs.ScenarioData.{DeviceLineData, Makes, Drains, Dumps, LineData, ScenarioData, command_of}
-use Rattle.text_model.specs.Said.{Said, Opens, Adds, said_by}
+use Rattle.text_model.specs.ScenarioData.{DeviceLineData, EventLine, DrainLine, DumpLine, LineData, ScenarioData, command_of}
+use Rattle.text_model.specs.Said.{Said, SaysDevice, SaysLine, said_by}
 use Rattle.text_model.specs.declared.faults.Why.{Why}
 use Rattle.text_model.specs.declared.faults.Why.TheVariants as why
 
 -- ---- what the limits count
 
 abbrev pub is_dump : LineData → Bool
-is_dump l = elim (l.what) [ Dumps ↦ true | Makes e ↦ false | Drains ↦ false ]
+is_dump l = elim (l.what) [ DumpLine ↦ true | EventLine e ↦ false | DrainLine ↦ false ]
 
 abbrev pub bytes_in : LineData → ℕ
 bytes_in l = elim (command_of l) [ Some c ↦ c.in_len | None ↦ 0 ]
@@ -70,15 +70,15 @@ with_device s d =
     else Ok (record s { devices = s.devices ++ d ∷ [] }))
 
 abbrev pub with_rules : ScenarioData → Said → Result ScenarioData Why
-with_rules s (Opens d) = with_device s d
-with_rules s (Adds l) = with_line s l
+with_rules s (SaysDevice d) = with_device s d
+with_rules s (SaysLine l) = with_line s l
 
 -- ---- the last rule: what is not served yet
 
 -- dumps
 unfoldable pub is_not_yet : ScenarioData → Said → Bool
-is_not_yet s (Opens d) = false
-is_not_yet s (Adds l) = is_dump l
+is_not_yet s (SaysDevice d) = false
+is_not_yet s (SaysLine l) = is_dump l
 
 -- ---- lines
 

@@ -11,9 +11,9 @@ pub record DeviceLineData : Type 0 where
   pub settings : SettingsData
 
 pub data LineWhat : Type 0 where
-  Makes : EventData → LineWhat
-  Drains : LineWhat
-  Dumps : LineWhat
+  EventLine : EventData → LineWhat
+  DrainLine : LineWhat
+  DumpLine : LineWhat
 
 -- a line that is no device line, with the number of its device
 pub record LineData : Type 0 where
@@ -26,4 +26,4 @@ pub record ScenarioData : Type 0 where
 
 -- the command of a submit line
 abbrev pub command_of : LineData → Option CommandData
-command_of l = elim (l.what) [ Makes e ↦ elim e [ ev.Submit c ↦ Some c | _ ↦ None ] | Drains ↦ None | Dumps ↦ None ]
+command_of l = elim (l.what) [ EventLine e ↦ elim e [ ev.Submit c ↦ Some c | _ ↦ None ] | DrainLine ↦ None | DumpLine ↦ None ]

@@ -7,7 +7,7 @@ use Rattle.tcmu_types.specs.Events.{EventData}
 use Rattle.tcmu_types.specs.Events as ev
 use Rattle.tcmu_types.specs.Decimals.{IsRisingTo, IsWithin}
 use Rattle.text_model.specs.Config.{ConfigData, MediumData, InMemory, InFile, is_file_name}
-use Rattle.text_model.specs.ScenarioData.{DeviceLineData, LineWhat, Makes, Drains, Dumps, LineData, ScenarioData}
+use Rattle.text_model.specs.ScenarioData.{DeviceLineData, LineWhat, EventLine, DrainLine, DumpLine, LineData, ScenarioData}
 use Rattle.text_model.specs.Said.{same_file}
 use Rattle.text_model.specs.Scenario.{is_dump, small_at, bytes_in, bytes_out, initiators}
 use Rattle.text_model.specs.Script.{InitLineData, ScriptData, is_admin}
@@ -55,9 +55,9 @@ IsEvent ev.Stat = Unit {0}
 IsEvent ev.Enter = Unit {0}
 
 abbrev pub IsWhat : LineWhat → Type 0
-IsWhat (Makes event) = IsEvent event
-IsWhat Drains = Unit {0}
-IsWhat Dumps = Unit {0}
+IsWhat (EventLine event) = IsEvent event
+IsWhat DrainLine = Unit {0}
+IsWhat DumpLine = Unit {0}
 
 -- a line of one of these devices
 pub record IsLine (ds : List DeviceLineData) (l : LineData) : Type 0 where

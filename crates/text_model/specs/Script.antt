@@ -4,7 +4,7 @@ use Rattle.std.specs.List.{flat_map}
 use Rattle.tcmu_types.specs.Data.{CommandData}
 use Rattle.tcmu_types.specs.Events.{EventData}
 use Rattle.tcmu_types.specs.Events as ev
-use Rattle.text_model.specs.ScenarioData.{ScenarioData, LineData, LineWhat, Makes, Drains, Dumps, command_of}
+use Rattle.text_model.specs.ScenarioData.{ScenarioData, LineData, LineWhat, EventLine, DrainLine, DumpLine, command_of}
 use Rattle.text_model.specs.Scenario.{initiators}
 
 -- what one initiator sends
@@ -37,9 +37,9 @@ is_admin ev.Clean = false
 is_admin ev.Enter = false
 
 abbrev pub admin_in : LineWhat → List EventData
-admin_in (Makes e) = if is_admin e then e ∷ [] else []
-admin_in Drains = []
-admin_in Dumps = []
+admin_in (EventLine e) = if is_admin e then e ∷ [] else []
+admin_in DrainLine = []
+admin_in DumpLine = []
 
 -- the event of a line, where the administration of this device makes it
 abbrev pub admin_of : ℕ → LineData → List EventData

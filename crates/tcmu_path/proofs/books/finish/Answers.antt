@@ -6,14 +6,14 @@ use Rattle.tcmu_types.specs.Lists.{first_of, without_first}
 use Rattle.tcmu_model.specs.Lengths.{blocks_of}
 use Rattle.tcmu_model.specs.Events.{is_open}
 use Rattle.tcmu_types.proofs.Firsts.{without_first_missing}
-use Rattle.tcmu_path.specs.Room.{to_log, held_by, to_place}
+use Rattle.tcmu_path.specs.Room.{to_log, blocks_of_commands, to_place}
 use Rattle.tcmu_path.proofs.Rooms.{to_log_taken, held_by_taken, to_place_taken, open_logs}
 use Rattle.tcmu_path.proofs.books.finish.Goals as goal
 
 pub overflow_sub-held : goal.overflow_sub-held
 overflow_sub-held c =
     let p = is_at c.args.serial Placed in
-    let k : held_by c.args.settings.now.pages (without_first p c.args.rows.now.items) + blocks_of c.args.settings.now.pages c.in-Some.row.command ≡ held_by c.args.settings.now.pages c.args.rows.now.items = held_by_taken c.args.settings.now.pages p c.args.rows.now.items c.in-Some.row (sym c.in-Some.ensures.row) in
+    let k : blocks_of_commands c.args.settings.now.pages (without_first p c.args.rows.now.items) + blocks_of c.args.settings.now.pages c.in-Some.row.command ≡ blocks_of_commands c.args.settings.now.pages c.args.rows.now.items = held_by_taken c.args.settings.now.pages p c.args.rows.now.items c.in-Some.row (sym c.in-Some.ensures.row) in
     let b : c.blocks_of.result ≡ blocks_of c.args.settings.now.pages c.in-Some.row.command = c.blocks_of.ensures.value ∙ (ap (blocks_of c.settings.inside.pages) c.command.ensures ∙ ap (λ (s : SettingsData). blocks_of s.pages c.in-Some.row.command) c.settings.view_is) in
     omega (arith, k, b, c.requires.held)
 
@@ -37,9 +37,9 @@ returns-in-Some-into_completion-clause-room c =
 pub returns-in-Some-into_completion-clause-held : goal.returns-in-Some-into_completion-clause-held
 returns-in-Some-into_completion-clause-held c =
     let p = is_at c.args.serial Placed in
-    let k : held_by c.args.settings.now.pages (without_first p c.args.rows.now.items) + blocks_of c.args.settings.now.pages c.in-Some.row.command ≡ held_by c.args.settings.now.pages c.args.rows.now.items = held_by_taken c.args.settings.now.pages p c.args.rows.now.items c.in-Some.row (sym c.in-Some.ensures.row) in
+    let k : blocks_of_commands c.args.settings.now.pages (without_first p c.args.rows.now.items) + blocks_of c.args.settings.now.pages c.in-Some.row.command ≡ blocks_of_commands c.args.settings.now.pages c.args.rows.now.items = held_by_taken c.args.settings.now.pages p c.args.rows.now.items c.in-Some.row (sym c.in-Some.ensures.row) in
     let b : c.blocks_of.result ≡ blocks_of c.args.settings.now.pages c.in-Some.row.command = c.blocks_of.ensures.value ∙ (ap (blocks_of c.settings.inside.pages) c.command.ensures ∙ ap (λ (s : SettingsData). blocks_of s.pages c.in-Some.row.command) c.settings.view_is) in
-    let e : held_by c.args.settings.now.pages c.take_placed.new.self.items ≡ held_by c.args.settings.now.pages (without_first p c.args.rows.now.items) = ap (held_by c.args.settings.now.pages) c.take_placed.ensures.rest in
+    let e : blocks_of_commands c.args.settings.now.pages c.take_placed.new.self.items ≡ blocks_of_commands c.args.settings.now.pages (without_first p c.args.rows.now.items) = ap (blocks_of_commands c.args.settings.now.pages) c.take_placed.ensures.rest in
     omega (arith, k, b, e, c.requires.held)
 
 pub returns-in_default-into_completion-clause-room : goal.returns-in_default-into_completion-clause-room
@@ -52,9 +52,9 @@ returns-in_default-into_completion-clause-room c =
 pub returns-in_default-into_completion-clause-held : goal.returns-in_default-into_completion-clause-held
 returns-in_default-into_completion-clause-held c =
     let p = is_at c.args.serial Placed in
-    let k : held_by c.args.settings.now.pages (without_first p c.args.rows.now.items) + blocks_of c.args.settings.now.pages c.in-Some.row.command ≡ held_by c.args.settings.now.pages c.args.rows.now.items = held_by_taken c.args.settings.now.pages p c.args.rows.now.items c.in-Some.row (sym c.in-Some.ensures.row) in
+    let k : blocks_of_commands c.args.settings.now.pages (without_first p c.args.rows.now.items) + blocks_of c.args.settings.now.pages c.in-Some.row.command ≡ blocks_of_commands c.args.settings.now.pages c.args.rows.now.items = held_by_taken c.args.settings.now.pages p c.args.rows.now.items c.in-Some.row (sym c.in-Some.ensures.row) in
     let b : c.blocks_of.result ≡ blocks_of c.args.settings.now.pages c.in-Some.row.command = c.blocks_of.ensures.value ∙ (ap (blocks_of c.settings.inside.pages) c.command.ensures ∙ ap (λ (s : SettingsData). blocks_of s.pages c.in-Some.row.command) c.settings.view_is) in
-    let e : held_by c.args.settings.now.pages c.take_placed.new.self.items ≡ held_by c.args.settings.now.pages (without_first p c.args.rows.now.items) = ap (held_by c.args.settings.now.pages) c.take_placed.ensures.rest in
+    let e : blocks_of_commands c.args.settings.now.pages c.take_placed.new.self.items ≡ blocks_of_commands c.args.settings.now.pages (without_first p c.args.rows.now.items) = ap (blocks_of_commands c.args.settings.now.pages) c.take_placed.ensures.rest in
     omega (arith, k, b, e, c.requires.held)
 
 pub returns-in_default-clause-books : goal.returns-in_default-clause-books
@@ -71,7 +71,7 @@ returns-in_default-clause-room c =
 pub returns-in_default-clause-held : goal.returns-in_default-clause-held
 returns-in_default-clause-held c =
     let n : first_of (is_at c.args.serial Placed) c.args.rows.now.items ≡ None = sym c.in_default.ensures.row in
-    c.requires.held ∙ sym (ap (held_by c.args.settings.now.pages) (c.take_placed.ensures.rest ∙ without_first_missing (is_at c.args.serial Placed) c.args.rows.now.items n))
+    c.requires.held ∙ sym (ap (blocks_of_commands c.args.settings.now.pages) (c.take_placed.ensures.rest ∙ without_first_missing (is_at c.args.serial Placed) c.args.rows.now.items n))
 
 pub returns-in-Some-into_completion-clause-to_place : goal.returns-in-Some-into_completion-clause-to_place
 returns-in-Some-into_completion-clause-to_place c =

@@ -1,7 +1,7 @@
 use Rattle.std.proofs.Common.{◌≡◌, ◌∙◌, List, length, Some, sym, ap, subst}
 use Rattle.std.specs.Vec.{with_items}
 use Rattle.std.proofs.lemmas.List.{with_items_is}
-use Rattle.edge.specs.Stores.{Opened, store_of}
+use Rattle.edge.specs.Stores.{FetchGives, store_of}
 use Rattle.edge.specs.Memory.{FilesInMemory, NamedStore, content_of, place_in, files_state}
 use Rattle.edge.proofs.NamedFiles.{fetched_state, unlisted}
 use Rattle.edge.proofs.memory_files.MemFilesFiles.fetch.Goals as goal
@@ -16,7 +16,7 @@ returns-in-Some-clause-fetched c =
     let written : files ≡ c.take_out.new.files = with_items_is inside.files c.take_out.new.files (c.take_out.auto.files ∙ ap length c.deref_mut.ensures.value ∙ sym inside.files.ok.0) in
     let new : FilesInMemory = record old { files = files; fetches = c.saturating_add-self-inside.result } in
     let same = ap (λ files. record old { files = files }) c.deref_mut.ensures.value ∙ c.self.view_is in
-    subst (λ (m : FilesInMemory). Opened name (store_of (content_of c.in-Some.store)) (Some (files_state m)) (Some (files_state new))) same
+    subst (λ (m : FilesInMemory). FetchGives name (store_of (content_of c.in-Some.store)) (Some (files_state m)) (Some (files_state new))) same
     (fetched_state old c.saturating_add-self-inside.result files name c.in-Some.store c.saturating_add-self-inside.ensures
     (unlisted inside.fails.items c.saturating_add-self-inside.result inside.fetches c.saturating_add-self-inside.ensures c.if-not-contains.ensures)
     (sym opened.exact) opened.store (λ q. ap (λ (fs : List NamedStore). place_in fs q) written ∙ opened.out q))

@@ -2,7 +2,7 @@ use Rattle.std.proofs.Common.{◌≡◌, ℕ, ◌+◌, ◌<◌, ◌≤◌, ◌�
 use Rattle.tcmu_model.specs.Lengths.{blocks_of}
 use Rattle.tcmu_model.specs.Device.{Unfinished, DeviceState}
 use Rattle.tcmu_model.specs.Events.{held_blocks, blocks_in}
-use Rattle.tcmu_path.specs.Room.{held_by, to_log, to_place}
+use Rattle.tcmu_path.specs.Room.{blocks_of_commands, to_log, to_place}
 use Rattle.tcmu_types.specs.Lists.{Every}
 use Rattle.tcmu_path.specs.Tallies.{serials_of}
 use Rattle.tcmu_path.proofs.Bounds.{rows_below}
@@ -16,7 +16,7 @@ invariant_of-self-3 c =
     let u : Unfinished = c.new-row.result in
     let command : u.command ≡ c.args.command.now = ap (λ (v : Unfinished). v.command) c.new-row.ensures ∙ c.in_ok-try_clone.ensures in
     let blocks : c.blocks_of-blocks.result ≡ blocks_in c.args.self.now c.args.command.now = c.blocks_of-blocks.ensures in
-    let held : c.held_with-held.result ≡ held_by a.settings.pages us + blocks_of a.settings.pages c.args.command.now = subst (λ (d : DeviceState). c.held_with-held.result ≡ held_blocks d + blocks_in d c.args.command.now) (sym c.self.view_is) (c.held_with-held.ensures ∙ ap (λ n. held_blocks c.args.self.now + n) blocks) in
+    let held : c.held_with-held.result ≡ blocks_of_commands a.settings.pages us + blocks_of a.settings.pages c.args.command.now = subst (λ (d : DeviceState). c.held_with-held.result ≡ held_blocks d + blocks_in d c.args.command.now) (sym c.self.view_is) (c.held_with-held.ensures ∙ ap (λ n. held_blocks c.args.self.now + n) blocks) in
     let places : to_place us + 1 ≤ c.answers_to_place-places.result = subst (λ (d : DeviceState). to_place d.unfinished + 1 ≤ c.answers_to_place-places.result) (sym c.self.view_is) c.answers_to_place-places.ensures in
     let completions : to_log us + length a.delayed.items + 1 ≤ c.completions_to_log-completions.result = subst (λ (d : DeviceState). to_log d.unfinished + length d.delayed + 1 ≤ c.completions_to_log-completions.result) (sym c.self.view_is) c.completions_to_log-completions.ensures in
     plain_laid a.settings a.ring.laid c.lay.new.self.laid us c.append.new.rows.items u a.delayed.items a.delayed.items a.placed.items c.reserve.new.self.items
@@ -24,7 +24,7 @@ invariant_of-self-3 c =
     c.self.invariant
     (lays_item a.ring c.lay.new.self _ c.in_ok-lay.ensures.ok)
     (c.append.ensures.rows ∙ ap (λ (vs : List Unfinished). vs ++ u ∷ []) c.reserve-3.ensures.items)
-    (held ∙ sym (ap (λ n. held_by a.settings.pages us + n) (ap (blocks_of a.settings.pages) command)))
+    (held ∙ sym (ap (λ n. blocks_of_commands a.settings.pages us + n) (ap (blocks_of a.settings.pages) command)))
     (omega (arith, places, c.in_ok-reserve.ensures.room))
     (omega (arith, completions, c.in_ok-reserve-2.ensures.room))
     c.reserve.ensures.items

@@ -2,7 +2,7 @@ use Rattle.std.proofs.Common.{◌≡◌, ℕ, ◌+◌, ◌<◌, ◌≤◌, ◌�
 use Rattle.tcmu_model.specs.Lengths.{blocks_of}
 use Rattle.tcmu_model.specs.Device.{Unfinished, Delayed, DeviceState}
 use Rattle.tcmu_model.specs.Events.{held_blocks, blocks_in}
-use Rattle.tcmu_path.specs.Room.{held_by, to_place}
+use Rattle.tcmu_path.specs.Room.{blocks_of_commands, to_place}
 use Rattle.tcmu_types.specs.Lists.{Every}
 use Rattle.tcmu_path.specs.Tallies.{serials_of}
 use Rattle.tcmu_path.proofs.Bounds.{rows_before}
@@ -23,7 +23,7 @@ invariant_of-self-in-Some-pop c =
     let first : next.first ≡ w = same-first next.first w next.next.rest c.pop.new.self.items all in
     let command : u.command ≡ next.first.command = ap (λ (v : Unfinished). v.command) c.new.ensures ∙ (ap (λ (v : Delayed). v.command) c.waited.view_is ∙ ap (λ (v : Delayed). v.command) (sym first)) in
     let blocks : c.args.blocks ≡ blocks_in c.args.self.now u.command = next.blocks_are ∙ ap (blocks_in c.args.self.now) (sym command) in
-    let held : c.held_with-held.result ≡ held_by a.settings.pages us + blocks_of a.settings.pages u.command = subst (λ (d : DeviceState). c.held_with-held.result ≡ held_blocks d + blocks_in d u.command) (sym c.self.view_is) (c.held_with-held.ensures ∙ ap (λ n. held_blocks c.args.self.now + n) blocks) in
+    let held : c.held_with-held.result ≡ blocks_of_commands a.settings.pages us + blocks_of a.settings.pages u.command = subst (λ (d : DeviceState). c.held_with-held.result ≡ held_blocks d + blocks_in d u.command) (sym c.self.view_is) (c.held_with-held.ensures ∙ ap (λ n. held_blocks c.args.self.now + n) blocks) in
     let places : to_place us + 1 ≤ c.answers_to_place-places.result = subst (λ (d : DeviceState). to_place d.unfinished + 1 ≤ c.answers_to_place-places.result) (sym c.self.view_is) c.answers_to_place-places.ensures in
     let fewer : length a.delayed.items ≡ length (w ∷ c.pop.new.self.items) = ap (λ (ws : List Delayed). length ws) c.in-Some-pop.ensures in
     plain_laid a.settings a.ring.laid c.lay.new.self.laid us c.append.new.rows.items u a.delayed.items c.pop.new.self.items a.placed.items c.reserve.new.self.items
