@@ -31,8 +31,8 @@ Gives (Ok x) read = read ≡ Ok x
 Gives (Err e) read = Fails e read
 
 abbrev pub said_data : SaidLine → Said
-said_data (said.Opens d) = SaysDevice d
-said_data (said.Adds l) = SaysLine l
+said_data (said.Device d) = SaysDevice d
+said_data (said.Line l) = SaysLine l
 
 -- a device with a new name, or a line of a device that is there
 abbrev pub HasPlace : ScenarioData → Said → Type 0

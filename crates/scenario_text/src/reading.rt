@@ -22,8 +22,8 @@ fn is_not_yet(so_far: &SoFar, said: &SaidLine) -> bool
     ensures { result ≡ is_not_yet so_far.now (said_data said.now) }
 {
     match said {
-        SaidLine::Opens(_) => false,
-        SaidLine::Adds(line) => is_dump(line),
+        SaidLine::Device(_) => false,
+        SaidLine::Line(line) => is_dump(line),
     }
 }
 
@@ -32,8 +32,8 @@ fn with_rules(alloc: Global, so_far: SoFar, said: SaidLine) -> Result<SoFar, Lin
     ensures { LineGives (λ x. x) result (with_rules so_far (said_data said)) }
 {
     match said {
-        SaidLine::Opens(device) => so_far.with_device(alloc, device),
-        SaidLine::Adds(line) => so_far.with_line(line),
+        SaidLine::Device(device) => so_far.with_device(alloc, device),
+        SaidLine::Line(line) => so_far.with_line(line),
     }
 }
 

@@ -28,8 +28,8 @@ use tcmu_types::{
 /// What a line says: a device, or a line of a device.
 #[derive(Debug, Drop)]
 pub enum SaidLine {
-    Opens(DeviceLine),
-    SaysLine(Line),
+    Device(DeviceLine),
+    Line(Line),
 }
 
 /// Whether a config has this name and a file of its own.
@@ -149,7 +149,7 @@ fn device_line(alloc: Global, so_far: &SoFar, text: &[u8]) -> Result<SaidLine, L
     let name = new_name(so_far, f.name).ok_or(Why::Name)?;
     let config = device_config(alloc, so_far, name.as_bytes(), f.config)?.ok_or(Why::Config)?;
     let settings = settings_of(&f)?;
-    Ok(SaidLine::Opens(DeviceLine {
+    Ok(SaidLine::Device(DeviceLine {
         name,
         config,
         settings,
@@ -204,7 +204,7 @@ fn plain_line(so_far: &SoFar, what: LineKind, text: &[u8]) -> Result<SaidLine, L
 {
     let name = one_field(text).ok_or(Why::Fields)?;
     let device = so_far.device_at(name).ok_or(Why::Name)?;
-    Ok(SaidLine::SaysLine(Line { device, what }))
+    Ok(SaidLine::Line(Line { device, what }))
 }
 
 #[tactic(auto, unfolding(text_model::specs::Said::number_at))]
@@ -221,7 +221,7 @@ fn number_at(so_far: &SoFar, low: u32, high: u32, text: &[u8]) -> Result<(u32, u
 fn event_line(device: u32, event: Event) -> SaidLine
     ensures { said_data result ≡ SaysLine (record { device = device; what = EventLine (event_data event) }) }
 {
-    SaidLine::SaysLine(Line {
+    SaidLine::Line(Line {
         device,
         what: LineKind::Event(event),
     })
