@@ -59,6 +59,7 @@ abbrev pub lists_after : DeviceState → List Taken → EventData → AnswerData
 lists_after d lists (ev.Submit c) (ev.Submitted (submit.Queued s)) after = with_taken d lists s c
 lists_after d lists ev.Enter (ev.Entered (enter.Entered s)) after =
     elim (d.delayed) [ [] ↦ lists | w ∷ ws ↦ with_taken d lists s w.command ]
+lists_after d lists ev.Stat answer after = lists
 lists_after d lists event answer after = kept_lists after lists
 
 -- the block lists of a run
