@@ -36,6 +36,7 @@ use Rattle.ring_laws.proofs.AnswerData.{returned-other, returned-data, scattered
 use Rattle.ring_laws.proofs.PlacedAnswers.{Into, goes_into}
 use Rattle.tcmu_types.proofs.Rises.{among-append, among_every, every-among, differ_front}
 use Rattle.tcmu_model.proofs.DrainEnds.{laid_command}
+use Rattle.tcmu_model.proofs.ListsCleaned.{differ-right}
 
 -- ==== what is apart
 
@@ -50,10 +51,6 @@ differ-split (x ∷ xs) ys b d h =
     absurd (false≢true (sym d.0 ∙ ap (is_among (xs ++ ys)) q ∙ m)))
     (λ (e : eqb x b ≡ false). rw e (differ-split xs ys b d.1 h))
     (cases_Bool (eqb x b))
-
-pub differ-right : (xs ys : List ℕ) → Differ (xs ++ ys) → Differ ys
-differ-right [] ys d = d
-differ-right (x ∷ xs) ys d = differ-right xs ys d.1
 
 -- a command's blocks are held
 pub found-held : (lists : List Taken) (p : Unfinished → Bool) (us : List Unfinished) (u : Unfinished) (b : ℕ) → first_of p us ≡ Some u → is_among (list_of lists u.serial) b ≡ true → is_among (held_by lists us) b ≡ true

@@ -21,7 +21,7 @@ use Rattle.region_model.specs.Picture.{place_of, item_bytes, entry_of, with_answ
 use Rattle.region_model.specs.Sides.{Recorded, PendingRow}
 use Rattle.region_model.specs.Represents.{RingStands, StandsAt, IdsStand, entry_at, id_in, ids_in, id_at, id_of}
 use Rattle.ring_laws.proofs.Bytes.{take-written}
-use Rattle.ring_laws.proofs.Places.{slice_get-right}
+use Rattle.tcmu_model.proofs.LaidItems.{slice_get-right}
 use Rattle.ring_laws.proofs.Answered.{response_apart, response_here, id_of_answered, answered_over}
 use Rattle.ring_laws.specs.Placed.{CanAnswer, placed_in}
 use Rattle.ring_laws.proofs.Numbered.{NextEntry, items_apart, counted-before}

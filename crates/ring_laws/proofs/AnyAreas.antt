@@ -27,7 +27,7 @@ use Rattle.region_model.specs.TargetCleans.{answered_by, response_in, one_cleane
 use Rattle.tcmu_types.proofs.Everies.{every-append, every-weaker, every-both}
 use Rattle.ring_laws.specs.Calls.{TargetCall, Submits, Enters, Notes, Ticks, Blocks, Cleans, Resets, CallMade, Called, target_called}
 use Rattle.ring_laws.specs.CalledOn.{SameArea, region_called, CalledOn}
-use Rattle.ring_laws.proofs.Free.{IsFree, least-are}
+use Rattle.tcmu_model.proofs.FreeBlocks.{IsFree, least-are}
 use Rattle.ring_laws.proofs.LaidBlocks.{covered}
 use Rattle.ring_laws.proofs.PendingRows.{held_push, held_every, held_expired}
 use Rattle.ring_laws.proofs.AnyCalls.{clean_keeps}

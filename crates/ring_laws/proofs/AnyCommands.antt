@@ -28,8 +28,8 @@ use Rattle.region_model.specs.TargetCleans.{payload_read, sense_read, completion
 use Rattle.tcmu_types.proofs.Everies.{every-weaker, every-map, every-append, every-filter, every-first, every-without_first}
 use Rattle.ring_laws.specs.Calls.{TargetCall, Submits, Enters, Notes, Ticks, Blocks, Cleans, Resets, CallMade, Called, TargetSound, target_called, CompletesOwn, HasSerial, IsRowOf, IsDoneOf, IsOfCommands, accepted_command, accepted_at, accepted_along}
 use Rattle.tcmu_types.proofs.Places.{get_append_left}
-use Rattle.ring_laws.proofs.Places.{slice_get-right}
-use Rattle.ring_laws.proofs.Free.{length-least_free}
+use Rattle.tcmu_model.proofs.LaidItems.{slice_get-right}
+use Rattle.tcmu_model.proofs.FreeBlocks.{length-least_free}
 use Rattle.ring_laws.proofs.PendingRows.{only_expires}
 use Rattle.ring_laws.proofs.AnyCleans.{own_read}
 use Rattle.ring_laws.proofs.AnySettings.{opened_same}

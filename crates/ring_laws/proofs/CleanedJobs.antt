@@ -1,51 +1,34 @@
 -- What a clean keeps of the blocks, of the jobs and of the block lists.
-use Rattle.std.proofs.Common.{◌≡◌, ℕ, ◌≤◌, ◌<◌, Bool, true, false, List, [], ◌∷◌, ◌++◌, length, take, filter, refl, sym, ap, ◌∙◌, arith, Option, Some, None, slice_get, subst, ⊎_elim, eqb}
+use Rattle.std.proofs.Common.{◌≡◌, ℕ, ◌<◌, Bool, true, false, List, [], ◌∷◌, length, take, filter, refl, sym, ap, ◌∙◌, Option, Some, None, slice_get, subst, ⊎_elim, eqb}
 use Rattle.std.specs.Option.{is_some}
-use Rattle.std.proofs.lemmas.Bool.{cases_Bool, true≢false, or_parts, or_left, or_right}
+use Rattle.std.proofs.lemmas.Bool.{cases_Bool, true≢false, or_left, or_right}
 use Rattle.tcmu_model.specs.declared.state.CommandState.TheVariants.{Placed}
-use Rattle.tcmu_types.specs.Lists.{first_of, without_first, Every}
-use Rattle.tcmu_types.specs.Numbers.{above_all, is_among, Differ}
-use Rattle.tcmu_model.specs.Lengths.{blocks_of, block_size}
+use Rattle.tcmu_types.specs.Lists.{without_first, Every}
+use Rattle.tcmu_types.specs.Numbers.{above_all, is_among}
+use Rattle.tcmu_model.specs.Lengths.{block_size}
 use Rattle.tcmu_model.specs.Device.{Unfinished, DeviceState, is_at}
-use Rattle.tcmu_model.specs.Events.{is_in_hand, after_clean, answered, cleaned_books, books, Books, finish, finish_all}
-use Rattle.tcmu_model.specs.Sound.{IsSound}
+use Rattle.tcmu_model.specs.Events.{is_in_hand, after_clean, answered, cleaned_books}
 use Rattle.tcmu_model.specs.BlockLists.{Taken, list_of, held_by}
 use Rattle.region_model.specs.Regions.{RegionState}
 use Rattle.tcmu_model.proofs.CommandStates.{state_at}
-use Rattle.tcmu_types.proofs.Everies.{every-weaker, every-both, every-filter, every-passes, every-without_first, every-front, every-back, every-append}
+use Rattle.tcmu_types.proofs.Everies.{every-weaker, every-both, every-filter, every-passes}
 use Rattle.tcmu_types.proofs.Rises.{among-append, among_every, every-among}
-use Rattle.tcmu_model.proofs.SoundClean.{answered_placed, finish_taken}
+use Rattle.tcmu_model.proofs.SoundClean.{answered_placed}
 use Rattle.region_model.specs.Areas.{IsLent}
 use Rattle.region_model.specs.Sides.{InHand, PendingRow, TargetState, UserState}
 use Rattle.region_model.specs.Represents.{AreGiven, AreOut, BlocksOf, BlocksStand, JobsStand, is_out}
 use Rattle.region_model.specs.TargetSteps.{blocks_held}
 use Rattle.region_model.specs.TargetCleans.{region_cleaned, target_cleaned}
-use Rattle.tcmu_model.specs.Owned.{ListsSound}
 use Rattle.ring_laws.specs.Cleaned.{CanClean}
 use Rattle.ring_laws.proofs.Agree.{held-same}
 use Rattle.ring_laws.proofs.LaidBlocks.{covered, stand-other}
 use Rattle.ring_laws.proofs.CleanedAll.{cleaned-at, get-take}
 use Rattle.ring_laws.proofs.CleanedRecords.{target_cleaned_keeps}
 use Rattle.ring_laws.proofs.SameJobs.{HasSame, given_same, outs_same}
-use Rattle.ring_laws.proofs.AnswerBlocks.{differ-right}
+use Rattle.tcmu_model.proofs.ListsCleaned.{taken_all, left_are, every-left}
 use Rattle.tcmu_types.proofs.Places.{get_taken}
 
 -- ==== the commands that are left
-
-abbrev taken_all : List Unfinished → List ℕ → List Unfinished
-taken_all us [] = us
-taken_all us (s ∷ ss) = taken_all (without_first (is_at s Placed) us) ss
-
-all-taken : (rl : Bool) (b : Books) (ss : List ℕ) → (finish_all rl b ss).unfinished ≡ taken_all b.unfinished ss
-all-taken rl b [] = refl
-all-taken rl b (s ∷ ss) = all-taken rl (finish rl b s) ss ∙ ap (λ us. taken_all us ss) (finish_taken rl b s (first_of (is_at s Placed) b.unfinished) refl)
-
-left_are : (d : DeviceState) → (cleaned_books d).unfinished ≡ taken_all d.unfinished (answered d)
-left_are d = all-taken d.settings.flags.read_len (books d) (answered d)
-
-every-left : (P : Unfinished → Type 0) (us : List Unfinished) (ss : List ℕ) → Every P us → Every P (taken_all us ss)
-every-left P us [] e = e
-every-left P us (s ∷ ss) e = every-left P (without_first (is_at s Placed) us) ss (every-without_first (is_at s Placed) P us e)
 
 -- what holds of no placed command picks out the same commands as before
 filter-taken : (p : Unfinished → Bool) (s : ℕ) (us : List Unfinished) → ((u : Unfinished) → u.state ≡ Placed → p u ≡ false) → filter p (without_first (is_at s Placed) us) ≡ filter p us
@@ -69,68 +52,6 @@ placed_not_in_hand u h = rw h refl
 
 placed_not_out : (u : Unfinished) → u.state ≡ Placed → is_out u ≡ false
 placed_not_out u h = rw h refl
-
--- ==== the block lists
-
-not-held : (lists : List Taken) (p : Unfinished → Bool) (us : List Unfinished) (b : ℕ) → is_among (held_by lists us) b ≡ false → is_among (held_by lists (without_first p us)) b ≡ false
-not-held lists p [] b h = refl
-not-held lists p (u ∷ us) b h =
-    let t = or_parts (is_among (list_of lists u.serial) b) (is_among (held_by lists us) b) (sym (among-append (list_of lists u.serial) (held_by lists us) b) ∙ h) in
-    ⊎_elim
-    (λ (k : p u ≡ true). rw k t.1)
-    (λ (k : p u ≡ false). let z : is_among (list_of lists u.serial ++ held_by lists (without_first p us)) b ≡ false = among-append (list_of lists u.serial) (held_by lists (without_first p us)) b ∙ rw t.0 (not-held lists p us b t.1) in rw k z)
-    (cases_Bool (p u))
-
-pub differ-fewer : (xs ys zs : List ℕ) → Differ (xs ++ ys) → Differ zs → ((b : ℕ) → is_among ys b ≡ false → is_among zs b ≡ false) → Differ (xs ++ zs)
-differ-fewer [] ys zs d e f = e
-differ-fewer (x ∷ xs) ys zs d e f =
-    let t = or_parts (is_among xs x) (is_among ys x) (sym (among-append xs ys x) ∙ d.0) in
-    let z : is_among (xs ++ zs) x ≡ false = among-append xs zs x ∙ rw t.0 (f x t.1) in
-    (z, differ-fewer xs ys zs d.1 e f)
-
-differ-held : (lists : List Taken) (p : Unfinished → Bool) (us : List Unfinished) → Differ (held_by lists us) → Differ (held_by lists (without_first p us))
-differ-held lists p [] d = tt
-differ-held lists p (u ∷ us) d =
-    let back : Differ (held_by lists us) = differ-right (list_of lists u.serial) (held_by lists us) d in
-    ⊎_elim
-    (λ (k : p u ≡ true). rw k back)
-    (λ (k : p u ≡ false).
-    let z : Differ (list_of lists u.serial ++ held_by lists (without_first p us)) = differ-fewer (list_of lists u.serial) (held_by lists us) (held_by lists (without_first p us)) d (differ-held lists p us back) (λ b h. not-held lists p us b h) in
-    rw k z)
-    (cases_Bool (p u))
-
-every-held : (P : ℕ → Type 0) (lists : List Taken) (p : Unfinished → Bool) (us : List Unfinished) → Every P (held_by lists us) → Every P (held_by lists (without_first p us))
-every-held P lists p [] e = tt
-every-held P lists p (u ∷ us) e =
-    let front : Every P (list_of lists u.serial) = every-front P (list_of lists u.serial) (held_by lists us) e in
-    let back : Every P (held_by lists us) = every-back P (list_of lists u.serial) (held_by lists us) e in
-    ⊎_elim
-    (λ (k : p u ≡ true). rw k back)
-    (λ (k : p u ≡ false).
-    let z : Every P (list_of lists u.serial ++ held_by lists (without_first p us)) = every-append P (list_of lists u.serial) (held_by lists (without_first p us)) front (every-held P lists p us back) in
-    rw k z)
-    (cases_Bool (p u))
-
-differ-held_left : (lists : List Taken) (us : List Unfinished) (ss : List ℕ) → Differ (held_by lists us) → Differ (held_by lists (taken_all us ss))
-differ-held_left lists us [] d = d
-differ-held_left lists us (s ∷ ss) d = differ-held_left lists (without_first (is_at s Placed) us) ss (differ-held lists (is_at s Placed) us d)
-
-every-held_left : (P : ℕ → Type 0) (lists : List Taken) (us : List Unfinished) (ss : List ℕ) → Every P (held_by lists us) → Every P (held_by lists (taken_all us ss))
-every-held_left P lists us [] e = e
-every-held_left P lists us (s ∷ ss) e = every-held_left P lists (without_first (is_at s Placed) us) ss (every-held P lists (is_at s Placed) us e)
-
-pub lists_cleaned : (d : DeviceState) (lists : List Taken) → IsSound d → ListsSound d lists → ListsSound (after_clean d) lists
-unfolding after_clean
-lists_cleaned d lists sound h =
-    let e : (cleaned_books d).unfinished ≡ taken_all d.unfinished (answered d) = left_are d in
-    let cp : d.ring.cleared ≤ d.ring.published = sound.ring.cleared in
-    record {
-      listed = h.listed;
-      differ = subst (λ (us : List Unfinished). Differ (held_by lists us)) (sym e) (differ-held_left lists d.unfinished (answered d) h.differ);
-      below = subst (λ (us : List Unfinished). Every (λ n. n < d.settings.blocks) (held_by lists us)) (sym e) (every-held_left (λ n. n < d.settings.blocks) lists d.unfinished (answered d) h.below);
-      sizes = subst (Every (λ (u : Unfinished). length (list_of lists u.serial) ≡ blocks_of d.settings.pages u.command)) (sym e) (every-left (λ (u : Unfinished). length (list_of lists u.serial) ≡ blocks_of d.settings.pages u.command) d.unfinished (answered d) h.sizes);
-      spans = λ i n s c l g. let m : d.ring.published ≤ i = l in h.spans i n s c (omega arith) g;
-    }
 
 -- ==== the blocks
 

@@ -19,7 +19,7 @@ use Rattle.region_model.specs.Represents.{RingStands, IdsStand, NotesStand, entr
 use Rattle.region_model.specs.TargetCleans.{region_cleaned, target_cleaned}
 use Rattle.ring_laws.specs.Cleaned.{CanClean}
 use Rattle.ring_laws.proofs.RingLaid.{entry_same}
-use Rattle.ring_laws.proofs.LaidRing.{serial_at}
+use Rattle.tcmu_model.proofs.LaidItems.{serial_at}
 use Rattle.ring_laws.proofs.CleanedOne.{CleanAt}
 use Rattle.ring_laws.proofs.CleanedAll.{cleaned-at, not-before}
 use Rattle.ring_laws.proofs.NoteIds.{RowsDiffer, note_id_fewer, note_stands_by, serials_of_rows}

@@ -9,7 +9,6 @@ use Rattle.region_model.specs.Regions.{RegionState}
 use Rattle.region_model.specs.Sides.{Recorded, PendingRow, InHand, TargetState, UserState}
 use Rattle.region_model.specs.Represents.{RingStands, IdsStand, NotesStand, BlocksStand, JobsStand, TargetKeeps, UserKeeps}
 use Rattle.region_model.specs.TargetSteps.{target_submitted, region_submitted}
-use Rattle.tcmu_model.specs.Owned.{ListsSound}
 use Rattle.ring_laws.proofs.RingLaid.{stands-by}
 
 pub ring_delayed : (front : List ℕ) (items : List Recorded) (d : DeviceState) (lists : List Taken) (c : CommandData) (s : ℕ) → RingStands front items d lists → RingStands front items (after_submit d c (submit.Delayed s)) lists
@@ -63,10 +62,6 @@ pub side_delayed : (user : UserState) (d : DeviceState) (c : CommandData) (s : �
 unfolding after_submit with_delayed
 side_delayed user d c s h =
     record { ring = h.ring; pages = h.pages; flags = h.flags; tail = h.tail; dispatched = h.dispatched; placed = h.placed; published = h.published; place = h.place; items = h.items }
-
-pub lists_delayed : (d : DeviceState) (lists : List Taken) (c : CommandData) (s : ℕ) → ListsSound d lists → ListsSound (after_submit d c (submit.Delayed s)) lists
-unfolding after_submit with_delayed
-lists_delayed d lists c s h = record { listed = h.listed; differ = h.differ; below = h.below; sizes = h.sizes; spans = h.spans }
 
 -- nothing is written
 pub region_delayed : (r : RegionState) (t : TargetState) (c : CommandData) (id s : ℕ) → region_submitted r t c id (submit.Delayed s) ≡ r

@@ -1,24 +1,19 @@
 -- A dispatch: what it keeps of the ring, the ids, the notes, both sides' records and the lists.
-use Rattle.std.proofs.Common.{◌≡◌, ℕ, ◌+◌, ◌<◌, true, false, cond, List, [], ◌∷◌, ◌++◌, length, take, drop, map, refl, sym, ap, ◌∙◌, arith, suc, Option, Some, None, subst, ⊎_elim}
+use Rattle.std.proofs.Common.{◌≡◌, ℕ, ◌+◌, true, false, cond, List, [], ◌∷◌, ◌++◌, take, drop, map, refl, sym, ap, ◌∙◌, arith, suc, Option, Some, None, subst, ⊎_elim}
 use Rattle.std.specs.List.{prefix_len}
 use Rattle.std.proofs.lemmas.Bool.{cases_Bool}
 use Rattle.std.proofs.lemmas.List.Sums.{sum_by-cons}
 use Rattle.tcmu_model.specs.declared.state.CommandState.TheVariants.{Waiting, Out}
-use Rattle.tcmu_model.specs.Lengths.{blocks_of}
 use Rattle.tcmu_model.specs.RingState.{Item, Laid, commands_in, is_command, is_pad, next_place, dispatched_commands, published_commands}
 use Rattle.tcmu_model.specs.RingState as ring
 use Rattle.tcmu_model.specs.Device.{Unfinished, DeviceState, is_at}
-use Rattle.tcmu_model.specs.Events.{after_dispatch, after_item, in_state, next_item, passed, turned}
-use Rattle.tcmu_types.specs.Numbers.{Differ}
-use Rattle.tcmu_types.specs.Lists.{Every}
+use Rattle.tcmu_model.specs.Events.{after_dispatch, after_item, next_item, passed, turned}
 use Rattle.tcmu_model.specs.BlockLists.{Taken, list_of, held_by}
 use Rattle.region_model.specs.Picture.{place_of}
 use Rattle.region_model.specs.Regions.{RegionState}
 use Rattle.region_model.specs.Sides.{InHand, PendingRow, Recorded, TargetState, UserState}
 use Rattle.region_model.specs.Represents.{RingStands, IdsStand, NotesStand, TargetKeeps, UserKeeps, pending_of, recorded}
 use Rattle.region_model.specs.UserNext.{nexted}
-use Rattle.tcmu_model.specs.Owned.{ListsSound}
-use Rattle.tcmu_types.proofs.Everies.{every-with_first}
 use Rattle.ring_laws.specs.Dispatched.{CanDispatch}
 use Rattle.ring_laws.proofs.AnswerBytes.{turned-found}
 use Rattle.ring_laws.proofs.CleanedOne.{commands-next}
@@ -193,18 +188,3 @@ held_sent lists s (u ∷ us) =
     (λ (k : is_at s Waiting u ≡ true). rw k refl)
     (λ (k : is_at s Waiting u ≡ false). rw k (ap (λ bs. list_of lists u.serial ++ bs) (held_sent lists s us)))
     (cases_Bool (is_at s Waiting u))
-
-pub lists_dispatched : (d : DeviceState) (lists : List Taken) → ListsSound d lists → ListsSound (after_dispatch d) lists
-lists_dispatched d lists h =
-    behind (λ e. ListsSound e lists) d
-    (record {
-      same = h;
-      sent = λ s. record {
-        listed = h.listed;
-        differ = subst Differ (sym (held_sent lists s d.unfinished)) h.differ;
-        below = subst (Every (λ (k : ℕ). k < d.settings.blocks)) (sym (held_sent lists s d.unfinished)) h.below;
-        sizes = every-with_first (is_at s Waiting) (in_state Out) (λ (u : Unfinished). length (list_of lists u.serial) ≡ blocks_of d.settings.pages u.command) d.unfinished (λ u k p. p) h.sizes;
-        spans = h.spans;
-      };
-      noted = record { listed = h.listed; differ = h.differ; below = h.below; sizes = h.sizes; spans = h.spans };
-    })

@@ -37,6 +37,7 @@ use Rattle.ring_laws.proofs.Opened.{flags-again}
 use Rattle.ring_laws.proofs.CleanedRecords.{target_cleaned_keeps}
 use Rattle.ring_laws.proofs.AttachedUser.{attached_same, reattached_same}
 use Rattle.ring_laws.proofs.RestartedAnswer.{jobs_counted}
+use Rattle.tcmu_model.proofs.ListsKept.{lists_emptied, none_kept}
 
 -- ==== the device
 
@@ -249,15 +250,11 @@ pages_reset r d level n h a = by_reset (λ e. (region_reset r).pages ≡ e.setti
 
 -- ==== the lists
 
-no-list : (d : DeviceState) (level : ℕ) (lists : List Taken) → kept_lists (emptied (after_clean d) level) lists ≡ []
-no-list d level [] = refl
-no-list d level (l ∷ lists) = no-list d level lists
-
 pub kept_reset : (d : DeviceState) (lists : List Taken) (level n : ℕ) → reset_answer d level ≡ reset.Reset n → kept_lists (after_reset d level) lists ≡ []
-kept_reset d lists level n a = by_reset (λ e. kept_lists e lists ≡ []) d level n a (no-list d level lists)
+kept_reset d lists level n a = by_reset (λ e. kept_lists e lists ≡ []) d level n a (none_kept (after_clean d) level lists)
 
 pub lists_reset : (d : DeviceState) (level n : ℕ) → reset_answer d level ≡ reset.Reset n → ListsSound (after_reset d level) []
-lists_reset d level n a = by_reset (λ e. ListsSound e []) d level n a (record { listed = tt; differ = tt; below = tt; sizes = tt; spans = λ i m q c l g. absurd (cc) })
+lists_reset d level n a = by_reset (λ e. ListsSound e []) d level n a (lists_emptied (after_clean d) level)
 
 -- ==== the user side
 

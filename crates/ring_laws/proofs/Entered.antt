@@ -1,51 +1,22 @@
 -- A delayed command that enters the ring.
-use Rattle.std.proofs.Common.{◌≡◌, ℕ, ◌*◌, ◌≤◌, ◌<◌, true, false, List, [], ◌∷◌, map, refl, sym, ap, ◌∙◌, arith, subst, ⊎_elim}
-use Rattle.std.proofs.lemmas.Bool.{cases_Bool, leb-true}
-use Rattle.tcmu_types.specs.Data.{CommandData}
-use Rattle.tcmu_model.specs.RingState.{RingState, Item, Laid, lengths, head, used, free, need, pads, with_item, commands_in, is_command, serials_in}
-use Rattle.tcmu_model.specs.RingState as ring
+use Rattle.std.proofs.Common.{◌≡◌, ℕ, false, List, [], ◌∷◌, map, refl, sym, ◌∙◌, subst}
 use Rattle.tcmu_model.specs.Device.{DeviceState, Delayed}
 use Rattle.tcmu_model.specs.BlockLists.{Taken, with_taken}
 use Rattle.region_model.specs.Sides.{InHand, Recorded, TargetState, UserState}
 use Rattle.region_model.specs.Represents.{BlocksStand, IdsStand, IsId, JobsStand, NotesStand, RingStands, TargetKeeps, UserKeeps}
 use Rattle.region_model.specs.TargetSteps.{region_laid, target_laid, region_entered, target_entered, region_with_first, first_entered}
 use Rattle.tcmu_types.specs.declared.answer.Enter.TheVariants as enter
-use Rattle.tcmu_model.specs.Events.{with_command, enter_answer, entered_or_full, after_enter, after_entering, fits_ring, fits_blocks, entry_length_in, blocks_in, free_blocks, held_blocks}
+use Rattle.tcmu_model.specs.Events.{with_command, enter_answer, after_enter, after_entering}
 use Rattle.tcmu_types.specs.Numbers.{is_among}
 use Rattle.region_model.specs.Regions.{AreSized, RegionState}
-use Rattle.tcmu_model.specs.Sound.{IsSound, CanWait}
-use Rattle.tcmu_types.specs.Lists.{Every}
-use Rattle.tcmu_model.proofs.Facts.{delayed_above}
-use Rattle.tcmu_model.specs.Owned.{ListsSound, HasRoom}
+use Rattle.tcmu_model.specs.Sound.{IsSound}
+use Rattle.tcmu_model.specs.Owned.{ListsSound}
 use Rattle.ring_laws.proofs.RingLaid.{stands-by}
 use Rattle.tcmu_model.specs.Lengths.{block_size}
 use Rattle.ring_laws.proofs.LaidIds.{stands_laid, ids_stand_laid, target_stands_laid}
 use Rattle.ring_laws.proofs.LaidBlocks.{blocks_stand_laid}
-use Rattle.ring_laws.proofs.LaidLists.{lists_sound_laid}
 use Rattle.ring_laws.proofs.LaidCommands.{notes_stand_laid, jobs_stand_laid, side_stands_laid, pages_laid, sized_laid}
-
--- what an answer that enters says of room
-pub entered_room : (d : DeviceState) (w : Delayed) (ws : List Delayed) (s : ℕ) → IsSound d → d.delayed ≡ w ∷ ws → entered_or_full d (w ∷ ws) ≡ enter.Entered s → HasRoom d w.command × (s ≡ w.serial)
-entered_room d w ws s sound e h =
-    let c : CommandData = w.command in
-    let can : CanWait d.settings c = (subst (Every (λ (v : Delayed). CanWait d.settings v.command)) e sound.room.delayed).0 in
-    let small : 2 * entry_length_in d c ≤ d.ring.size = let k : 2 * entry_length_in d c ≤ d.settings.ring = can.ring in let z : d.ring.size ≡ d.settings.ring = sound.ring.size in omega arith in
-    ⊎_elim
-    (λ (f : fits_ring d c ≡ true).
-    ⊎_elim
-    (λ (k : fits_blocks d c ≡ true).
-    let g : enter.Entered w.serial ≡ enter.Entered s = rw (f, k) at h in
-    let b : blocks_in d c ≤ free_blocks d = leb-true _ _ k in
-    let hb : held_blocks d ≤ d.settings.blocks = sound.room.blocks in
-    (record { small = small; fits = leb-true _ _ f; blocks = omega arith }, let q : w.serial ≡ s = cc in sym q))
-    (λ (k : fits_blocks d c ≡ false). let g : enter.FullBlocks (blocks_in d c) (free_blocks d) ≡ enter.Entered s = rw (f, k) at h in absurd (cc))
-    (cases_Bool (fits_blocks d c)))
-    (λ (f : fits_ring d c ≡ false). let g : enter.FullRing (ring.need d.ring (entry_length_in d c)) (ring.free d.ring) ≡ enter.Entered s = rw f at h in absurd (cc))
-    (cases_Bool (fits_ring d c))
-
--- a delayed command that enters is above all that are laid
-pub above_laid : (d : DeviceState) (w : Delayed) (ws : List Delayed) → IsSound d → d.delayed ≡ w ∷ ws → Every (λ k. k < w.serial) (serials_in d.ring.laid)
-above_laid d w ws sound e = (subst (Every (λ (v : Delayed). Every (λ k. k < v.serial) (serials_in d.ring.laid))) e (delayed_above d sound)).0
+use Rattle.tcmu_model.proofs.AnsweredRoom.{room_answered, above_laid}
 
 -- the first one that waits is laid, and waits no more
 abbrev entering : DeviceState → Delayed → List Delayed → DeviceState
@@ -70,10 +41,6 @@ by_target t d w ws s id P te e p =
     let td : t.delayed ≡ w ∷ ws = te ∙ e in
     subst (λ (xs : List Delayed). P (first_entered t id t.delayed) (after_entering d xs)) (sym e)
     (subst (λ (xs : List Delayed). P (first_entered t id xs) (after_entering d (w ∷ ws))) (sym td) p)
-
-room_answered : (d : DeviceState) (w : Delayed) (ws : List Delayed) (s : ℕ) → IsSound d → d.delayed ≡ w ∷ ws → enter_answer d ≡ enter.Entered s → HasRoom d w.command × (s ≡ w.serial)
-unfolding enter_answer
-room_answered d w ws s sound e h = entered_room d w ws s sound e (ap (entered_or_full d) (sym e) ∙ h)
 
 pub serial_entered : (d : DeviceState) (w : Delayed) (ws : List Delayed) (s : ℕ) → IsSound d → d.delayed ≡ w ∷ ws → enter_answer d ≡ enter.Entered s → s ≡ w.serial
 serial_entered d w ws s sound e h = (room_answered d w ws s sound e h).1
@@ -148,12 +115,6 @@ side_entered user d w ws s sound keeps e =
     let k : UserKeeps user (with_command d w.serial w.command) = side_stands_laid user d w.serial w.command sound keeps in
     by_device d w ws s (UserKeeps user) e
     (record { ring = k.ring; pages = k.pages; flags = k.flags; tail = k.tail; dispatched = k.dispatched; placed = k.placed; published = k.published; place = k.place; items = k.items })
-
-pub lists_entered : (d : DeviceState) (lists : List Taken) (w : Delayed) (ws : List Delayed) (s : ℕ) → IsSound d → ListsSound d lists → d.delayed ≡ w ∷ ws → enter_answer d ≡ enter.Entered s →
-    ListsSound (after_enter d (enter.Entered s)) (with_taken d lists w.serial w.command)
-lists_entered d lists w ws s sound owned e h =
-    let k : ListsSound (with_command d w.serial w.command) (with_taken d lists w.serial w.command) = lists_sound_laid d lists w.serial w.command sound owned (room_answered d w ws s sound e h).0 (above_laid d w ws sound e) in
-    by_device d w ws s (λ d'. ListsSound d' (with_taken d lists w.serial w.command)) e (record { listed = k.listed; differ = k.differ; below = k.below; sizes = k.sizes; spans = k.spans })
 
 -- ==== the area
 

@@ -1,15 +1,15 @@
 -- A handler answers: the command has its reply, which no entry has yet.
-use Rattle.std.proofs.Common.{◌≡◌, ◌≢◌, ℕ, ◌<◌, Bool, true, false, List, [], ◌∷◌, ◌++◌, length, map, filter, refl, sym, ap, ◌∙◌, Option, Some, subst, ⊎_elim}
+use Rattle.std.proofs.Common.{◌≡◌, ◌≢◌, ℕ, Bool, true, false, List, [], ◌∷◌, ◌++◌, map, filter, refl, sym, ap, ◌∙◌, Option, Some, subst, ⊎_elim}
 use Rattle.std.specs.Option.{is_some}
 use Rattle.std.proofs.lemmas.Bool.{cases_Bool, ne_eqb, false≢true}
 use Rattle.tcmu_types.specs.Data.{ReplyData}
 use Rattle.tcmu_model.specs.declared.state.CommandState.{CommandState}
 use Rattle.tcmu_model.specs.declared.state.CommandState.TheVariants.{Out}
 use Rattle.tcmu_types.specs.Lists.{first_of, with_first, Every}
-use Rattle.tcmu_model.specs.Lengths.{blocks_of, block_size}
+use Rattle.tcmu_model.specs.Lengths.{block_size}
 use Rattle.tcmu_model.specs.Device.{Unfinished, DeviceState, has_serial, is_at}
 use Rattle.tcmu_model.specs.Events.{after_handle, with_reply, command_out, is_in_hand, answered}
-use Rattle.tcmu_types.specs.Numbers.{is_among, Differ}
+use Rattle.tcmu_types.specs.Numbers.{is_among}
 use Rattle.tcmu_model.specs.Sound.{IsSound, is_right, state_fits, dispatched_serials}
 use Rattle.tcmu_model.specs.BlockLists.{Taken, list_of, held_by}
 use Rattle.tcmu_model.proofs.CommandStates.{state_at, serial_at}
@@ -19,7 +19,6 @@ use Rattle.region_model.specs.Regions.{RegionState}
 use Rattle.region_model.specs.Sides.{Recorded, PendingRow, TargetState, UserState}
 use Rattle.region_model.specs.Represents.{RingStands, IdsStand, NotesStand, BlocksOf, BlocksStand, TargetKeeps, UserKeeps, pending_of}
 use Rattle.region_model.specs.Picture.{with_answer}
-use Rattle.tcmu_model.specs.Owned.{ListsSound}
 use Rattle.ring_laws.proofs.Found.{first-passes}
 use Rattle.ring_laws.proofs.Ticked.{ring_by, ids_by}
 use Rattle.ring_laws.proofs.CleanedAll.{not_there}
@@ -135,17 +134,6 @@ pub side_handled : (user : UserState) (d : DeviceState) (s : ℕ) (reply : Reply
 unfolding after_handle
 side_handled user d s reply h =
     record { ring = h.ring; pages = h.pages; flags = h.flags; tail = h.tail; dispatched = h.dispatched; placed = h.placed; published = h.published; place = h.place; items = h.items }
-
-pub lists_handled : (d : DeviceState) (lists : List Taken) (s : ℕ) (reply : ReplyData) → ListsSound d lists → ListsSound (after_handle d s reply) lists
-unfolding after_handle
-lists_handled d lists s reply h =
-    record {
-      listed = h.listed;
-      differ = subst Differ (sym (held_handled lists s reply d.unfinished)) h.differ;
-      below = subst (Every (λ (k : ℕ). k < d.settings.blocks)) (sym (held_handled lists s reply d.unfinished)) h.below;
-      sizes = every-with_first (is_at s Out) (with_reply reply) (λ (u : Unfinished). length (list_of lists u.serial) ≡ blocks_of d.settings.pages u.command) d.unfinished (λ u k p. p) h.sizes;
-      spans = h.spans;
-    }
 
 pub pages_handled : (r : RegionState) (d : DeviceState) (s : ℕ) (reply : ReplyData) → r.pages ≡ d.settings.pages → r.pages ≡ (after_handle d s reply).settings.pages
 unfolding after_handle

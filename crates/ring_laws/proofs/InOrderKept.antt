@@ -27,14 +27,13 @@ use Rattle.region_model.specs.Sides as sides
 use Rattle.region_model.specs.Represents.{AreGiven, AreOut, BlocksStand, IdsStand, JobsStand, NotesStand, RingStands, TargetKeeps, UserKeeps, id_of, is_out}
 use Rattle.region_model.specs.UserSteps.{Placing, is_open_job, placed_front, placing_by, user_responded, with_jobs, with_parked}
 use Rattle.region_model.specs.HandSteps.{hand_responded}
-use Rattle.tcmu_model.specs.Owned.{ListsSound}
-use Rattle.ring_laws.specs.Placed.{parked_in, placed_in}
+use Rattle.ring_laws.specs.Placed.{parked_in}
 use Rattle.ring_laws.specs.Responded.{CanRespond}
 use Rattle.ring_laws.proofs.AnswerBlocks.{blocks_placed}
 use Rattle.ring_laws.proofs.Numbered.{can_answer}
 use Rattle.ring_laws.proofs.OrderedRows.{InOrder, in_order, in_order_parked}
 use Rattle.ring_laws.proofs.ParkedJobs.{given_parked, jobs_parked}
-use Rattle.ring_laws.proofs.ParkedKept.{blocks_parked, can_answer_parked, can_fill_parked, ids_parked, lists_parked, lists_turned, notes_parked, ring_parked, side_parked, target_parked, turned_in}
+use Rattle.ring_laws.proofs.ParkedKept.{blocks_parked, can_answer_parked, can_fill_parked, ids_parked, notes_parked, ring_parked, side_parked, target_parked}
 use Rattle.ring_laws.proofs.PlacedAnswers.{ids_placed, notes_placed, placing_of, ring_placed, target_placed, user_placed}
 use Rattle.ring_laws.proofs.PlacedRun.{Between, Keeps, Ran, in_hand_behind, ran, ran_laid, runs}
 use Rattle.ring_laws.proofs.RespondedKept.{found-state, pages_placed}
@@ -194,19 +193,6 @@ side_in_order r user rows d lists s u p parts h o keeps =
     let start : UserKeeps user (parked_in d s) = side_parked user d s keeps in
     (keeps_responded (λ k e. UserKeeps k.user e) r user rows d lists s u p parts (λ r user d s u p parts rest can fill place k. user_placed r user rows d lists s u p parts rest can k place) h o
     (record { ring = start.ring; pages = start.pages; flags = start.flags; tail = start.tail; dispatched = start.dispatched; placed = start.placed; published = start.published; place = start.place; items = start.items })).kept
-
-pub lists_in_order : (user : UserState) (rows : List PendingRow) (d : DeviceState) (lists : List Taken) (s : ℕ) (u : Unfinished) (p : sides.Parked) (parts : List (List ℕ)) →
-    CanRespond user rows d lists s u p parts → d.settings.flags.ooo ≡ false → ListsSound (after_respond d s) lists
-lists_in_order user rows d lists s u p parts h o =
-    (keeps_responded (λ k e. ListsSound e lists) no_region user rows d lists s u p parts (λ r user d s u p parts rest can fill place k. after d s k) h o (lists_parked d lists s h.owned)).kept
-  where
-    no_region : RegionState
-    no_region = record { front = []; blocks = []; pages = 0 }
-
-    after : (d : DeviceState) (s : ℕ) → ListsSound d lists → ListsSound (placed_in d s) lists
-    after d s k =
-        let b : ListsSound (turned_in d s Parked Placed) lists = lists_turned d lists s Parked Placed k in
-        record { listed = b.listed; differ = b.differ; below = b.below; sizes = b.sizes; spans = b.spans }
 
 -- ==== the jobs
 

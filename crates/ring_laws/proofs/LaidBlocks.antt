@@ -23,13 +23,12 @@ use Rattle.region_model.specs.TargetSteps.{region_laid, blocks_given}
 use Rattle.ring_laws.proofs.Agree.{blocks-same}
 use Rattle.tcmu_model.specs.Owned.{ListsSound, HasRoom}
 use Rattle.tcmu_types.proofs.ByteFields.{length-zeros}
-use Rattle.ring_laws.proofs.Places.{slice_get-right}
-use Rattle.ring_laws.proofs.Free.{length-least_free, least-are, IsFree, least-differ}
+use Rattle.tcmu_model.proofs.LaidItems.{slice_get-right}
+use Rattle.tcmu_model.proofs.FreeBlocks.{length-least_free, least-are, IsFree, least-differ}
 use Rattle.ring_laws.proofs.Scatter.{grown, scattered-other, scattered-data, along-same, grown-old}
 use Rattle.ring_laws.proofs.LaidEntry.{laid_in}
-use Rattle.ring_laws.proofs.LaidRing.{first-append, first-here, unlisted, cmd_item, with_waiting}
-use Rattle.ring_laws.proofs.LaidIds.{rows_below, lists_below, every-push}
-use Rattle.ring_laws.proofs.TargetAnswers.{held_length}
+use Rattle.tcmu_model.proofs.ListsLaid.{first-append, first-here, unlisted, cmd_item, with_waiting, rows_below, lists_below, held_length}
+use Rattle.ring_laws.proofs.LaidIds.{every-push}
 use Rattle.tcmu_types.proofs.Everies.{every-weaker}
 use Rattle.tcmu_types.proofs.Rises.{among-append, among_every, every-among}
 use Rattle.tcmu_types.proofs.Places.{get_append_left, get_within}

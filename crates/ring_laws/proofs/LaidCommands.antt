@@ -20,8 +20,9 @@ use Rattle.region_model.specs.Sides.{InHand, PendingRow, TargetState, UserState}
 use Rattle.region_model.specs.Represents.{IsId, IsLeftOver, IsNoteId, JobsStand, NotesStand, RingStands, TargetKeeps, UserKeeps, has_id, id_of, is_out, row_has, serial_with}
 use Rattle.region_model.specs.TargetSteps.{block_data, blocks_given, region_laid, row_of, target_laid}
 use Rattle.tcmu_model.specs.Owned.{HasRoom, ListsSound}
-use Rattle.ring_laws.proofs.LaidRing.{first-append, first-here, not_below, cmd_item, with_waiting, laid_command}
-use Rattle.ring_laws.proofs.LaidIds.{entries_laid, lists_below, rows_below}
+use Rattle.ring_laws.proofs.LaidRing.{laid_command}
+use Rattle.tcmu_model.proofs.ListsLaid.{first-append, first-here, not_below, cmd_item, with_waiting, lists_below, rows_below}
+use Rattle.ring_laws.proofs.LaidIds.{entries_laid}
 use Rattle.ring_laws.proofs.LaidPoints.{jobs_laid, notes_laid, side_laid}
 use Rattle.ring_laws.proofs.SameJobs.{HasSame}
 use Rattle.ring_laws.proofs.Sized.{sized_along, sized_grown}

@@ -22,31 +22,22 @@ use Rattle.tcmu_types.specs.Numbers.{is_among, Differ}
 use Rattle.region_model.specs.Regions.{RegionState}
 use Rattle.tcmu_model.specs.Sound.{IsSound, HasLength}
 use Rattle.tcmu_types.proofs.ByteFields.{field-front}
-use Rattle.tcmu_model.proofs.Basics.{placed_every, rows_among}
-use Rattle.tcmu_types.proofs.Rises.{among_every, differ-push}
-use Rattle.tcmu_types.proofs.Everies.{every-weaker, every-map, every-append, every-mapped, every_at}
+use Rattle.tcmu_model.proofs.Basics.{placed_every}
+use Rattle.tcmu_types.proofs.Rises.{differ-push}
+use Rattle.tcmu_types.proofs.Everies.{every-map, every-append, every-mapped, every_at}
 use Rattle.tcmu_model.proofs.Indexed.{item_at}
 use Rattle.tcmu_model.specs.Owned.{ListsSound, HasRoom}
 use Rattle.ring_laws.proofs.SoundRing.{holds}
-use Rattle.ring_laws.proofs.Places.{laid_with, LaidCase, laid_case, Old, Padding, New, take-laid}
+use Rattle.tcmu_model.proofs.LaidItems.{laid_with, LaidCase, laid_case, Old, Padding, New, take-laid, serial_at}
 use Rattle.ring_laws.proofs.LaidEntry.{laid_in}
 use Rattle.ring_laws.proofs.RingLaid.{old-entry, new-entry}
 use Rattle.ring_laws.proofs.LaidPoints.{SameEntries}
 use Rattle.ring_laws.proofs.Agree.{blocks-same}
-use Rattle.ring_laws.proofs.LaidRing.{first-append, first-here, not_below, serial_at, unlisted, cmd_item, with_waiting, commands-append, LaidCommand, laid_command, within_ring}
+use Rattle.ring_laws.proofs.LaidRing.{commands-append, LaidCommand, laid_command, within_ring}
+use Rattle.tcmu_model.proofs.ListsLaid.{first-append, first-here, not_below, unlisted, cmd_item, with_waiting, rows_below, lists_below}
 use Rattle.tcmu_model.proofs.SoundLaying.{entry_least}
 
 -- ==== what is below the new serial
-
-pub rows_below : (d : DeviceState) (s : ℕ) → IsSound d → Every (λ k. k < s) (serials_in d.ring.laid) → Every (λ (u : Unfinished). u.serial < s) d.unfinished
-rows_below d s sound above =
-    every-weaker (λ (u : Unfinished). is_among (serials_in d.ring.laid) u.serial ≡ true) (λ (u : Unfinished). u.serial < s) d.unfinished
-    (λ u h. among_every (λ (k : ℕ). k < s) (serials_in d.ring.laid) u.serial above h) (rows_among d sound.serials)
-
-pub lists_below : (d : DeviceState) (lists : List Taken) (s : ℕ) → ListsSound d lists → Every (λ k. k < s) (serials_in d.ring.laid) → Every (λ (t : Taken). t.serial < s) lists
-lists_below d lists s owned above =
-    every-weaker (λ (t : Taken). is_among (serials_in d.ring.laid) t.serial ≡ true) (λ (t : Taken). t.serial < s) lists
-    (λ t h. among_every (λ (k : ℕ). k < s) (serials_in d.ring.laid) t.serial above h) owned.listed
 
 pub pending_below : (t : TargetState) (d : DeviceState) (lists : List Taken) (s : ℕ) → TargetKeeps t d lists → Every (λ (u : Unfinished). u.serial < s) d.unfinished → Every (λ (e : PendingRow). e.pending.serial < s) t.rows
 pending_below t d lists s keeps h =

@@ -15,7 +15,7 @@ use Rattle.tcmu_types.proofs.Everies.{every-filter}
 use Rattle.tcmu_model.proofs.Laying.{drop_laid, serials-append, serials-pads}
 use Rattle.region_model.specs.Sides.{InHand, PendingRow, UserState}
 use Rattle.region_model.specs.Represents.{AreGiven, AreOut, IsNoteId, JobsStand, NoteStands, NotesStand, UserKeeps, command_places, entry_at, ids_in, is_out, recorded}
-use Rattle.ring_laws.proofs.Places.{laid_with, LaidCase, laid_case, Old, Padding, New, take-laid}
+use Rattle.tcmu_model.proofs.LaidItems.{laid_with, LaidCase, laid_case, Old, Padding, New, take-laid}
 use Rattle.ring_laws.proofs.LaidEntry.{laid_in}
 use Rattle.ring_laws.proofs.NoteIds.{note_stands_by}
 use Rattle.ring_laws.proofs.SameJobs.{HasSame, given_same, outs_same}

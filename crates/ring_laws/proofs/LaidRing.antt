@@ -1,13 +1,13 @@
 -- A command is laid: the ring stands.
-use Rattle.std.proofs.Common.{◌≡◌, ℕ, ◌+◌, ◌*◌, ◌%◌, ◌^◌, ◌≤◌, ◌<◌, Bool, true, false, cond, List, [], ◌∷◌, ◌++◌, length, take, refl, sym, ap, ◌∙◌, arith, suc, zero, Some, None, slice_get, length-take, subst, ⊎_elim, eqb}
-use Rattle.std.proofs.lemmas.Bool.{cases_Bool, eq-eqb, ne_eqb}
+use Rattle.std.proofs.Common.{◌≡◌, ℕ, ◌+◌, ◌*◌, ◌%◌, ◌^◌, ◌≤◌, ◌<◌, cond, List, [], ◌∷◌, ◌++◌, length, take, refl, sym, ap, ◌∙◌, arith, None, slice_get, length-take, subst, eqb}
+use Rattle.std.proofs.lemmas.Bool.{eq-eqb}
 use Rattle.std.proofs.lemmas.List.{take_at}
 use Rattle.std.proofs.lemmas.List.Sums.{sum_by-append, sum_by-take-le}
 use Rattle.std.proofs.lemmas.Option.{slice_get_past}
 use Rattle.tcmu_types.specs.Data.{CommandData, SettingsData}
 use Rattle.tcmu_types.specs.Rules.{payload_length}
 use Rattle.tcmu_types.specs.declared.dump.ItemKind.TheVariants as kind
-use Rattle.tcmu_types.specs.Lists.{first_of, Every}
+use Rattle.tcmu_types.specs.Lists.{Every}
 use Rattle.tcmu_model.specs.Lengths.{blocks_of, block_size, entry_length}
 use Rattle.tcmu_model.specs.RingState.{RingState, Item, Laid, lengths, head, used, free, need, pads, with_item, commands_in, is_command, serials_in, serial_in, dispatched_commands}
 use Rattle.tcmu_model.specs.RingState as ring
@@ -24,58 +24,20 @@ use Rattle.region_model.specs.Regions.{RegionState}
 use Rattle.tcmu_model.specs.Sound.{IsSound}
 use Rattle.tcmu_model.proofs.Facts.{placed_dispatched}
 use Rattle.tcmu_model.proofs.Basics.{placed_every}
-use Rattle.tcmu_types.proofs.Everies.{every-front, every-back, every_at}
+use Rattle.tcmu_types.proofs.Everies.{every_at}
 use Rattle.tcmu_model.specs.Owned.{ListsSound, HasRoom}
 use Rattle.ring_laws.proofs.Layouts.{add-mod, id_of_request}
 use Rattle.ring_laws.specs.Placed.{HoldsItems}
 use Rattle.ring_laws.proofs.SoundRing.{holds}
-use Rattle.ring_laws.proofs.Places.{laid_with, lengths_to_new}
+use Rattle.ring_laws.proofs.Places.{lengths_to_new}
+use Rattle.tcmu_model.proofs.LaidItems.{laid_with, serial_at}
 use Rattle.ring_laws.proofs.LaidEntry.{laid_in, entered}
 use Rattle.ring_laws.proofs.RingLaid.{SameItems, ring-laid}
 use Rattle.ring_laws.proofs.Agree.{Agrees, agrees, blocks-same}
 use Rattle.region_model.proofs.PartLengths.{length-iovs, length-request}
-
--- ==== serials below the new one
-
-pub first-append : {X : Type 0} (p : X → Bool) (xs : List X) (y : X) → p y ≡ false → first_of p (xs ++ y ∷ []) ≡ first_of p xs
-first-append p [] y h = rw h refl
-first-append p (x ∷ xs) y h =
-    ⊎_elim
-    (λ (e : p x ≡ true). rw e refl)
-    (λ (e : p x ≡ false). rw e (first-append p xs y h))
-    (cases_Bool (p x))
-
-pub first-here : {X : Type 0} (p : X → Bool) (xs : List X) (y : X) → p y ≡ true → first_of p xs ≡ None → first_of p (xs ++ y ∷ []) ≡ Some y
-first-here p [] y h n = rw h refl
-first-here p (x ∷ xs) y h n =
-    ⊎_elim
-    (λ (e : p x ≡ true). let k : Some x ≡ None = rw e at n in absurd (cc))
-    (λ (e : p x ≡ false). let k : first_of p xs ≡ None = rw e at n in rw e (first-here p xs y h k))
-    (cases_Bool (p x))
-
-pub not_below : (s q : ℕ) → q < s → eqb s q ≡ false
-not_below s q h = ne_eqb s q (λ e. absurd (omega arith))
-
--- the serial of a command that is laid
-pub serial_at : (P : ℕ → Type 0) (is : List Item) (i n q : ℕ) (c : CommandData) → Every P (serials_in is) → slice_get is i ≡ Some (record { len = n; laid = ring.Cmd q c }) → P q
-serial_at P [] i n q c e h = absurd (cc)
-serial_at P (x ∷ xs) zero n q c e h =
-    let same : x ≡ record { len = n; laid = ring.Cmd q c } = cc in
-    (subst (λ (y : Item). Every P (serial_in y)) same (every-front P (serial_in x) (serials_in xs) e)).0
-serial_at P (x ∷ xs) (suc i) n q c e h = serial_at P xs i n q c (every-back P (serial_in x) (serials_in xs) e) h
-
--- no list has a serial above all that are laid
-pub unlisted : (lists : List Taken) (s : ℕ) → Every (λ (t : Taken). t.serial < s) lists → first_of (λ (t : Taken). eqb t.serial s) lists ≡ None
-unlisted [] s h = refl
-unlisted (t ∷ ts) s h = let k : eqb t.serial s ≡ false = ne_eqb t.serial s (λ e. let l : t.serial < s = h.0 in absurd (omega arith)) in rw k (unlisted ts s h.1)
+use Rattle.tcmu_model.proofs.ListsLaid.{first-append, first-here, not_below, unlisted, cmd_item, with_waiting}
 
 -- ==== what is laid
-
-abbrev pub cmd_item : DeviceState → ℕ → CommandData → Item
-cmd_item d s c = record { len = entry_length d.settings.pages c; laid = ring.Cmd s c }
-
-abbrev pub with_waiting : DeviceState → ℕ → CommandData → List Unfinished
-with_waiting d s c = d.unfinished ++ waiting d s c ∷ []
 
 pub same_items : (d : DeviceState) (lists : List Taken) (s : ℕ) (c : CommandData) → IsSound d → Every (λ k. k < s) (serials_in d.ring.laid) →
     SameItems d (laid_in d (cmd_item d s c) (with_waiting d s c)) lists (with_taken d lists s c)

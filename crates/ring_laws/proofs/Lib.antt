@@ -11,9 +11,7 @@ pub mod LaidRing
 pub mod LaidIds
 pub mod TargetAnswers
 pub mod Scatter
-pub mod Free
 pub mod LaidBlocks
-pub mod LaidLists
 pub mod Submitted
 pub mod Entered
 pub mod Answered

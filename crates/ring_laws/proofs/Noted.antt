@@ -6,25 +6,25 @@ use Rattle.std.specs.List.{list_any}
 use Rattle.std.proofs.lemmas.Bool.{cases_Bool, eqb-true, false≢true, leb-true}
 use Rattle.std.proofs.lemmas.List.{length-map}
 use Rattle.std.proofs.Math.Seq.{take-append_seam}
-use Rattle.tcmu_types.specs.Data.{SettingsData, CommandData}
+use Rattle.tcmu_types.specs.Data.{SettingsData}
 use Rattle.tcmu_types.specs.declared.answer.Tmr.{Tmr}
 use Rattle.tcmu_types.specs.declared.answer.Tmr.TheVariants as tmr
 use Rattle.tcmu_types.specs.Lists.{first_of, Every}
-use Rattle.tcmu_model.specs.Lengths.{block_size, blocks_of, tmr_length}
+use Rattle.tcmu_model.specs.Lengths.{block_size, tmr_length}
 use Rattle.tcmu_model.specs.RingState.{RingState, Item, Laid, lengths, head, used, free, need, pads, with_item, commands_in, is_command, serials_in}
 use Rattle.tcmu_model.specs.RingState as ring
 use Rattle.tcmu_model.specs.Device.{Unfinished, DeviceState, has_serial}
 use Rattle.tcmu_model.specs.Events.{after_tmr, tmr_answer, tmr_length_of, unknown_serial, with_note}
 use Rattle.tcmu_types.specs.Numbers.{is_among}
 use Rattle.tcmu_model.specs.Sound.{IsSound}
-use Rattle.tcmu_model.specs.BlockLists.{Taken, list_of}
+use Rattle.tcmu_model.specs.BlockLists.{Taken}
 use Rattle.region_model.specs.Pending.{PendingData}
 use Rattle.region_model.specs.Layout.{tmr_bytes}
 use Rattle.region_model.specs.Picture.{place_of}
 use Rattle.region_model.specs.Regions.{AreSized, RegionState}
 use Rattle.tcmu_model.proofs.Basics.{rows_among}
 use Rattle.tcmu_types.proofs.Everies.{every-all, every-first, every-map}
-use Rattle.tcmu_model.proofs.Laying.{serials-append, serials_laid, serials-pads}
+use Rattle.tcmu_model.proofs.Laying.{serials-append, serials-pads}
 use Rattle.tcmu_types.proofs.Rises.{among_every}
 use Rattle.tcmu_model.proofs.SoundLaying.{tmr_sizes}
 use Rattle.tcmu_model.proofs.Standing.{any_among}
@@ -35,7 +35,7 @@ use Rattle.tcmu_model.specs.Owned.{ListsSound}
 use Rattle.ring_laws.specs.Refused.{is_unnoted}
 use Rattle.ring_laws.proofs.Agree.{Agrees, agrees}
 use Rattle.ring_laws.proofs.SoundRing.{holds}
-use Rattle.ring_laws.proofs.Places.{laid_with, LaidCase, laid_case, Old, Padding, New, take-laid}
+use Rattle.tcmu_model.proofs.LaidItems.{laid_with, LaidCase, laid_case, Old, Padding, New, take-laid}
 use Rattle.ring_laws.proofs.LaidEntry.{entered, laid_in}
 use Rattle.ring_laws.proofs.LaidPoints.{SameEntries, jobs_laid, notes_laid, side_laid}
 use Rattle.ring_laws.proofs.SameJobs.{HasSame}
@@ -45,6 +45,7 @@ use Rattle.ring_laws.proofs.LaidIds.{command_long, commands-pads, id-same}
 use Rattle.ring_laws.proofs.NoteBytes.{ids_again}
 use Rattle.ring_laws.proofs.TargetAnswers.{Rooms, rooms}
 use Rattle.region_model.proofs.PartLengths.{length-note}
+use Rattle.tcmu_model.proofs.ListsRun.{note_item}
 
 -- ==== which serials are known
 
@@ -153,9 +154,6 @@ ids_small rows (s ∷ ss) h = (one (first_of (row_has s) rows) refl, ids_small r
     one (Some x) e = let k : x.id ≤ 65535 = (every-first (row_has s) (λ (y : PendingRow). IsId y.id) rows x h e).high in omega arith
 
 -- ==== the ring
-
-abbrev pub note_item : ℕ → List ℕ → Item
-note_item kind ss = record { len = tmr_length_of ss; laid = ring.Tmr kind ss }
 
 -- what laying a note writes
 record LaidNote (r : RegionState) (t : TargetState) (d : DeviceState) (lists : List Taken) (kind : ℕ) (ss : List ℕ) : Type 0 where
@@ -334,24 +332,6 @@ target_noted_keeps t d lists kind ss sound keeps =
 pub side_noted : (user : UserState) (d : DeviceState) (kind : ℕ) (ss : List ℕ) → IsSound d → UserKeeps user d → UserKeeps user (after_tmr d kind ss tmr.Noted)
 unfolding after_tmr with_note
 side_noted user d kind ss sound h = side_laid user d (note_item kind ss) d.unfinished sound h
-
-pub lists_noted : (d : DeviceState) (lists : List Taken) (kind : ℕ) (ss : List ℕ) → ListsSound d lists → ListsSound (after_tmr d kind ss tmr.Noted) lists
-unfolding after_tmr with_note
-lists_noted d lists kind ss h =
-    let it : Item = note_item kind ss in
-    let e : serials_in (laid_with d.ring it) ≡ serials_in d.ring.laid = serials_laid d.ring it ∙ append-nil (serials_in d.ring.laid) in
-    record {
-      listed = subst (λ (xs : List ℕ). Every (λ (k : Taken). is_among xs k.serial ≡ true) lists) (sym e) h.listed;
-      differ = h.differ;
-      below = h.below;
-      sizes = h.sizes;
-      spans = λ i n s c cl g. by_case i n s c cl (laid_case d.ring it i (record { len = n; laid = ring.Cmd s c }) g);
-    }
-  where
-    by_case : (i n s : ℕ) (c : CommandData) → d.ring.cleared ≤ i → LaidCase d.ring (note_item kind ss) i (record { len = n; laid = ring.Cmd s c }) → length (list_of lists s) ≡ blocks_of d.settings.pages c
-    by_case i n s c cl (Old l g) = h.spans i n s c cl g
-    by_case i n s c cl (Padding a b e) = absurd (false≢true (ap is_command (sym e)))
-    by_case i n s c cl (New a e) = absurd (false≢true (ap is_command (sym e)))
 
 pub pages_noted : (r : RegionState) (t : TargetState) (d : DeviceState) (kind : ℕ) (ss : List ℕ) → r.pages ≡ d.settings.pages → (region_noted r t kind ss tmr.Noted).pages ≡ (after_tmr d kind ss tmr.Noted).settings.pages
 unfolding region_noted after_tmr with_note

@@ -11,7 +11,6 @@ use Rattle.tcmu_types.specs.ByteFields.{zeros, padded}
 use Rattle.region_model.specs.Regions.{opening_region}
 use Rattle.region_model.specs.TargetSteps.{opening_target}
 use Rattle.region_model.specs.UserSteps.{flags_in, opening_user}
-use Rattle.tcmu_model.specs.Owned.{ListsSound}
 use Rattle.region_model.specs.Represents.{Represents}
 use Rattle.tcmu_types.proofs.ByteFields.{length-padded}
 use Rattle.region_model.proofs.PartLengths.{length-mailbox}
@@ -32,9 +31,6 @@ flags_of_bits false false false = refl
 
 pub flags-again : (f : Flags) → flags_in (device_mailbox f 0 0 0).flags ≡ f
 flags-again f = flags_of_bits f.ooo f.read_len f.tmr
-
-pub lists_sound_opening : (s : SettingsData) → ListsSound (opening_state s) []
-lists_sound_opening s = record { listed = tt; differ = tt; below = tt; sizes = tt; spans = λ i n q c l g. absurd (cc) }
 
 pub represents_opening : (s : SettingsData) → IsSettings s → Represents (opening_region s) (opening_target s) (opening_user s) [] (opening_state s) []
 unfolding opening_target opening_user

@@ -1,11 +1,11 @@
 -- A handled command is parked: no point looks at it otherwise than before, but for the jobs.
-use Rattle.std.proofs.Common.{◌≡◌, ℕ, ◌<◌, true, false, List, [], ◌∷◌, ◌++◌, length, take, map, filter, refl, sym, ap, ◌∙◌, Option, Some, None, slice_get, subst, ⊎_elim}
+use Rattle.std.proofs.Common.{◌≡◌, ℕ, true, false, List, [], ◌∷◌, ◌++◌, length, take, map, filter, refl, sym, ap, ◌∙◌, Option, Some, None, slice_get, subst, ⊎_elim}
 use Rattle.std.specs.Prelude.{IfSome}
 use Rattle.std.proofs.lemmas.Bool.{cases_Bool, and_parts}
 use Rattle.tcmu_types.specs.Rules.{IsCommand}
 use Rattle.tcmu_model.specs.declared.state.CommandState.{CommandState}
 use Rattle.tcmu_model.specs.declared.state.CommandState.TheVariants.{Handled, Parked}
-use Rattle.tcmu_types.specs.Lists.{first_of, Every}
+use Rattle.tcmu_types.specs.Lists.{first_of}
 use Rattle.tcmu_model.specs.Lengths.{blocks_of, block_size}
 use Rattle.tcmu_model.specs.RingState.{Item, Laid, commands_in}
 use Rattle.tcmu_model.specs.RingState as ring
@@ -138,20 +138,6 @@ side_parked user d s h =
 -- the command of a serial in the one state turns to the other
 abbrev pub turned_in : DeviceState → ℕ → CommandState → CommandState → DeviceState
 turned_in d s a b = record d { unfinished = turned s a b d.unfinished }
-
-pub lists_turned : (d : DeviceState) (lists : List Taken) (s : ℕ) (a b : CommandState) → ListsSound d lists → ListsSound (turned_in d s a b) lists
-lists_turned d lists s a b h =
-    let held : held_by lists (turned s a b d.unfinished) ≡ held_by lists d.unfinished = held-turned lists s a b d.unfinished in
-    record {
-      listed = h.listed;
-      differ = subst Differ (sym held) h.differ;
-      below = subst (Every (λ (k : ℕ). k < d.settings.blocks)) (sym held) h.below;
-      sizes = every-with_first (is_at s a) (in_state b) (λ (u : Unfinished). length (list_of lists u.serial) ≡ blocks_of d.settings.pages u.command) d.unfinished (λ u k p. p) h.sizes;
-      spans = h.spans;
-    }
-
-pub lists_parked : (d : DeviceState) (lists : List Taken) (s : ℕ) → ListsSound d lists → ListsSound (parked_in d s) lists
-lists_parked d lists s h = lists_turned d lists s Handled Parked h
 
 -- ==== what placing rests on
 

@@ -11,10 +11,9 @@ use Rattle.region_model.specs.TargetSteps.{blocks_held, is_due_at, expired_at}
 use Rattle.tcmu_types.proofs.Everies.{every-append, every-front, every-back, every-weaker, every-map, every-without_first, map_kept}
 use Rattle.tcmu_types.proofs.Rises.{among-append, differ-push}
 use Rattle.ring_laws.specs.Calls.{RowsSound}
-use Rattle.ring_laws.proofs.Free.{IsFree, length-least_free, least-are, least-differ}
-use Rattle.ring_laws.proofs.LaidLists.{differ-append}
-use Rattle.ring_laws.proofs.AnswerBlocks.{differ-right}
-use Rattle.ring_laws.proofs.CleanedJobs.{differ-fewer}
+use Rattle.tcmu_model.proofs.FreeBlocks.{IsFree, length-least_free, least-are, least-differ}
+use Rattle.tcmu_model.proofs.ListsLaid.{differ-append}
+use Rattle.tcmu_model.proofs.ListsCleaned.{differ-right, differ-fewer}
 use Rattle.ring_laws.proofs.TakenOut.{differ-left}
 
 pub no_rows : (limit : ℕ) → RowsSound limit []

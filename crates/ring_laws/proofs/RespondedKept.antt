@@ -6,12 +6,11 @@ use Rattle.std.proofs.lemmas.List.Sums.{sum_by-cons}
 use Rattle.tcmu_types.specs.Data.{ReplyData, SettingsData}
 use Rattle.tcmu_types.specs.declared.settings.Flags.{Flags}
 use Rattle.tcmu_model.specs.declared.state.CommandState.{CommandState}
-use Rattle.tcmu_model.specs.declared.state.CommandState.TheVariants.{Handled, Parked, Placed}
+use Rattle.tcmu_model.specs.declared.state.CommandState.TheVariants.{Handled, Parked}
 use Rattle.tcmu_types.specs.Lists.{first_of, without_first}
 use Rattle.tcmu_model.specs.RingState.{dispatched_commands, serials_in}
 use Rattle.tcmu_model.specs.Device.{Unfinished, DeviceState, is_at}
 use Rattle.tcmu_model.specs.Events.{Placing, after_respond, in_state, is_handled, is_in_hand, placed_by, turned}
-use Rattle.tcmu_types.specs.Numbers.{is_among}
 use Rattle.tcmu_model.specs.Events as events
 use Rattle.tcmu_model.specs.Sound.{IsSound, awaits_answer}
 use Rattle.tcmu_model.specs.BlockLists.{Taken}
@@ -25,12 +24,11 @@ use Rattle.region_model.specs.Sides as sides
 use Rattle.region_model.specs.Represents.{BlocksStand, IdsStand, IsJobOf, NotesStand, RingStands, TargetKeeps, UserKeeps}
 use Rattle.region_model.specs.UserSteps.{is_open_job, placed_at, placed_one, placing_by, user_responded, with_payload}
 use Rattle.region_model.specs.UserSteps as steps
-use Rattle.tcmu_model.specs.Owned.{ListsSound}
 use Rattle.ring_laws.specs.Placed.{CanAnswer, CanPlace, answer_placed, parked_in, placed_in}
 use Rattle.ring_laws.specs.Responded.{CanRespond}
 use Rattle.ring_laws.proofs.PlacedAnswers.{Into, goes_into, placing_of, ring_placed, ids_placed, notes_placed, target_placed, user_placed}
 use Rattle.ring_laws.proofs.AnswerBlocks.{blocks_placed}
-use Rattle.ring_laws.proofs.ParkedKept.{turned_in, lists_turned, lists_parked, ring_parked, ids_parked, notes_parked, blocks_parked, target_parked, side_parked, can_answer_parked, can_fill_parked, found_parked}
+use Rattle.ring_laws.proofs.ParkedKept.{ring_parked, ids_parked, notes_parked, blocks_parked, target_parked, side_parked, can_answer_parked, can_fill_parked, found_parked}
 use Rattle.tcmu_types.proofs.Firsts.{any_first}
 
 -- ==== both sides place the one answer
@@ -172,11 +170,3 @@ side_responded r user rows d lists s u p parts h o keeps =
     let k = user_placed r user rows (parked_in d s) lists s (in_state Parked u) p parts (without_first (is_open_job p.job.id) user.jobs) (can_answer_parked d s h.sound) (side_parked user d s keeps) (can_place user rows d lists s u p parts h) in
     subst (λ (z : DeviceState). UserKeeps (user_responded r user p).user z) (sym e.device)
     (subst (λ (z : steps.Placing). UserKeeps z.user (placed_in (parked_in d s) s)) (sym e.side) k)
-
-pub lists_responded : (user : UserState) (rows : List PendingRow) (d : DeviceState) (lists : List Taken) (s : ℕ) (u : Unfinished) (p : sides.Parked) (parts : List (List ℕ)) →
-    CanRespond user rows d lists s u p parts → d.settings.flags.ooo ≡ true → ListsSound (after_respond d s) lists
-lists_responded user rows d lists s u p parts h o =
-    let a : ListsSound (parked_in d s) lists = lists_parked d lists s h.owned in
-    let b : ListsSound (turned_in (parked_in d s) s Parked Placed) lists = lists_turned (parked_in d s) lists s Parked Placed a in
-    let k : ListsSound (placed_in (parked_in d s) s) lists = record { listed = b.listed; differ = b.differ; below = b.below; sizes = b.sizes; spans = b.spans } in
-    subst (λ (z : DeviceState). ListsSound z lists) (sym (device_responds d s (any_first (is_at s Handled) d.unfinished u h.found) o)) k

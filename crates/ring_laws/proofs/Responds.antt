@@ -10,12 +10,11 @@ use Rattle.region_model.specs.Sides as sides
 use Rattle.region_model.specs.Represents.{BlocksStand, IdsStand, JobsStand, NotesStand, RingStands, TargetKeeps, UserKeeps}
 use Rattle.region_model.specs.UserSteps.{user_respond_answer, user_responded}
 use Rattle.region_model.specs.HandSteps.{hand_responded}
-use Rattle.tcmu_model.specs.Owned.{ListsSound}
 use Rattle.ring_laws.specs.Responded.{CanRespond}
 use Rattle.ring_laws.proofs.InOrderAnswer.{answer_in_order}
-use Rattle.ring_laws.proofs.InOrderKept.{blocks_in_order, ids_in_order, jobs_in_order, lists_in_order, notes_in_order, pages_in_order, ring_in_order, side_in_order, target_in_order}
+use Rattle.ring_laws.proofs.InOrderKept.{blocks_in_order, ids_in_order, jobs_in_order, notes_in_order, pages_in_order, ring_in_order, side_in_order, target_in_order}
 use Rattle.ring_laws.proofs.RespondedJobs.{answer_responded, jobs_responded}
-use Rattle.ring_laws.proofs.RespondedKept.{blocks_responded, ids_responded, lists_responded, notes_responded, pages_responded, ring_responded, side_responded, target_responded}
+use Rattle.ring_laws.proofs.RespondedKept.{blocks_responded, ids_responded, notes_responded, pages_responded, ring_responded, side_responded, target_responded}
 
 pub answer_same : (user : UserState) (rows : List PendingRow) (d : DeviceState) (lists : List Taken) (s : ℕ) (u : Unfinished) (p : sides.Parked) (parts : List (List ℕ)) →
     CanRespond user rows d lists s u p parts → user_respond_answer user p.job.id ≡ respond_answer d s
@@ -79,14 +78,6 @@ side_kept r user rows d lists s u p parts h keeps =
     ⊎_elim
     (λ (o : d.settings.flags.ooo ≡ true). side_responded r user rows d lists s u p parts h o keeps)
     (λ (o : d.settings.flags.ooo ≡ false). side_in_order r user rows d lists s u p parts h o keeps)
-    (cases_Bool d.settings.flags.ooo)
-
-pub lists_kept : (user : UserState) (rows : List PendingRow) (d : DeviceState) (lists : List Taken) (s : ℕ) (u : Unfinished) (p : sides.Parked) (parts : List (List ℕ)) →
-    CanRespond user rows d lists s u p parts → ListsSound (after_respond d s) lists
-lists_kept user rows d lists s u p parts h =
-    ⊎_elim
-    (λ (o : d.settings.flags.ooo ≡ true). lists_responded user rows d lists s u p parts h o)
-    (λ (o : d.settings.flags.ooo ≡ false). lists_in_order user rows d lists s u p parts h o)
     (cases_Bool d.settings.flags.ooo)
 
 pub pages_kept : (r : RegionState) (user : UserState) (rows : List PendingRow) (d : DeviceState) (lists : List Taken) (s : ℕ) (u : Unfinished) (p : sides.Parked) (parts : List (List ℕ)) →

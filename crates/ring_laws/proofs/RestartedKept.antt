@@ -1,10 +1,10 @@
 -- What a restart keeps, point by point.
-use Rattle.std.proofs.Common.{◌≡◌, ℕ, ◌<◌, ◌||◌, not, Bool, true, false, List, [], ◌∷◌, ◌++◌, length, map, filter, refl, sym, ap, ◌∙◌, Option, Some, None, slice_get, subst, ⊎_elim}
+use Rattle.std.proofs.Common.{◌≡◌, ℕ, ◌||◌, not, Bool, true, false, List, [], ◌∷◌, ◌++◌, map, filter, refl, sym, ap, ◌∙◌, Option, Some, None, slice_get, subst, ⊎_elim}
 use Rattle.std.specs.Bool.{MatchBool}
 use Rattle.std.proofs.lemmas.Bool.{cases_Bool, true≢false, false≢true, or_parts, or_left, or_right}
 use Rattle.tcmu_model.specs.declared.state.CommandState.{CommandState}
 use Rattle.tcmu_model.specs.declared.state.CommandState.TheVariants.{Waiting, Out, Handled, Parked, Placed, Lost}
-use Rattle.tcmu_model.specs.Lengths.{blocks_of, block_size}
+use Rattle.tcmu_model.specs.Lengths.{block_size}
 use Rattle.tcmu_model.specs.Device.{Unfinished, DeviceState, has_state}
 use Rattle.tcmu_model.specs.Events.{is_in_hand, lose, answered, after_restart}
 use Rattle.tcmu_types.specs.Numbers.{is_among, Differ}
@@ -26,7 +26,7 @@ use Rattle.ring_laws.proofs.Ticked.{ring_by, ids_by}
 use Rattle.ring_laws.proofs.GivenBack.{all_back, back-other, back-data, data-other, held-home}
 use Rattle.ring_laws.proofs.HeldApart.{every-picked, picked-apart, picked-held, held-joined, differ-both}
 use Rattle.ring_laws.proofs.JobsBack.{GoesBack, all_jobs_back}
-use Rattle.ring_laws.proofs.Lost.{lost_blind, lost_hand, lost_payload, held_lost, none_in_hand, answers_lost}
+use Rattle.ring_laws.proofs.Lost.{lost_blind, lost_hand, lost_payload, none_in_hand, answers_lost}
 use Rattle.ring_laws.proofs.Matched.{matched, unmatched}
 use Rattle.tcmu_types.proofs.Rises.{among-append}
 
@@ -266,17 +266,4 @@ side_restarted user d h =
       published = h.published;
       place = λ a. absurd (false≢true a);
       items = λ a. absurd (false≢true a);
-    }
-
-pub lists_restarted : (d : DeviceState) (lists : List Taken) → ListsSound d lists → ListsSound (after_restart d) lists
-unfolding after_restart
-lists_restarted d lists h =
-    let held : held_by lists (map (lose (answered d)) d.unfinished) ≡ held_by lists d.unfinished = held_lost lists (answered d) d.unfinished in
-    let P : Unfinished → Type 0 = λ u. length (list_of lists u.serial) ≡ blocks_of d.settings.pages u.command in
-    record {
-      listed = h.listed;
-      differ = subst Differ (sym held) h.differ;
-      below = subst (Every (λ (k : ℕ). k < d.settings.blocks)) (sym held) h.below;
-      sizes = every-map (lose (answered d)) P P d.unfinished (λ u p. ap (λ s. length (list_of lists s)) (lost_blind (λ v. v.serial) (answered d) u (λ t o. refl)) ∙ p ∙ ap (blocks_of d.settings.pages) (sym (lost_blind (λ v. v.command) (answered d) u (λ t o. refl)))) h.sizes;
-      spans = h.spans;
     }

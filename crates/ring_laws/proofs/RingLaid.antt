@@ -17,7 +17,8 @@ use Rattle.region_model.specs.TargetSteps.{pads_of}
 use Rattle.ring_laws.proofs.Bytes.{part}
 use Rattle.ring_laws.proofs.Layouts.{mailbox_moved}
 use Rattle.ring_laws.specs.Placed.{HoldsItems}
-use Rattle.ring_laws.proofs.Places.{apart_in_ring, laid_with, LaidCase, laid_case, Old, Padding, New, take-laid, lengths_to_new, ends_within, used_is, lengths_more}
+use Rattle.ring_laws.proofs.Places.{apart_in_ring, lengths_to_new, ends_within, used_is, lengths_more}
+use Rattle.tcmu_model.proofs.LaidItems.{laid_with, LaidCase, laid_case, Old, Padding, New, take-laid}
 use Rattle.ring_laws.proofs.LaidEntry.{laid_in, entered, Room, has_room, entered_part, entered_new, entered_pad, length-entered, take-entered}
 use Rattle.tcmu_model.proofs.Laying.{lengths-pads, lengths-append}
 

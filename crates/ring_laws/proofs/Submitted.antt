@@ -1,78 +1,23 @@
 -- A submit that queues a command.
-use Rattle.std.proofs.Common.{◌≡◌, ℕ, ◌+◌, ◌*◌, ◌/◌, ◌≤◌, ◌<◌, ◌==◌, ◌&&◌, true, false, List, length, map, refl, sym, ap, arith, ⊎_elim, eqb, ltb}
-use Rattle.std.proofs.lemmas.Bool.{cases_Bool, ltb-false, leb-true, and_parts}
+use Rattle.std.proofs.Common.{◌≡◌, ℕ, ◌+◌, false, List, map, refl, ap}
 use Rattle.tcmu_types.specs.Data.{CommandData}
 use Rattle.tcmu_model.specs.Lengths.{block_size}
-use Rattle.tcmu_model.specs.RingState.{RingState, Item, Laid, lengths, head, used, free, need, pads, with_item, commands_in, is_command, serials_in}
-use Rattle.tcmu_model.specs.RingState as ring
 use Rattle.tcmu_model.specs.Device.{DeviceState}
 use Rattle.tcmu_model.specs.BlockLists.{Taken, with_taken}
 use Rattle.region_model.specs.Sides.{InHand, Recorded, TargetState, UserState}
 use Rattle.region_model.specs.Represents.{RingStands, TargetKeeps, IsId, IdsStand, BlocksStand, JobsStand, NotesStand, UserKeeps}
 use Rattle.region_model.specs.TargetSteps.{region_laid, target_laid, region_submitted, target_submitted}
 use Rattle.tcmu_types.specs.declared.answer.Submit.TheVariants as submit
-use Rattle.tcmu_model.specs.Events.{with_command, after_submit, submit_answer, queued_or_full, queued_or_delayed, fits_ring, fits_blocks, entry_length_in, blocks_in, free_blocks, held_blocks}
+use Rattle.tcmu_model.specs.Events.{with_command, after_submit, submit_answer}
 use Rattle.tcmu_types.specs.Numbers.{is_among}
 use Rattle.region_model.specs.Regions.{RegionState, AreSized}
 use Rattle.tcmu_model.specs.Sound.{IsSound}
-use Rattle.tcmu_types.specs.Lists.{Every}
-use Rattle.tcmu_model.proofs.Basics.{laid_rise}
-use Rattle.tcmu_types.proofs.Rises.{rise_within}
-use Rattle.tcmu_types.proofs.Everies.{every-weaker}
-use Rattle.tcmu_model.specs.Owned.{ListsSound, HasRoom}
+use Rattle.tcmu_model.specs.Owned.{ListsSound}
 use Rattle.ring_laws.proofs.RingLaid.{stands-by}
 use Rattle.ring_laws.proofs.LaidBlocks.{blocks_stand_laid}
-use Rattle.ring_laws.proofs.LaidLists.{lists_sound_laid}
 use Rattle.ring_laws.proofs.LaidCommands.{notes_stand_laid, jobs_stand_laid, side_stands_laid, pages_laid, sized_laid}
 use Rattle.ring_laws.proofs.LaidIds.{stands_laid, ids_stand_laid, target_stands_laid}
-
--- what a queued answer says of room
-room_of : (d : DeviceState) (c : CommandData) → IsSound d → 2 * entry_length_in d c ≤ d.ring.size → fits_ring d c ≡ true → fits_blocks d c ≡ true → HasRoom d c
-room_of d c sound small f b =
-    let k : blocks_in d c ≤ free_blocks d = leb-true _ _ b in
-    let h : held_blocks d ≤ d.settings.blocks = sound.room.blocks in
-    record { small = small; fits = leb-true _ _ f; blocks = omega arith }
-
-pub queued_room : (d : DeviceState) (c : CommandData) (s : ℕ) → IsSound d → submit_answer d c ≡ submit.Queued s → HasRoom d c × (s ≡ d.accepted + 1)
-unfolding submit_answer queued_or_full queued_or_delayed
-queued_room d c s sound h =
-    ⊎_elim
-    (λ (b : d.blocked ≡ true). let g : submit.Busy ≡ submit.Queued s = rw b at h in absurd (cc))
-    (λ (b : d.blocked ≡ false).
-    ⊎_elim
-    (λ (r : ltb d.ring.size (2 * entry_length_in d c) ≡ true). let g : submit.TooBig (entry_length_in d c) (d.ring.size / 2) ≡ submit.Queued s = rw (b, r) at h in absurd (cc))
-    (λ (r : ltb d.ring.size (2 * entry_length_in d c) ≡ false).
-    ⊎_elim
-    (λ (l : ltb d.settings.blocks (blocks_in d c) ≡ true). let g : submit.TooBig (blocks_in d c) d.settings.blocks ≡ submit.Queued s = rw (b, r, l) at h in absurd (cc))
-    (λ (l : ltb d.settings.blocks (blocks_in d c) ≡ false).
-    let small : 2 * entry_length_in d c ≤ d.ring.size = ltb-false _ _ r in
-    ⊎_elim
-    (λ (q : eqb d.settings.qfull 0 ≡ true).
-    ⊎_elim
-    (λ (f : fits_ring d c ≡ true).
-    ⊎_elim
-    (λ (k : fits_blocks d c ≡ true). let g : submit.Queued (d.accepted + 1) ≡ submit.Queued s = rw (b, r, l, q, f, k) at h in (room_of d c sound small f k, let e : d.accepted + 1 ≡ s = cc in sym e))
-    (λ (k : fits_blocks d c ≡ false). let g : submit.FullBlocks (blocks_in d c) (free_blocks d) ≡ submit.Queued s = rw (b, r, l, q, f, k) at h in absurd (cc))
-    (cases_Bool (fits_blocks d c)))
-    (λ (f : fits_ring d c ≡ false). let g : submit.FullRing (ring.need d.ring (entry_length_in d c)) (ring.free d.ring) ≡ submit.Queued s = rw (b, r, l, q, f) at h in absurd (cc))
-    (cases_Bool (fits_ring d c)))
-    (λ (q : eqb d.settings.qfull 0 ≡ false).
-    ⊎_elim
-    (λ (f : fits_ring d c && fits_blocks d c && (length d.delayed == 0) ≡ true).
-    let g : submit.Queued (d.accepted + 1) ≡ submit.Queued s = rw (b, r, l, q, f) at h in
-    let p = and_parts (fits_ring d c && fits_blocks d c) (length d.delayed == 0) f in
-    let p0 = and_parts (fits_ring d c) (fits_blocks d c) p.0 in
-    (room_of d c sound small p0.0 p0.1, let e : d.accepted + 1 ≡ s = cc in sym e))
-    (λ (f : fits_ring d c && fits_blocks d c && (length d.delayed == 0) ≡ false). let g : submit.Delayed (d.accepted + 1) ≡ submit.Queued s = rw (b, r, l, q, f) at h in absurd (cc))
-    (cases_Bool (fits_ring d c && fits_blocks d c && (length d.delayed == 0))))
-    (cases_Bool (eqb d.settings.qfull 0)))
-    (cases_Bool (ltb d.settings.blocks (blocks_in d c))))
-    (cases_Bool (ltb d.ring.size (2 * entry_length_in d c))))
-    (cases_Bool d.blocked)
-
-pub above_accepted : (d : DeviceState) (s : ℕ) → IsSound d → s ≡ d.accepted + 1 → Every (λ k. k < s) (serials_in d.ring.laid)
-above_accepted d s sound e =
-    every-weaker (λ k. (0 < k) × (k ≤ d.accepted)) (λ k. k < s) (serials_in d.ring.laid) (λ k h. let l : k ≤ d.accepted = h.1 in omega arith) (rise_within 0 (serials_in d.ring.laid) d.accepted (laid_rise d sound.serials))
+use Rattle.tcmu_model.proofs.AnsweredRoom.{queued_room, above_accepted}
 
 -- the ring does not look at how many are accepted
 ring_accepted : (front : List ℕ) (items : List Recorded) (d : DeviceState) (lists : List Taken) (a : ℕ) → RingStands front items d lists → RingStands front items (record d { accepted = a }) lists
@@ -132,14 +77,6 @@ blocks_submitted r t d lists s c id sound owned sized pages stand keeps h =
     let q = queued_room d c s sound h in
     let k : BlocksStand (region_laid r t c id).blocks (with_command d s c) (with_taken d lists s c) = blocks_stand_laid r t d lists s c id sound owned sized pages stand keeps q.0 (above_accepted d s sound q.1) in
     record { all = k.all; just = k.just }
-
-pub lists_submitted : (d : DeviceState) (lists : List Taken) (s : ℕ) (c : CommandData) → IsSound d → ListsSound d lists → submit_answer d c ≡ submit.Queued s →
-    ListsSound (after_submit d c (submit.Queued s)) (with_taken d lists s c)
-unfolding after_submit with_command
-lists_submitted d lists s c sound owned h =
-    let q = queued_room d c s sound h in
-    let k : ListsSound (with_command d s c) (with_taken d lists s c) = lists_sound_laid d lists s c sound owned q.0 (above_accepted d s sound q.1) in
-    record { listed = k.listed; differ = k.differ; below = k.below; sizes = k.sizes; spans = k.spans }
 
 pub notes_submitted : (r : RegionState) (t : TargetState) (d : DeviceState) (lists : List Taken) (s : ℕ) (c : CommandData) (id : ℕ) →
     IsSound d → ListsSound d lists → RingStands r.front t.items d lists → NotesStand r.front t.rows d → TargetKeeps t d lists → IsId id → submit_answer d c ≡ submit.Queued s →

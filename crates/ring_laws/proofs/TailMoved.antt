@@ -20,7 +20,6 @@ use Rattle.tcmu_model.proofs.Facts.{publishable_fits}
 use Rattle.region_model.specs.Picture.{place_of, tail}
 use Rattle.region_model.specs.Sides.{Recorded, PendingRow, TargetState, UserState, InHand}
 use Rattle.region_model.specs.Represents.{RingStands, IdsStand, NotesStand, BlocksStand, JobsStand, TargetKeeps, UserKeeps, recorded, entry_at, id_at, ids_in, NoteStands}
-use Rattle.tcmu_model.specs.Owned.{ListsSound}
 use Rattle.region_model.specs.UserSteps.{is_cmd, movable, moving, moving_items, user_publish_answer, user_published, region_published}
 use Rattle.ring_laws.proofs.Bytes.{part-written_behind}
 use Rattle.ring_laws.proofs.Layouts.{take-written_inside, add-mod}
@@ -317,14 +316,6 @@ publish_same user d sound att keeps =
     let b : count_by is_cmd (moving_items user) ≡ commands_in (take (publishable d) d.ring.laid) - published_commands d.ring = omega (arith, commands_there user d m, w) in
     ap (λ n. publish.Moved n (count_by is_cmd (moving_items user))) a ∙ ap (publish.Moved (publishable d - d.ring.published)) b
     ∙ sym (ap (λ x. cond x (publish.Moved (publishable d - d.ring.published) (commands_in (take (publishable d) d.ring.laid) - published_commands d.ring)) publish.Detached) att)
-
-pub lists_published : (d : DeviceState) (lists : List Taken) → ListsSound d lists → ListsSound (after_publish d) lists
-unfolding after_publish
-lists_published d lists h =
-    ⊎_elim
-    (λ (a : d.attached ≡ true). rw a (record { listed = h.listed; differ = h.differ; below = h.below; sizes = h.sizes; spans = h.spans }))
-    (λ (a : d.attached ≡ false). rw a (record { listed = h.listed; differ = h.differ; below = h.below; sizes = h.sizes; spans = h.spans }))
-    (cases_Bool d.attached)
 
 pub pages_published : (r : RegionState) (user : UserState) (d : DeviceState) → r.pages ≡ d.settings.pages → (region_published r user).pages ≡ (after_publish d).settings.pages
 unfolding after_publish region_published

@@ -1,33 +1,23 @@
 -- The target answers as the device does.
-use Rattle.std.proofs.Common.{◌≡◌, ℕ, ◌+◌, ◌-◌, ◌*◌, ◌/◌, ◌==◌, ◌&&◌, Bool, not, cond, List, [], ◌∷◌, ◌++◌, length, refl, sym, ap, ◌∙◌, length-append}
+use Rattle.std.proofs.Common.{◌≡◌, ℕ, ◌+◌, ◌-◌, ◌*◌, ◌/◌, ◌==◌, ◌&&◌, Bool, not, cond, List, [], ◌∷◌, length, refl, ap, ◌∙◌}
 use Rattle.std.specs.Prelude.{nat_lt, nat_le}
 use Rattle.tcmu_types.specs.declared.answer.Submit.TheVariants as submit
 use Rattle.tcmu_types.specs.declared.answer.Enter.TheVariants as enter
-use Rattle.std.specs.List.{sum_by}
-use Rattle.std.proofs.lemmas.List.Sums.{sum_by-cons}
 use Rattle.tcmu_types.specs.Data.{CommandData, SettingsData}
 use Rattle.tcmu_model.specs.Lengths.{blocks_of, entry_length}
 use Rattle.tcmu_model.specs.RingState.{RingState, Item, Laid, lengths, head, used, free, need, pads, with_item, commands_in, is_command}
 use Rattle.tcmu_model.specs.RingState as ring
-use Rattle.tcmu_model.specs.Device.{Unfinished, DeviceState, Delayed}
-use Rattle.tcmu_model.specs.BlockLists.{Taken, list_of, held_by}
+use Rattle.tcmu_model.specs.Device.{DeviceState, Delayed}
+use Rattle.tcmu_model.specs.BlockLists.{Taken}
 use Rattle.region_model.specs.Sides.{TargetState}
 use Rattle.region_model.specs.Represents.{RingStands, TargetKeeps}
 use Rattle.region_model.specs.TargetSteps.{used_in, free_in, need_in, blocks_held, length_in, target_submit_answer, submit_or_full, submit_or_delay, target_enter_answer, enter_or_full, blocks_free, blocks_wanted, fits_in, target_block_answer}
 use Rattle.tcmu_types.specs.declared.answer.Submit.{Submit}
 use Rattle.tcmu_model.specs.Events.{submit_answer, queued_or_full, queued_or_delayed, enter_answer, entered_or_full, entry_length_in, blocks_in, free_blocks, fits_ring, fits_blocks, block_answer}
 use Rattle.tcmu_model.specs.Sound.{IsSound}
-use Rattle.tcmu_types.specs.Lists.{Every}
 use Rattle.tcmu_model.specs.Owned.{ListsSound}
 use Rattle.ring_laws.proofs.Agree.{Agrees, agrees, held-same}
-
-pub held_length : (pages : ℕ) (lists : List Taken) (us : List Unfinished) → Every (λ (u : Unfinished). length (list_of lists u.serial) ≡ blocks_of pages u.command) us → length (held_by lists us) ≡ sum_by (λ (u : Unfinished). blocks_of pages u.command) us
-held_length pages lists [] h = refl
-held_length pages lists (u ∷ us) h =
-    let a : length (list_of lists u.serial ++ held_by lists us) ≡ length (list_of lists u.serial) + length (held_by lists us) = length-append (list_of lists u.serial) (held_by lists us) in
-    let b : length (list_of lists u.serial) ≡ blocks_of pages u.command = h.0 in
-    let c : length (held_by lists us) ≡ sum_by (λ (v : Unfinished). blocks_of pages v.command) us = held_length pages lists us h.1 in
-    a ∙ ap (λ z. z + length (held_by lists us)) b ∙ ap (λ z. blocks_of pages u.command + z) c ∙ sym (sum_by-cons (λ (v : Unfinished). blocks_of pages v.command) u us)
+use Rattle.tcmu_model.proofs.ListsLaid.{held_length}
 
 -- what the target computes of room is what the device has
 pub record Rooms (t : TargetState) (d : DeviceState) : Type 0 where

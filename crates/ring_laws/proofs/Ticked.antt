@@ -1,9 +1,9 @@
 -- A tick, a block and an unblock: the region stays as it is, and the target's records follow the device.
-use Rattle.std.proofs.Common.{◌≡◌, ℕ, ◌<◌, Bool, true, false, not, cond, List, [], ◌∷◌, ◌++◌, length, take, drop, map, filter, refl, sym, ap, ◌∙◌, Option, Some, None, slice_get, subst, ⊎_elim, eqb}
+use Rattle.std.proofs.Common.{◌≡◌, ℕ, Bool, true, false, not, cond, List, [], ◌∷◌, ◌++◌, length, take, drop, map, filter, refl, sym, ap, ◌∙◌, Option, Some, None, slice_get, subst, ⊎_elim, eqb}
 use Rattle.std.proofs.lemmas.Bool.{cases_Bool}
 use Rattle.tcmu_types.specs.Data.{SettingsData, DoneData}
-use Rattle.tcmu_types.specs.Lists.{first_of, Every}
-use Rattle.tcmu_model.specs.Lengths.{blocks_of, block_size}
+use Rattle.tcmu_types.specs.Lists.{first_of}
+use Rattle.tcmu_model.specs.Lengths.{block_size}
 use Rattle.tcmu_model.specs.RingState.{Item, Laid, commands_in, serials_in}
 use Rattle.tcmu_model.specs.RingState as ring
 use Rattle.tcmu_model.specs.Device.{Unfinished, Delayed, DeviceState, has_serial, has_state}
@@ -18,7 +18,6 @@ use Rattle.region_model.specs.Regions.{RegionState}
 use Rattle.region_model.specs.Sides.{Recorded, PendingRow, GivenJob, JobState, InHand, TargetState, UserState}
 use Rattle.region_model.specs.Represents.{RingStands, IdsStand, NotesStand, BlocksOf, BlocksStand, JobsStand, AreGiven, AreOut, IsGiven, IsOut, is_out, IsJobOf, IsId, id_of, row_has, has_id, serial_with, TargetKeeps, UserKeeps, entry_at, id_in, ids_in, pending_of}
 use Rattle.region_model.specs.TargetSteps.{is_due_at, expired_at, checked, ticked_log, target_tick_answer, target_ticked, target_blocked}
-use Rattle.tcmu_model.specs.Owned.{ListsSound}
 use Rattle.ring_laws.proofs.NoteIds.{note_id_same, note_stands_by}
 use Rattle.ring_laws.proofs.Matched.{match_left}
 
@@ -100,10 +99,6 @@ pub side_blocked : (user : UserState) (d : DeviceState) (b : Bool) → UserKeeps
 unfolding after_block
 side_blocked user d b h =
     record { ring = h.ring; pages = h.pages; flags = h.flags; tail = h.tail; dispatched = h.dispatched; placed = h.placed; published = h.published; place = h.place; items = h.items }
-
-pub lists_blocked : (d : DeviceState) (lists : List Taken) (b : Bool) → ListsSound d lists → ListsSound (after_block d b) lists
-unfolding after_block
-lists_blocked d lists b h = record { listed = h.listed; differ = h.differ; below = h.below; sizes = h.sizes; spans = h.spans }
 
 pub pages_blocked : (r : RegionState) (d : DeviceState) (b : Bool) → r.pages ≡ d.settings.pages → r.pages ≡ (after_block d b).settings.pages
 unfolding after_block
@@ -355,19 +350,6 @@ pub side_ticked : (user : UserState) (d : DeviceState) (n : ℕ) → UserKeeps u
 unfolding after_tick
 side_ticked user d n h =
     record { ring = h.ring; pages = h.pages; flags = h.flags; tail = h.tail; dispatched = h.dispatched; placed = h.placed; published = h.published; place = h.place; items = h.items }
-
-pub lists_ticked : (d : DeviceState) (lists : List Taken) (n : ℕ) → ListsSound d lists → ListsSound (after_tick d n) lists
-unfolding after_tick
-lists_ticked d lists n h =
-    let now : ℕ = later d.now n in
-    record {
-      listed = h.listed;
-      differ = subst Differ (sym (held_expired lists now d.unfinished)) h.differ;
-      below = subst (Every (λ (k : ℕ). k < d.settings.blocks)) (sym (held_expired lists now d.unfinished)) h.below;
-      sizes = every-map (expire now) (λ (u : Unfinished). length (list_of lists u.serial) ≡ blocks_of d.settings.pages u.command) (λ (u : Unfinished). length (list_of lists u.serial) ≡ blocks_of d.settings.pages u.command) d.unfinished
-          (λ u p. blind (λ (v : Unfinished). length (list_of lists v.serial) ≡ blocks_of d.settings.pages v.command) now u (λ v b q. q) p) h.sizes;
-      spans = h.spans;
-    }
 
 pub pages_ticked : (r : RegionState) (d : DeviceState) (n : ℕ) → r.pages ≡ d.settings.pages → r.pages ≡ (after_tick d n).settings.pages
 unfolding after_tick

@@ -59,6 +59,7 @@ abbrev pub lists_after : DeviceState → List Taken → EventData → AnswerData
 lists_after d lists (ev.Submit c) (ev.Submitted (submit.Queued s)) after = with_taken d lists s c
 lists_after d lists ev.Enter (ev.Entered (enter.Entered s)) after =
     elim (d.delayed) [ [] ↦ lists | w ∷ ws ↦ with_taken d lists s w.command ]
+lists_after d lists ev.Stat answer after = lists
 lists_after d lists event answer after = kept_lists after lists
 
 -- the block lists of a run
@@ -66,3 +67,8 @@ abbrev pub BlockRun : HandlerRelation → Device → List Taken → List EntryDa
 BlockRun R d lists [] d' lists' = (d' ≡ d) × (lists' ≡ lists)
 BlockRun R d lists (e ∷ es) d' lists' =
     (mid : Device) × Step R d e mid × BlockRun R mid (lists_after d.state lists e.event e.answer mid.state) es d' lists'
+
+-- a run has block lists
+pub record HasLists (R : HandlerRelation) (d : Device) (lists : List Taken) (es : List EntryData) (d' : Device) : Type 0 where
+  pub behind : List Taken
+  pub run : BlockRun R d lists es d' behind

@@ -4,6 +4,7 @@
 
 mod laws_drain;
 mod laws_journal;
+mod laws_lists;
 mod laws_log;
 mod laws_ring;
 mod laws_sound;
@@ -17,6 +18,7 @@ mod worked;
 
 pub use laws_drain::{drain_empties, drain_ends, drain_goes_on};
 pub use laws_journal::journal_law;
+pub use laws_lists::{block_lists_alone, block_lists_law};
 pub use laws_log::{delayed_law, log_law, open_law};
 pub use laws_ring::{answers_law, publish_law, ring_law, room_law};
 pub use laws_sound::{Answering, events_keep_sound, opening_is_sound, runs_keep_sound};
@@ -24,6 +26,5 @@ pub use laws_states::{in_hand_law, placed_law, waiting_law};
 pub use lengths::{blocks_of, entry_length, tmr_length};
 pub use state::CommandState;
 pub use worked::{
-    expiry_examples, note_examples, order_examples, reset_examples, room_examples,
-    waiting_examples,
+    expiry_examples, note_examples, order_examples, reset_examples, room_examples, waiting_examples,
 };

@@ -16,6 +16,8 @@ impl Answering for Idle {
 #[test]
 fn laws_hold_for_a_handler() {
     runs_keep_sound::<Idle>();
+    block_lists_law::<Idle>();
+    block_lists_alone::<Idle, Idle>();
     drain_ends::<Idle>();
     drain_goes_on::<Idle>();
     drain_empties::<Idle>();

@@ -4,7 +4,7 @@ ghost use Rattle.std.specs.Option.{option_map};
 ghost use Rattle.tcmu_types.specs.Views.{event_data, answer_data};
 ghost use Rattle.tcmu_model.specs.Steps.{Makes, most_accepted};
 ghost use Rattle.tcmu_model.specs.Drain.{chosen};
-ghost use Rattle.tcmu_path.specs.Calls.{Keeps, Accepts, ListsGoOn};
+ghost use Rattle.tcmu_path.specs.Calls.{Keeps, Accepts, ListsFollow};
 ghost use Rattle.tcmu_path.specs.Tasks.{CanBeMade};
 
 use crate::Path;
@@ -17,7 +17,7 @@ pub fn make_event<P: Path>(alloc: Global, path: &mut P, event: &Event) -> Result
     requires few { (P.device path.old).state.accepted < 2 ^ 63 }
     requires can { CanBeMade (event_data event.now) }
     ensures makes { IfOk result (λ a. Makes P.relation (P.device path.old) (event_data event.now) (answer_data a) (P.device path.new)) }
-    ensures lists { IfOk result (λ a. ListsGoOn (P.lists path.old) (P.device path.old) (event_data event.now) (answer_data a) (P.device path.new) (P.lists path.new)) }
+    ensures lists { IfOk result (λ a. ListsFollow (P.lists path.old) (P.device path.old) (event_data event.now) (answer_data a) (P.device path.new) (P.lists path.new)) }
     ensures unchanged { OnErr result (Keeps (P.device path.old) (P.device path.new) (P.lists path.old) (P.lists path.new)) }
     ensures accepts { Accepts (most_accepted (event_data event.now)) (P.device path.old) (P.device path.new) }
 {

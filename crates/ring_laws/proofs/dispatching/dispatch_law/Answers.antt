@@ -1,7 +1,8 @@
 use Rattle.ring_laws.proofs.DispatchAnswers.{answer_dispatched}
 use Rattle.ring_laws.proofs.DispatchBlocks.{blocks_dispatched}
 use Rattle.ring_laws.proofs.DispatchJobs.{jobs_dispatched}
-use Rattle.ring_laws.proofs.DispatchKept.{ring_dispatched, ids_dispatched, notes_dispatched, target_dispatched, side_dispatched, lists_dispatched, pages_dispatched}
+use Rattle.ring_laws.proofs.DispatchKept.{ring_dispatched, ids_dispatched, notes_dispatched, target_dispatched, side_dispatched, pages_dispatched}
+use Rattle.tcmu_model.proofs.HoldersKept.{lists_dispatched}
 use Rattle.ring_laws.proofs.dispatching.dispatch_law.Goals as goal
 
 pub returns : goal.returns

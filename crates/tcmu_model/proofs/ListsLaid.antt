@@ -1,25 +1,72 @@
 -- A command is laid: the block lists stay sound.
-use Rattle.std.proofs.Common.{◌≡◌, ℕ, ◌+◌, ◌≤◌, ◌<◌, ◌||◌, true, false, List, [], ◌∷◌, ◌++◌, length, refl, sym, ap, ◌∙◌, arith, append_assoc, append-nil, subst, eqb}
-use Rattle.std.proofs.lemmas.Bool.{eqb-false, eq-eqb, ne_eqb, false≢true, or_parts, or_left}
+use Rattle.std.proofs.Common.{◌≡◌, ℕ, ◌+◌, ◌≤◌, ◌<◌, ◌||◌, Bool, true, false, List, [], ◌∷◌, ◌++◌, length, Some, None, refl, sym, ap, ◌∙◌, arith, append_assoc, append-nil, subst, ⊎_elim, eqb, length-append}
+use Rattle.std.specs.List.{sum_by}
+use Rattle.std.proofs.lemmas.Bool.{cases_Bool, eqb-false, eq-eqb, ne_eqb, false≢true, or_parts, or_left}
+use Rattle.std.proofs.lemmas.List.Sums.{sum_by-cons}
 use Rattle.tcmu_types.specs.Data.{CommandData}
-use Rattle.tcmu_model.specs.Lengths.{blocks_of, entry_length}
-use Rattle.tcmu_model.specs.RingState.{RingState, Item, Laid, lengths, head, used, free, need, pads, with_item, commands_in, is_command, serials_in}
-use Rattle.tcmu_model.specs.RingState as ring
-use Rattle.tcmu_model.specs.Device.{Unfinished, DeviceState}
-use Rattle.tcmu_model.specs.BlockLists.{Taken, list_of, held_by, least_free, blocks_taken, with_taken}
-use Rattle.tcmu_model.specs.Events.{held_blocks, waiting, with_command}
+use Rattle.tcmu_types.specs.Lists.{first_of, Every}
 use Rattle.tcmu_types.specs.Numbers.{is_among, Differ}
-use Rattle.tcmu_model.specs.Sound.{IsSound}
-use Rattle.tcmu_types.specs.Lists.{Every}
-use Rattle.tcmu_model.proofs.Laying.{serials-append}
-use Rattle.tcmu_types.proofs.Rises.{among-append, among-here}
+use Rattle.tcmu_types.specs.declared.answer.Submit.TheVariants as submit
+use Rattle.tcmu_types.specs.declared.answer.Enter.TheVariants as enter
 use Rattle.tcmu_types.proofs.Everies.{every-append, every-weaker}
+use Rattle.tcmu_types.proofs.Rises.{among-append, among-here, among_every}
+use Rattle.tcmu_model.specs.Lengths.{blocks_of, entry_length}
+use Rattle.tcmu_model.specs.RingState.{Item, pads, is_command, serials_in}
+use Rattle.tcmu_model.specs.RingState as ring
+use Rattle.tcmu_model.specs.Device.{Unfinished, Delayed, DeviceState}
+use Rattle.tcmu_model.specs.Events.{held_blocks, waiting, with_command, submit_answer, after_submit, enter_answer, after_enter, after_entering}
+use Rattle.tcmu_model.specs.BlockLists.{Taken, list_of, held_by, least_free, blocks_taken, with_taken}
 use Rattle.tcmu_model.specs.Owned.{ListsSound, HasRoom}
-use Rattle.ring_laws.proofs.Places.{laid_with, LaidCase, laid_case, Old, Padding, New}
-use Rattle.ring_laws.proofs.LaidRing.{first-append, first-here, not_below, serial_at, unlisted, cmd_item, with_waiting}
-use Rattle.ring_laws.proofs.LaidIds.{rows_below, lists_below}
-use Rattle.ring_laws.proofs.TargetAnswers.{held_length}
-use Rattle.ring_laws.proofs.Free.{IsFree, length-least_free, least-are, least-differ}
+use Rattle.tcmu_model.specs.Sound.{IsSound}
+use Rattle.tcmu_model.proofs.Basics.{rows_among}
+use Rattle.tcmu_model.proofs.Laying.{serials-append}
+use Rattle.tcmu_model.proofs.LaidItems.{laid_with, LaidCase, laid_case, Old, Padding, New, serial_at}
+use Rattle.tcmu_model.proofs.FreeBlocks.{IsFree, length-least_free, least-are, least-differ}
+use Rattle.tcmu_model.proofs.AnsweredRoom.{queued_room, above_accepted, room_answered, above_laid}
+
+-- ==== lists of one more
+
+pub first-append : {X : Type 0} (p : X → Bool) (xs : List X) (y : X) → p y ≡ false → first_of p (xs ++ y ∷ []) ≡ first_of p xs
+first-append p [] y h = rw h refl
+first-append p (x ∷ xs) y h =
+    ⊎_elim
+    (λ (e : p x ≡ true). rw e refl)
+    (λ (e : p x ≡ false). rw e (first-append p xs y h))
+    (cases_Bool (p x))
+
+pub first-here : {X : Type 0} (p : X → Bool) (xs : List X) (y : X) → p y ≡ true → first_of p xs ≡ None → first_of p (xs ++ y ∷ []) ≡ Some y
+first-here p [] y h n = rw h refl
+first-here p (x ∷ xs) y h n =
+    ⊎_elim
+    (λ (e : p x ≡ true). let k : Some x ≡ None = rw e at n in absurd (cc))
+    (λ (e : p x ≡ false). let k : first_of p xs ≡ None = rw e at n in rw e (first-here p xs y h k))
+    (cases_Bool (p x))
+
+pub not_below : (s q : ℕ) → q < s → eqb s q ≡ false
+not_below s q h = ne_eqb s q (λ e. absurd (omega arith))
+
+-- no list has a serial above all that are laid
+pub unlisted : (lists : List Taken) (s : ℕ) → Every (λ (t : Taken). t.serial < s) lists → first_of (λ (t : Taken). eqb t.serial s) lists ≡ None
+unlisted [] s h = refl
+unlisted (t ∷ ts) s h = let k : eqb t.serial s ≡ false = ne_eqb t.serial s (λ e. let l : t.serial < s = h.0 in absurd (omega arith)) in rw k (unlisted ts s h.1)
+
+pub rows_below : (d : DeviceState) (s : ℕ) → IsSound d → Every (λ k. k < s) (serials_in d.ring.laid) → Every (λ (u : Unfinished). u.serial < s) d.unfinished
+rows_below d s sound above =
+    every-weaker (λ (u : Unfinished). is_among (serials_in d.ring.laid) u.serial ≡ true) (λ (u : Unfinished). u.serial < s) d.unfinished
+    (λ u h. among_every (λ (k : ℕ). k < s) (serials_in d.ring.laid) u.serial above h) (rows_among d sound.serials)
+
+pub lists_below : (d : DeviceState) (lists : List Taken) (s : ℕ) → ListsSound d lists → Every (λ k. k < s) (serials_in d.ring.laid) → Every (λ (t : Taken). t.serial < s) lists
+lists_below d lists s owned above =
+    every-weaker (λ (t : Taken). is_among (serials_in d.ring.laid) t.serial ≡ true) (λ (t : Taken). t.serial < s) lists
+    (λ t h. among_every (λ (k : ℕ). k < s) (serials_in d.ring.laid) t.serial above h) owned.listed
+
+pub held_length : (pages : ℕ) (lists : List Taken) (us : List Unfinished) → Every (λ (u : Unfinished). length (list_of lists u.serial) ≡ blocks_of pages u.command) us → length (held_by lists us) ≡ sum_by (λ (u : Unfinished). blocks_of pages u.command) us
+held_length pages lists [] h = refl
+held_length pages lists (u ∷ us) h =
+    let a : length (list_of lists u.serial ++ held_by lists us) ≡ length (list_of lists u.serial) + length (held_by lists us) = length-append (list_of lists u.serial) (held_by lists us) in
+    let b : length (list_of lists u.serial) ≡ blocks_of pages u.command = h.0 in
+    let c : length (held_by lists us) ≡ sum_by (λ (v : Unfinished). blocks_of pages v.command) us = held_length pages lists us h.1 in
+    a ∙ ap (λ z. z + length (held_by lists us)) b ∙ ap (λ z. blocks_of pages u.command + z) c ∙ sym (sum_by-cons (λ (v : Unfinished). blocks_of pages v.command) u us)
 
 pub differ-append : (xs ys : List ℕ) → Differ xs → Differ ys → Every (λ y. is_among xs y ≡ false) ys → Differ (xs ++ ys)
 differ-append [] ys d e h = e
@@ -48,6 +95,14 @@ sizes_same : (pages : ℕ) (lists lists' : List Taken) (s : ℕ) (us : List Unfi
     Every (λ (u : Unfinished). length (list_of lists u.serial) ≡ blocks_of pages u.command) us → Every (λ (u : Unfinished). length (list_of lists' u.serial) ≡ blocks_of pages u.command) us
 sizes_same pages lists lists' s [] l h e = tt
 sizes_same pages lists lists' s (u ∷ us) l h e = (ap length (l u.serial h.0) ∙ e.0, sizes_same pages lists lists' s us l h.1 e.1)
+
+-- ==== a command is laid
+
+abbrev pub cmd_item : DeviceState → ℕ → CommandData → Item
+cmd_item d s c = record { len = entry_length d.settings.pages c; laid = ring.Cmd s c }
+
+abbrev pub with_waiting : DeviceState → ℕ → CommandData → List Unfinished
+with_waiting d s c = d.unfinished ++ waiting d s c ∷ []
 
 pub lists_sound_laid : (d : DeviceState) (lists : List Taken) (s : ℕ) (c : CommandData) → IsSound d → ListsSound d lists → HasRoom d c → Every (λ k. k < s) (serials_in d.ring.laid) →
     ListsSound (with_command d s c) (with_taken d lists s c)
@@ -100,3 +155,22 @@ lists_sound_laid d lists s c sound owned room above =
         let q0 : q ≡ s = cc in
         let c0 : c' ≡ c = cc in
         ap (λ k. length (list_of (with_taken d lists s c) k)) q0 ∙ mine ∙ ap (λ (y : CommandData). blocks_of d.settings.pages y) (sym c0)
+
+pub lists_submitted : (d : DeviceState) (lists : List Taken) (s : ℕ) (c : CommandData) → IsSound d → ListsSound d lists → submit_answer d c ≡ submit.Queued s →
+    ListsSound (after_submit d c (submit.Queued s)) (with_taken d lists s c)
+unfolding after_submit with_command
+lists_submitted d lists s c sound owned h =
+    let q = queued_room d c s sound h in
+    let k : ListsSound (with_command d s c) (with_taken d lists s c) = lists_sound_laid d lists s c sound owned q.0 (above_accepted d s sound q.1) in
+    record { listed = k.listed; differ = k.differ; below = k.below; sizes = k.sizes; spans = k.spans }
+
+-- what holds behind the laying of the first one that waits holds behind the step
+by_device : (d : DeviceState) (w : Delayed) (ws : List Delayed) (s : ℕ) (P : DeviceState → Type 0) → d.delayed ≡ w ∷ ws → P (after_entering d (w ∷ ws)) → P (after_enter d (enter.Entered s))
+unfolding after_enter
+by_device d w ws s P e p = subst (λ (xs : List Delayed). P (after_entering d xs)) (sym e) p
+
+pub lists_entered : (d : DeviceState) (lists : List Taken) (w : Delayed) (ws : List Delayed) (s : ℕ) → IsSound d → ListsSound d lists → d.delayed ≡ w ∷ ws → enter_answer d ≡ enter.Entered s →
+    ListsSound (after_enter d (enter.Entered s)) (with_taken d lists w.serial w.command)
+lists_entered d lists w ws s sound owned e h =
+    let k : ListsSound (with_command d w.serial w.command) (with_taken d lists w.serial w.command) = lists_sound_laid d lists w.serial w.command sound owned (room_answered d w ws s sound e h).0 (above_laid d w ws sound e) in
+    by_device d w ws s (λ d'. ListsSound d' (with_taken d lists w.serial w.command)) e (record { listed = k.listed; differ = k.differ; below = k.below; sizes = k.sizes; spans = k.spans })
