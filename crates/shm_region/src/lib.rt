@@ -2,6 +2,7 @@
 //! may be lent.
 #![tactic(auto)]
 
+mod along;
 mod copying;
 mod laws;
 mod lending;
