@@ -11,7 +11,6 @@ use Rattle.tcmu_types.specs.Lists.{first_of, without_first}
 use Rattle.tcmu_model.specs.RingState.{dispatched_commands, serials_in}
 use Rattle.tcmu_model.specs.Device.{Unfinished, DeviceState, is_at}
 use Rattle.tcmu_model.specs.Events.{Placing, after_respond, in_state, is_handled, is_in_hand, placed_by, turned}
-use Rattle.tcmu_types.specs.Numbers.{is_among}
 use Rattle.tcmu_model.specs.Events as events
 use Rattle.tcmu_model.specs.Sound.{IsSound, awaits_answer}
 use Rattle.tcmu_model.specs.BlockLists.{Taken}

@@ -4,8 +4,8 @@ use Rattle.std.specs.List.{list_any}
 use Rattle.std.proofs.lemmas.Bool.{cases_Bool, eqb-false, or_parts}
 use Rattle.std.proofs.Math.Bool.{and-false}
 use Rattle.tcmu_types.specs.Lists.{first_of, without_first, with_first}
-use Rattle.region_model.specs.Pending.{PendingData}
-use Rattle.target_table.specs.Rows.{has_id, is_waiting, is_due, has_passed, with_expired, NotAfter, Precedes, AllPrecede, PrecedesAll, AreInOrder, IdsDiffer, AreIds, ExpiredFirst}
+use Rattle.region_model.specs.Pending.{NotAfter, PendingData}
+use Rattle.target_table.specs.Rows.{has_id, is_waiting, is_due, has_passed, with_expired, Precedes, AllPrecede, PrecedesAll, AreInOrder, IdsDiffer, AreIds, ExpiredFirst}
 use Rattle.region_model.specs.Sides.{PendingRow}
 
 no-row : {r : PendingRow} → ◌≡◌ {A = Option PendingRow} None (Some r) → ⊥

@@ -3,7 +3,7 @@ use Rattle.std.specs.Prelude.{◌≡◌, ℕ, ◌+◌, ◌-◌, ◌≤◌, ◌<�
 use Rattle.std.specs.List.{list_any}
 use Rattle.std.specs.Option.{option_map}
 use Rattle.tcmu_types.specs.Lists.{first_of, without_first}
-use Rattle.region_model.specs.Pending.{PendingData}
+use Rattle.region_model.specs.Pending.{NotAfter, PendingData}
 use Rattle.region_model.specs.Sides.{PendingRow}
 
 -- the rows, how many of them are expired, and for how many more there is a place
@@ -57,13 +57,6 @@ abbrev pub without : TableData → ℕ → TableData
 without t id = without_found t id (pending_of t.rows id)
 
 -- ==== what every table keeps
-
--- both have no deadline, or the second's is not below the first's
-abbrev pub NotAfter : Option ℕ → Option ℕ → Type 0
-NotAfter None None = Unit {0}
-NotAfter (Some a) (Some b) = a ≤ b
-NotAfter None (Some b) = ⊥
-NotAfter (Some a) None = ⊥
 
 pub record Precedes (p q : PendingData) : Type 0 where
   pub serial : p.serial < q.serial
