@@ -124,6 +124,13 @@ impl Ring {
         self.used = 0;
     }
 
+    /// How many bytes the ring has.
+    pub fn size(&self) -> u32
+        ensures { result ≡ self.now.size }
+    {
+        self.size
+    }
+
     /// Where the next item begins, or its padding.
     pub fn head(&self) -> u32
         ensures value { result ≡ self.now.head }

@@ -202,6 +202,10 @@ pub record CanLend (r : RegionState) (iovs : List Iov) : Type 0 where
   pub there : AreHome r.blocks (named_by r iovs)
   pub once : AreOnce (named_by r iovs)
 
+-- no more blocks can be lent than the area has
+abbrev pub LendsFew : Type 0
+LendsFew = (r : RegionState) (iovs : List Iov) → can_lend r iovs ≡ true → length (named_by r iovs) ≤ length r.blocks
+
 -- what was lent and is given back stands where it stood
 abbrev pub LendsAndTakesBack : Type 0
 LendsAndTakesBack = (r : RegionState) (iovs : List Iov) → can_lend r iovs ≡ true → given_back (lent r iovs) iovs (parts_of r iovs) ≡ r

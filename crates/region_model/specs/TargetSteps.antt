@@ -199,6 +199,11 @@ enter_or_full t (w ∷ ws) =
 unfoldable pub target_enter_answer : TargetState → Enter
 target_enter_answer t = enter_or_full t t.delayed
 
+-- the first delayed command has room now
+abbrev pub can_enter : TargetState → List Delayed → Bool
+can_enter t [] = false
+can_enter t (w ∷ ws) = has_room t w.command
+
 abbrev pub first_entered : TargetState → ℕ → List Delayed → TargetState
 first_entered t id [] = t
 first_entered t id (w ∷ ws) = record (target_laid t w.serial w.command id) { delayed = ws }

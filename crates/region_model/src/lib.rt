@@ -8,6 +8,4 @@ mod worked;
 
 pub use entry::{EntryFault, EntryRef, Response};
 pub use mailbox::{Mailbox, MailboxFault};
-pub use worked::{
-    picture_examples, side_examples, target_examples, user_examples, way_examples,
-};
+pub use worked::{picture_examples, side_examples, target_examples, user_examples, way_examples};

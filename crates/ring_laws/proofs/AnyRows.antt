@@ -234,10 +234,8 @@ all_long (x ∷ xs) h =
     (λ (e : is_cmd x ≡ false). let none : cond {A = ℕ} (is_cmd x) 1 0 ≡ 0 = ap (λ b. cond {A = ℕ} b 1 0) e in omega (arith, more, sum, rest, none))
     (cases_Bool (is_cmd x))
 
-pub rows_few : (s : SettingsData) (ms : List CallMade) (t : TargetState) → IsSettings s → Called (opening_target s) ms t → length t.rows < 65535
-rows_few s ms t g c =
-    let k : RowsKept t = rows_of_opening s ms t c in
-    let h : RingKept t = ring_of_opening s ms t g c in
-    let ring : t.settings.ring ≡ s.ring = ap (λ (z : SettingsData). z.ring) (opened_same s ms t c) in
-    let high : s.ring ≤ 4194304 = g.ring_high in
-    omega (arith, all_long t.items k.long, h.used, ring, high, k.commands)
+pub rows_few : (t : TargetState) → IsSettings t.settings → RingKept t → RowsKept t → length t.rows < 65535
+rows_few t g h k = let high : t.settings.ring ≤ 4194304 = g.ring_high in omega (arith, all_long t.items k.long, h.used, high, k.commands)
+
+pub rows_few_of_all : (s : SettingsData) (ms : List CallMade) (t : TargetState) → IsSettings s → Called (opening_target s) ms t → length t.rows < 65535
+rows_few_of_all s ms t g c = rows_few t (subst IsSettings (sym (opened_same s ms t c)) g) (ring_of_opening s ms t g c) (rows_of_opening s ms t c)

@@ -90,7 +90,7 @@ pub handlers_out_same : (d : DeviceState) (level m : ℕ) → reset_answer d lev
 handlers_out_same d level m h = refused_reset d level (λ n k. let z : reset.HandlersOut m ≡ reset.Reset n = sym h ∙ k in absurd (cc))
 
 -- what holds behind a reset that is made holds of the device that is emptied
-by_reset : (P : DeviceState → Type 0) (d : DeviceState) (level n : ℕ) → reset_answer d level ≡ reset.Reset n → P (emptied (after_clean d) level) → P (after_reset d level)
+pub by_reset : (P : DeviceState → Type 0) (d : DeviceState) (level n : ℕ) → reset_answer d level ≡ reset.Reset n → P (emptied (after_clean d) level) → P (after_reset d level)
 by_reset P d level n h p = let k = resets d level n h in subst P (sym k.after) p
 
 -- ==== the log

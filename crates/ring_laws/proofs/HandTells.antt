@@ -68,15 +68,15 @@ out_fits a b p q Placed r h = refl
 out_fits a b p q Lost r h = refl
 
 -- of the commands that are out, those are in a state whose replies pass
-abbrev Tells : CommandState → (Bool → Bool) → List Unfinished → Type 0
+abbrev pub Tells : CommandState → (Bool → Bool) → List Unfinished → Type 0
 Tells t f us = Every (λ u. has_state t u ≡ (is_out u && f (is_some u.reply))) us
 
-handled_tells : (d : DeviceState) → IsSound d → Tells Handled (λ b. b) d.unfinished
+pub handled_tells : (d : DeviceState) → IsSound d → Tells Handled (λ b. b) d.unfinished
 handled_tells d h =
     every-weaker (λ u. is_right d u ≡ true) (λ u. has_state Handled u ≡ (is_out u && is_some u.reply)) d.unfinished
     (λ u k. handled_fits (is_among (dispatched_serials d.ring) u.serial) (is_among d.placed u.serial) (is_among (answered d) u.serial) d.attached u.state (is_some u.reply) k) h.answers.states
 
-out_tells : (d : DeviceState) → IsSound d → Tells Out not d.unfinished
+pub out_tells : (d : DeviceState) → IsSound d → Tells Out not d.unfinished
 out_tells d h =
     every-weaker (λ u. is_right d u ≡ true) (λ u. has_state Out u ≡ (is_out u && not (is_some u.reply))) d.unfinished
     (λ u k. out_fits (is_among (dispatched_serials d.ring) u.serial) (is_among d.placed u.serial) (is_among (answered d) u.serial) d.attached u.state (is_some u.reply) k) h.answers.states

@@ -24,6 +24,8 @@ pub mod TailMoved
 pub mod Found
 pub mod NoteIds
 pub mod Ticked
+pub mod TodoSame
+pub mod StatSame
 pub mod Completing
 pub mod KeptLists
 pub mod DelayedKept
@@ -45,7 +47,10 @@ pub mod PlacedRun
 pub mod InOrderKept
 pub mod InOrderAnswer
 pub mod Responds
+pub mod RespondsWhole
 pub mod HandTells
+pub mod HandRises
+pub mod SentNone
 pub mod SameJobs
 pub mod LaidPoints
 pub mod Sized
@@ -59,6 +64,7 @@ pub mod Sending
 pub mod JobRead
 pub mod Nexts
 pub mod NextCases
+pub mod NextNothing
 pub mod DispatchKept
 pub mod DispatchBlocks
 pub mod DispatchJobs
@@ -71,7 +77,9 @@ pub mod JobsBack
 pub mod RestartedKept
 pub mod RestartedAnswer
 pub mod AttachedUser
+pub mod AttachedOpening
 pub mod EmptiedKept
+pub mod LaidItems
 pub mod PendingRows
 pub mod CountedSerials
 pub mod AnyCalls
@@ -95,4 +103,5 @@ pub mod AnyWhole
 pub mod AnyLogs
 pub mod AnyRing
 pub mod AnyRows
+pub mod AnyDates
 pub mod AnyKeptId

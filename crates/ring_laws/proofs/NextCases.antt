@@ -45,7 +45,7 @@ behind_front p (y ∷ xs) k x e g =
     further zero e g more = absurd (omega (arith, e))
     further (suc k) e g more = more k (omega (arith, e)) g
 
-next_no_pad : (d : DeviceState) (n : ℕ) → next_item d ≡ Some (record { len = n; laid = ring.Pad }) → ⊥
+pub next_no_pad : (d : DeviceState) (n : ℕ) → next_item d ≡ Some (record { len = n; laid = ring.Pad }) → ⊥
 next_no_pad d n g =
     let xs : List Item = drop d.ring.dispatched d.ring.laid in
     true≢false (behind_front is_pad xs (prefix_len is_pad xs) (record { len = n; laid = ring.Pad }) refl (sym (get-dropped d.ring.laid d.ring.dispatched (prefix_len is_pad xs)) ∙ g))

@@ -134,6 +134,22 @@ in_length c iovs ok e =
     ap (λ b. cond b 0 (min (total_of iovs) 4294967295)) t ∙ k)
     (cases_Bool (takes_payload c.cdb))
 
+-- a step at the entry of the next command
+pub command_step : (r : RegionState) (t : TargetState) (user : UserState) (hand : List InHand) (d : DeviceState) (lists : List Taken) (n s : ℕ) (c : CommandData) (before : UserState) (left : ℕ) →
+    CanDispatch r t user hand d lists → next_item d ≡ Some (record { len = n; laid = ring.Cmd s c }) →
+    next_within (suc left) (mailbox_of d) before r (passed_to user d (next_place d.ring))
+    ≡ command_next r (passed_to user d (next_place d.ring)) n (id_at r.front (place_of d.ring (next_place d.ring))) (command_iovs d.settings (list_of lists s) c) c.cdb
+command_step r t user hand d lists n s c before left h g =
+    let i : ℕ = next_place d.ring in
+    let x : Item = record { len = n; laid = ring.Cmd s c } in
+    let c1 : d.ring.cleared ≤ d.ring.published = h.sound.ring.cleared in
+    let c2 : d.ring.published ≤ d.ring.dispatched = h.sound.ring.published in
+    let b = blocks_sent r t user hand d lists n s c h g (sends d n s c h.sound g) in
+    let q : RequestRead r d lists i n s c = request_read r t.items t.rows d lists i n s c h.sound h.owned h.ring h.ids h.pages (omega arith) g b.inside in
+    let w : Within d i x = item_within d i x h.sound (omega arith) g in
+    let ne : eqb (place_of d.ring i) (head d.ring) ≡ false = ne_eqb (place_of d.ring i) (head d.ring) w.away in
+    rw (ne, q.read) (ap (λ (es : List Iov). command_next r (passed_to user d i) n (id_at r.front (place_of d.ring i)) es c.cdb) q.iovs)
+
 pub job_comes : (r : RegionState) (t : TargetState) (user : UserState) (hand : List InHand) (d : DeviceState) (lists : List Taken) (n s : ℕ) (c : CommandData) →
     CanDispatch r t user hand d lists → next_item d ≡ Some (record { len = n; laid = ring.Cmd s c }) → nexted r user ≡ job_nexted r user d lists s c
 unfolding job_by
@@ -147,12 +163,9 @@ job_comes r t user hand d lists n s c h g =
     let bs : List ℕ = list_of lists s in
     let iovs : List Iov = command_iovs d.settings bs c in
     let id : ℕ = id_at r.front (place_of d.ring i) in
-    let q : RequestRead r d lists i n s c = request_read r t.items t.rows d lists i n s c h.sound h.owned h.ring h.ids h.pages (omega arith) g b.inside in
-    let w : Within d i x = item_within d i x h.sound (omega arith) g in
-    let ne : eqb (place_of d.ring i) (head d.ring) ≡ false = ne_eqb (place_of d.ring i) (head d.ring) w.away in
     let came : Comes r user d i = comes_to r t.items user d lists (can_pass r t user hand d lists h) in
     let step : next_within (suc came.left) (mailbox_of d) user r (passed_to user d i) ≡ command_next r (passed_to user d i) n id iovs c.cdb =
-    rw (ne, q.read) (ap (λ (es : List Iov). command_next r (passed_to user d i) n id es c.cdb) q.iovs) in
+    command_step r t user hand d lists n s c user came.left h g in
     let start : ℕ = data_start d.settings.ring in
     let size : ℕ = block_size d.settings.pages in
     let len : ℕ = payload_length c in
@@ -196,9 +209,16 @@ pub record NoteComes (r : RegionState) (user : UserState) (d : DeviceState) (n t
   pub is : nexted r user ≡ note_nexted r user d n read ss
   pub byte : type_ < 256 → read ≡ type_
 
-pub note_comes : (r : RegionState) (t : TargetState) (user : UserState) (hand : List InHand) (d : DeviceState) (lists : List Taken) (n type_ : ℕ) (ss : List ℕ) →
-    CanDispatch r t user hand d lists → next_item d ≡ Some (record { len = n; laid = ring.Tmr type_ ss }) → NoteComes r user d n type_ ss
-note_comes r t user hand d lists n type_ ss h g =
+-- a step at the entry of the next note
+pub record NoteStep (r : RegionState) (user : UserState) (d : DeviceState) (n type_ : ℕ) (ss : List ℕ) : Type 0 where
+  pub read : ℕ
+  pub is : (before : UserState) (left : ℕ) →
+      next_within (suc left) (mailbox_of d) before r (passed_to user d (next_place d.ring)) ≡ note_next r (passed_to user d (next_place d.ring)) n read (ids_at r d n ss)
+  pub byte : type_ < 256 → read ≡ type_
+
+pub note_step : (r : RegionState) (t : TargetState) (user : UserState) (hand : List InHand) (d : DeviceState) (lists : List Taken) (n type_ : ℕ) (ss : List ℕ) →
+    CanDispatch r t user hand d lists → next_item d ≡ Some (record { len = n; laid = ring.Tmr type_ ss }) → NoteStep r user d n type_ ss
+note_step r t user hand d lists n type_ ss h g =
     let i : ℕ = next_place d.ring in
     let x : Item = record { len = n; laid = ring.Tmr type_ ss } in
     let c1 : d.ring.cleared ≤ d.ring.published = h.sound.ring.cleared in
@@ -221,12 +241,19 @@ note_comes r t user hand d lists n type_ ss h g =
     let long : length r.front ≡ data_start d.ring.size = h.ring.long in
     let lt : length (take n (drop (128 + at) r.front)) ≡ n = length-take-le n (drop (128 + at) r.front) (omega (arith, length-drop (128 + at) r.front)) in
     let named : tmr_ids_in r.front (128 + at) 0 (length ss) ≡ ids = note_ids r.front (128 + at) n 0 (length ss) 32 lt (omega arith) (omega arith) in
+    record { read = k; is = λ before left. rw (ne, read) (ap (note_next r (passed_to user d i) n k) named); byte = q.byte }
+
+pub note_comes : (r : RegionState) (t : TargetState) (user : UserState) (hand : List InHand) (d : DeviceState) (lists : List Taken) (n type_ : ℕ) (ss : List ℕ) →
+    CanDispatch r t user hand d lists → next_item d ≡ Some (record { len = n; laid = ring.Tmr type_ ss }) → NoteComes r user d n type_ ss
+note_comes r t user hand d lists n type_ ss h g =
+    let i : ℕ = next_place d.ring in
+    let x : Item = record { len = n; laid = ring.Tmr type_ ss } in
+    let c2 : d.ring.published ≤ d.ring.dispatched = h.sound.ring.published in
+    let k : NoteStep r user d n type_ ss = note_step r t user hand d lists n type_ ss h g in
     let on : with_passed (passed_to user d i) kind.Tmr n ≡ passed_to user d (suc i) = passed_one user d i x (ring_is r t.items user d lists (can_pass r t user hand d lists h)) (omega arith) g in
     let came : Comes r user d i = comes_to r t.items user d lists (can_pass r t user hand d lists h) in
-    let step : next_within (suc came.left) (mailbox_of d) user r (passed_to user d i) ≡ note_next r (passed_to user d i) n k ids =
-    rw (ne, read) (ap (note_next r (passed_to user d i) n k) named) in
     record {
-      read = k;
-      is = came.is ∙ step ∙ ap (λ (u : UserState). record { answer = Note k (filter (λ id. list_any (is_open_job id) user.jobs) ids); region = r; user = u }) on;
-      byte = q.byte;
+      read = k.read;
+      is = came.is ∙ k.is user came.left ∙ ap (λ (u : UserState). record { answer = Note k.read (filter (λ id. list_any (is_open_job id) user.jobs) (ids_at r d n ss)); region = r; user = u }) on;
+      byte = k.byte;
     }

@@ -44,7 +44,7 @@ ahead n p a l z h k v =
     (λ (m : l / n ≤ p / n). let t : n * (l / n) ≤ n * (p / n) = mul-le-mul_left n m in omega arith)
     (cases_lt (p / n) (l / n))
 
-apart_from_head : (n p a l : ℕ) → 0 < n → 0 < a → p + a ≤ l → l < p + n → p % n ≢ l % n
+pub apart_from_head : (n p a l : ℕ) → 0 < n → 0 < a → p + a ≤ l → l < p + n → p % n ≢ l % n
 apart_from_head n p a l z s h k = λ v.
     ⊎_elim
     (λ (m : p / n < l / n). let t : n * (p / n + 1) ≤ n * (l / n) = mul-le-mul_left n (omega arith) in absurd (omega arith))
@@ -160,7 +160,7 @@ pad_passed r items user d lists before n i len h l g =
 abbrev IsPadAt : DeviceState → ℕ → Type 0
 IsPadAt d i = (len : ℕ) × (slice_get d.ring.laid i ≡ Some (record { len = len; laid = ring.Pad }))
 
-pads_passed : (r : RegionState) (items : List Recorded) (user : UserState) (d : DeviceState) (lists : List Taken) (before : UserState) (n k i : ℕ) → CanPass r items user d lists → d.ring.dispatched ≤ i →
+pub pads_passed : (r : RegionState) (items : List Recorded) (user : UserState) (d : DeviceState) (lists : List Taken) (before : UserState) (n k i : ℕ) → CanPass r items user d lists → d.ring.dispatched ≤ i →
     ((j : ℕ) → j < k → IsPadAt d (i + j)) →
     next_within (k + n) (mailbox_of d) before r (passed_to user d i) ≡ next_within n (mailbox_of d) before r (passed_to user d (i + k))
 pads_passed r items user d lists before n zero i h l pads =
@@ -183,7 +183,7 @@ pad_is n ring.Pad h = refl
 pad_is n (ring.Cmd s c) h = absurd (false≢true h)
 pad_is n (ring.Tmr k ss) h = absurd (false≢true h)
 
-pads_front : (xs : List Item) (j : ℕ) → j < prefix_len is_pad xs → (len : ℕ) × (slice_get xs j ≡ Some (record { len = len; laid = ring.Pad }))
+pub pads_front : (xs : List Item) (j : ℕ) → j < prefix_len is_pad xs → (len : ℕ) × (slice_get xs j ≡ Some (record { len = len; laid = ring.Pad }))
 pads_front [] j h = absurd (omega arith)
 pads_front (x ∷ xs) j h =
     ⊎_elim

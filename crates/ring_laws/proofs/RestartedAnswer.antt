@@ -30,7 +30,7 @@ use Rattle.ring_laws.proofs.Matched.{matched, unmatched}
 -- ==== counting
 
 -- a test counts as much as two others together, of which just one holds where it holds
-count_plus : {X : Type 0} (p q r : X → Bool) (xs : List X) → Every (λ x. cond {A = ℕ} (p x) 1 0 ≡ cond {A = ℕ} (q x) 1 0 + cond {A = ℕ} (r x) 1 0) xs → count_by p xs ≡ count_by q xs + count_by r xs
+pub count_plus : {X : Type 0} (p q r : X → Bool) (xs : List X) → Every (λ x. cond {A = ℕ} (p x) 1 0 ≡ cond {A = ℕ} (q x) 1 0 + cond {A = ℕ} (r x) 1 0) xs → count_by p xs ≡ count_by q xs + count_by r xs
 count_plus p q r [] e = refl
 count_plus p q r (x ∷ xs) e =
     let a : count_by p (x ∷ xs) ≡ cond (p x) 1 0 + count_by p xs = sum_by-cons (λ y. cond {A = ℕ} (p y) 1 0) x xs in
@@ -38,14 +38,14 @@ count_plus p q r (x ∷ xs) e =
     let c : count_by r (x ∷ xs) ≡ cond (r x) 1 0 + count_by r xs = sum_by-cons (λ y. cond {A = ℕ} (r y) 1 0) x xs in
     omega (arith, a, b, c, e.0, count_plus p q r xs e.1)
 
-count_none : {X : Type 0} (p : X → Bool) (xs : List X) → Every (λ x. p x ≡ false) xs → count_by p xs ≡ 0
+pub count_none : {X : Type 0} (p : X → Bool) (xs : List X) → Every (λ x. p x ≡ false) xs → count_by p xs ≡ 0
 count_none p [] e = refl
 count_none p (x ∷ xs) e =
     let a : count_by p (x ∷ xs) ≡ cond (p x) 1 0 + count_by p xs = sum_by-cons (λ y. cond {A = ℕ} (p y) 1 0) x xs in
     let b : ◌≡◌ {A = ℕ} (cond (p x) 1 0) 0 = ap (λ z. cond z 1 0) e.0 in
     omega (arith, a, b, count_none p xs e.1)
 
-count_mapped : {X Y : Type 0} (f : X → Y) (p : Y → Bool) (xs : List X) → count_by p (map f xs) ≡ count_by (λ x. p (f x)) xs
+pub count_mapped : {X Y : Type 0} (f : X → Y) (p : Y → Bool) (xs : List X) → count_by p (map f xs) ≡ count_by (λ x. p (f x)) xs
 count_mapped f p [] = refl
 count_mapped f p (x ∷ xs) =
     let a : count_by p (map f (x ∷ xs)) ≡ cond (p (f x)) 1 0 + count_by p (map f xs) = sum_by-cons (λ y. cond {A = ℕ} (p y) 1 0) (f x) (map f xs) in
@@ -89,17 +89,21 @@ out_or_parked us = count_plus is_in_hand is_out (has_state Parked) us (all us)
     all [] = tt
     all (u ∷ us) = (one u u.state refl, all us)
 
+-- the user side has as many jobs with a reply as commands are parked
+pub parked_total : (user : UserState) (hand : List InHand) (rows : List PendingRow) (d : DeviceState) (lists : List Taken) → JobsStand user hand rows d lists → count_parked user.jobs ≡ count_by (has_state Parked) d.unfinished
+parked_total user hand rows d lists h =
+    let us : List Unfinished = d.unfinished in
+    parked_count d.settings rows lists user.jobs (filter is_in_hand us) h.given
+    ∙ sym (length-filter (has_state Parked) (filter is_in_hand us)) ∙ ap length (parked_among us) ∙ length-filter (has_state Parked) us
+
 -- both sides have as many jobs as commands are in hand
 pub jobs_counted : (user : UserState) (hand : List InHand) (rows : List PendingRow) (d : DeviceState) (lists : List Taken) → JobsStand user hand rows d lists → count_jobs hand user ≡ count_in_hand d
 jobs_counted user hand rows d lists h =
     let us : List Unfinished = d.unfinished in
     let a : length hand ≡ length (filter is_out us) = out_length d.settings rows lists hand (filter is_out us) h.out in
     let b : length (filter is_out us) ≡ count_by is_out us = length-filter is_out us in
-    let c : count_parked user.jobs ≡ count_by (has_state Parked) (filter is_in_hand us) = parked_count d.settings rows lists user.jobs (filter is_in_hand us) h.given in
-    let e : length (filter (has_state Parked) (filter is_in_hand us)) ≡ count_by (has_state Parked) (filter is_in_hand us) = length-filter (has_state Parked) (filter is_in_hand us) in
-    let f : length (filter (has_state Parked) us) ≡ count_by (has_state Parked) us = length-filter (has_state Parked) us in
-    let g : length (filter (has_state Parked) (filter is_in_hand us)) ≡ length (filter (has_state Parked) us) = ap length (parked_among us) in
-    omega (arith, a, b, c, e, f, g, out_or_parked us)
+    let c : count_parked user.jobs ≡ count_by (has_state Parked) us = parked_total user hand rows d lists h in
+    omega (arith, a, b, c, out_or_parked us)
 
 -- ==== an attached device
 

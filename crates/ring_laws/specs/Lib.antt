@@ -11,4 +11,6 @@ pub mod Emptied
 pub mod Calls
 pub mod CalledOn
 pub mod RingKept
+pub mod DatesKept
+pub mod SidesShow
 pub mod UserKept

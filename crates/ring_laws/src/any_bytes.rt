@@ -12,6 +12,7 @@ ghost use Rattle.region_model.specs.Represents.{IsId};
 ghost use Rattle.region_model.specs.TargetSteps.{blocks_held, fits_in, head_in, opening_target, pad_in, place_in};
 ghost use Rattle.region_model.specs.TargetCleans.{BadTail, Broken, Logged, tail_read, target_clean_answer, target_cleaned, target_reset};
 ghost use Rattle.ring_laws.specs.CalledOn.{CalledOn, region_called};
+ghost use Rattle.ring_laws.specs.DatesKept.{DatesKept};
 ghost use Rattle.ring_laws.specs.RingKept.{RingKept, RowsKept};
 ghost use Rattle.ring_laws.specs.Calls.{CallLogs, CallMade, Called, CanCall, CleanLogs, ClearsFirst, Emptied, HasSerial, IsDoneOf, IsRowOf, StopsAt, TargetCall, TargetSound, Unchanged, accepted_along, is_given, is_reset, target_called, times_delayed, times_pending};
 
@@ -84,7 +85,16 @@ pub fn any_ring_law()
 pub fn any_rows_law()
     ensures all { (s : SettingsData) (calls : List CallMade) (t : TargetState) → Called (opening_target s) calls t → RowsKept t }
     ensures each { (r : RegionState) (t : TargetState) (call : TargetCall) → RowsKept t → RowsKept (target_called r t call) }
-    ensures few { (s : SettingsData) (calls : List CallMade) (t : TargetState) → IsSettings s → Called (opening_target s) calls t → length t.rows < 65535 }
+    ensures few { (t : TargetState) → IsSettings t.settings → RingKept t → RowsKept t → length t.rows < 65535 }
+    ensures few_of_all { (s : SettingsData) (calls : List CallMade) (t : TargetState) → IsSettings s → Called (opening_target s) calls t → length t.rows < 65535 }
+{}
+
+/// The target's moment stops at 2^63, and no pending command is due behind one that is laid now, over any list of calls: so commands are
+/// due in the order of their serials.
+pub fn any_dates_law()
+    ensures opening { (s : SettingsData) → DatesKept (opening_target s) }
+    ensures all { (s : SettingsData) (calls : List CallMade) (t : TargetState) → Called (opening_target s) calls t → DatesKept t }
+    ensures each { (r : RegionState) (t : TargetState) (call : TargetCall) → DatesKept t → DatesKept (target_called r t call) }
 {}
 
 /// Whatever the region holds, a clean logs completions of commands that it takes out, each with the first bytes along its own blocks, and

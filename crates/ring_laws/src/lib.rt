@@ -15,6 +15,7 @@ mod entering;
 mod handling;
 mod in_hand;
 mod kept_lists;
+mod laid_items;
 mod laying;
 mod noting;
 mod opening;
@@ -25,14 +26,15 @@ mod refusing;
 mod resetting;
 mod responding;
 mod restarting;
+mod showing;
 mod sizes;
 mod submitting;
 mod ticking;
 
 pub use answering::answering_law;
 pub use any_bytes::{
-    any_clean_law, any_reset_law, any_ring_law, area_law, calls_law, commands_law, held_law,
-    serials_law,
+    any_clean_law, any_dates_law, any_reset_law, any_ring_law, any_rows_law, area_law, calls_law,
+    commands_law, held_law, serials_law,
 };
 pub use any_region::{any_publish_law, any_respond_law, attach_law, next_law, reattach_law};
 pub use attaching::attaching_law;
@@ -43,6 +45,7 @@ pub use entering::enter_law;
 pub use handling::handle_law;
 pub use in_hand::hand_law;
 pub use kept_lists::kept_law;
+pub use laid_items::laid_law;
 pub use laying::laying_law;
 pub use noting::tmr_law;
 pub use opening::opening_law;
@@ -53,6 +56,7 @@ pub use refusing::refused_law;
 pub use resetting::reset_law;
 pub use responding::respond_law;
 pub use restarting::restart_law;
+pub use showing::{stat_law, todo_law};
 pub use sizes::sizes_law;
 pub use submitting::submit_law;
 pub use ticking::{block_law, tick_law};

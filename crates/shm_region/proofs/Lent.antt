@@ -1,5 +1,5 @@
 -- Blocks lent and given back.
-use Rattle.std.proofs.Common.{◌≡◌, ◌≢◌, ◌↔◌, ℕ, zero, suc, ◌+◌, ◌-◌, ◌%◌, ◌<◌, ◌≤◌, ◌==◌, ◌&&◌, List, [], ◌∷◌, ◌++◌, length, drop, take, set, get_or, Bool, true, false, Option, Some, None, refl, ap, ◌∙◌, sym, arith, append_assoc, length-append, ◌^◌, nat_lt, subst}
+use Rattle.std.proofs.Common.{◌≡◌, ◌≢◌, ◌↔◌, ℕ, zero, suc, ◌+◌, ◌-◌, ◌%◌, ◌<◌, ◌≤◌, ◌==◌, ◌&&◌, List, [], ◌∷◌, ◌++◌, length, drop, take, set, get_or, Bool, true, false, Option, Some, None, refl, ap, ◌∙◌, sym, arith, append_assoc, length-append, nat_le}
 use Rattle.std.specs.Prelude.{slice_get, unwrap_or, if◌then◌else◌}
 use Rattle.std.proofs.lemmas.List.{append-nil, length-take, take-append-drop}
 use Rattle.iovec_scatter.proofs.Steps.{rest_of}
@@ -413,18 +413,18 @@ second_true a b h = (and_parts a b h).1
 
 -- ==== how many blocks are named
 
-pub told_less : (n total : ℕ) → total ≡ n → total < 2 ^ 64 → ◌≡◌ {A = Option ℕ} (Some total) (if nat_lt n (2 ^ 64) then Some n else None)
-told_less n total same less =
-    let t : nat_lt n (2 ^ 64) ≡ true = below_is n (2 ^ 64) (subst (λ (k : ℕ). k < 2 ^ 64) same less) in
+pub told_few : (n total most : ℕ) → total ≡ n → total ≤ most → ◌≡◌ {A = Option ℕ} (Some total) (if nat_le n most then Some n else None)
+told_few n total most same less =
+    let t : nat_le n most ≡ true = within n most (omega arith) in
     ap Some same ∙ ap (λ (b : Bool). if b then Some n else None) (sym t)
   where
-    below_is : (a b : ℕ) → a < b → nat_lt a b ≡ true
-    below_is a b h = grind (arith, nat_tests)
+    within : (a b : ℕ) → a ≤ b → nat_le a b ≡ true
+    within a b h = grind (arith, nat_tests)
 
-pub told_none : (n : ℕ) → 2 ^ 64 ≤ n → ◌≡◌ {A = Option ℕ} None (if nat_lt n (2 ^ 64) then Some n else None)
-told_none n most =
-    let t : nat_lt n (2 ^ 64) ≡ false = below_not n (2 ^ 64) most in
+pub told_none : (n most : ℕ) → most < n → ◌≡◌ {A = Option ℕ} None (if nat_le n most then Some n else None)
+told_none n most more =
+    let t : nat_le n most ≡ false = not_within n most more in
     ap (λ (b : Bool). if b then Some n else None) (sym t)
   where
-    below_not : (a b : ℕ) → b ≤ a → nat_lt a b ≡ false
-    below_not a b h = grind (arith, nat_tests)
+    not_within : (a b : ℕ) → b < a → nat_le a b ≡ false
+    not_within a b h = grind (arith, nat_tests)

@@ -1,4 +1,5 @@
 mod Sized
+mod AlongBlocks
 mod Opening
 mod Lent
 mod Returned

@@ -2,7 +2,12 @@
 ghost use Rattle.shm_region.specs.AreaStart.{AreaBeginsAtPage, OpensAtArea};
 ghost use Rattle.shm_region.specs.Copies.{CopiesBack, CopiesBeside};
 ghost use Rattle.shm_region.specs.Returns.{BackLeavesHome, BackLeavesOthers};
-ghost use Rattle.region_model.specs.Regions.{LendsAndTakesBack};
+ghost use Rattle.region_model.specs.Regions.{LendsAndTakesBack, LendsFew};
+
+/// Whatever iovecs name, no more blocks can be lent than the area has.
+pub fn lends_few()
+    ensures { LendsFew }
+{}
 
 /// What was lent and is given back stands where it stood.
 pub fn lends_and_takes_back()

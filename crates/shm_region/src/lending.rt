@@ -1,5 +1,5 @@
 //! Blocks lent and given back. They move: no byte of them is copied.
-ghost use Rattle.std.specs.Prelude.{◌≡◌, ◌↔◌, [], ◌+◌, ◌-◌, ◌*◌, ◌^◌, ◌<◌, ◌≤◌, ◌++◌, length, take, drop, true, nat_lt, Some, None, if◌then◌else◌};
+ghost use Rattle.std.specs.Prelude.{◌≡◌, ◌↔◌, [], ◌+◌, ◌-◌, ◌*◌, ◌^◌, ◌<◌, ◌≤◌, ◌++◌, length, take, drop, true, false, nat_le, Some, None, IfSome, IfNone, if◌then◌else◌};
 ghost use Rattle.std.specs.Bool.{OnTrue, OnFalse};
 ghost use Rattle.region_model.specs.Regions.{size_of, can_take, taken, without, returned, HaveSize, numbers_from, first_block, block_count, starts_block, are_whole, can_lend, named_by, lent, parts_of, given_back, CanLend};
 
@@ -119,16 +119,22 @@ impl Region {
         }
     }
 
-    /// How many blocks a `lend` of these iovecs moves, which is the room that it wants; None where they are 2^64 or more.
+    /// How many blocks a `lend` of these iovecs moves, which is the room that it wants. None where they name more blocks than the area
+    /// has: then no `lend` moves them.
     pub fn room_for(&self, iovs: &Iovs) -> Option<u64>
-        ensures { result ≡ (if nat_lt (length (named_by self.now iovs.now.items)) (2 ^ 64) then Some (length (named_by self.now iovs.now.items)) else None) }
+        ensures value { result ≡ (if nat_le (length (named_by self.now iovs.now.items)) (length self.now.blocks) then Some (length (named_by self.now iovs.now.items)) else None) }
+        ensures most { IfSome result (λ room. room ≤ length self.now.blocks) }
+        ensures none { IfNone result (can_lend self.now iovs.now.items ≡ false) }
     {
+        // What this call ensures is used: the limits of every region.
+        let _ = self.data_off();
         let size = self.block_len();
+        let most = self.block_count();
         let mut total: u64 = 0;
         for iov in iovs.as_slice() {
-            match total.checked_add(block_count(size, *iov)) {
-                Some(sum) => total = sum,
-                None => return None,
+            total += block_count(size, *iov);
+            if total > most {
+                return None;
             }
         }
         Some(total)

@@ -2,6 +2,7 @@
 //! may be lent.
 #![tactic(auto)]
 
+mod along;
 mod copying;
 mod laws;
 mod lending;
@@ -9,5 +10,5 @@ mod region;
 #[cfg(test)]
 mod tests;
 
-pub use laws::{area_begins_at_page, copies_back, lends_and_takes_back};
+pub use laws::{area_begins_at_page, copies_back, lends_and_takes_back, lends_few};
 pub use region::Region;

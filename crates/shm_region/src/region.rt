@@ -3,6 +3,7 @@ ghost use Rattle.std.specs.Prelude.{◌≡◌, [], ◌∷◌, ◌+◌, ◌-◌, 
 ghost use Rattle.region_model.specs.Layout.{flag_bits, head_place, tail_place, data_start, mailbox_bytes, device_mailbox};
 ghost use Rattle.tcmu_types.specs.ByteFields.{le, field, put, zeros, padded};
 ghost use Rattle.region_model.specs.Regions.{RegionState, IsRegion, size_of, bytes_of, block_at, home, is_home, put_home, opening_region, cleared, grown_to, shrunk_to, with_block, overlaid};
+ghost use Rattle.region_model.specs.Areas.{over};
 ghost use Rattle.std.specs.Borrow.{sem};
 ghost use Rattle.shm_region.specs.Places.{LendsHome, LendsBytesIn};
 
@@ -162,8 +163,8 @@ impl Region {
         (PAGE * self.pages) as u64 * self.blocks.len() as u64
     }
 
-    /// The bytes of a block.
-    pub(crate) fn block_len(&self) -> u64
+    /// How many bytes a block has.
+    pub fn block_len(&self) -> u64
         ensures value { result ≡ size_of self.now }
         ensures least { 4096 ≤ result }
         ensures most { result ≤ 65536 }
@@ -204,6 +205,14 @@ impl Region {
         ensures { self.new ≡ record self.old { front = put self.old.front tail_place (le 4 at) } }
     {
         put_u32(&mut self.front, TAIL, at);
+    }
+
+    /// Writes bytes over those of the front from byte `at` on.
+    pub fn write_front(&mut self, at: u64, bytes: &[u8])
+        requires { at + length bytes.now ≤ length self.old.front }
+        ensures { self.new ≡ record self.old { front = put self.old.front at bytes.now } }
+    {
+        put_bytes(&mut self.front, at as usize, bytes);
     }
 
     /// The bytes of the block in a place, if it is at home.
@@ -312,17 +321,6 @@ impl Region {
         Ok(())
     }
 
-    /// Makes a block zero. A lent one stays as it is: its bytes are in a job.
-    pub fn clear(&mut self, block: u32)
-        requires { block < length self.old.blocks }
-        ensures { self.new ≡ with_block self.old block (cleared (size_of self.old) (block_at self.old block)) }
-    {
-        if let Some(mut bytes) = self.take_block(block as u64) {
-            bytes.clear();
-            self.put_block(block as u64, bytes);
-        }
-    }
-
     /// Takes a block out, or finds it lent or not there.
     pub(crate) fn take_home(&mut self, block: u64) -> Option<Block>
         ensures found { is_some result ≡ is_home (slice_get self.old.blocks block) }
@@ -334,6 +332,27 @@ impl Region {
             self.take_block(block)
         } else {
             None
+        }
+    }
+
+    /// Makes a block zero. A lent one stays as it is: its bytes are in a job.
+    pub fn clear(&mut self, block: u32)
+        ensures { self.new ≡ with_block self.old block (cleared (size_of self.old) (block_at self.old block)) }
+    {
+        if let Some(mut bytes) = self.take_home(block as u64) {
+            bytes.clear();
+            self.put_block(block as u64, bytes);
+        }
+    }
+
+    /// Writes bytes over the front of a block. A lent one stays as it is.
+    pub fn write_block(&mut self, block: u32, bytes: &[u8])
+        requires { length bytes.now ≤ size_of self.old }
+        ensures { self.new ≡ with_block self.old block (over bytes.now (block_at self.old block)) }
+    {
+        if let Some(mut found) = self.take_home(block as u64) {
+            found.put(0, bytes);
+            self.put_block(block as u64, found);
         }
     }
 

@@ -11,7 +11,8 @@ use Rattle.tcmu_types.specs.Lists.{first_of, without_first, with_first}
 use Rattle.tcmu_types.specs.Numbers.{is_among}
 use Rattle.region_model.specs.Pending.{PendingData}
 use Rattle.target_table.specs.declared.table.Ranked.{Ranked}
-use Rattle.target_table.specs.Rows.{Row, TableData, has_id, is_waiting, id_of, pending_of, with_expired, AllPrecede, IdsDiffer, IsTable, ExpiredFirst, without, without_found}
+use Rattle.target_table.specs.Rows.{TableData, has_id, is_waiting, id_of, pending_of, with_expired, AllPrecede, IdsDiffer, IsTable, ExpiredFirst, without, without_found}
+use Rattle.region_model.specs.Sides.{PendingRow}
 use Rattle.target_table.specs.Kept.{place_of, at_id, or_none, row_at, rows_of, Stands, AllStand, is_ranked, IsFree, IsDistinct, IsKept}
 use Rattle.target_table.proofs.Ordered.{order-added, ids-added, differ-added, expired-added, order-without, ids-without, differ-without, length-without, some-expired, expired-without, waiting-without, order-expired, ids-expired, differ-expired, length-expired, expired-more, expired-most, first-any, or-true, eqb-not}
 use Rattle.target_table.proofs.Places.{row_of, row-found, any-row, there, length-rows, eqb-self, at-one, rank-of}
@@ -145,10 +146,10 @@ added-kept places free rest order expired id p a =
     let d = distinct-last rest id (subst IsDistinct a.last k.once) in
     let long : length (order ++ o ∷ []) ≡ length order + 1 = length-append order (o ∷ []) in
     let rows = rows_of places order in
-    let r : Row = record { id = id; pending = p } in
+    let r : PendingRow = record { id = id; pending = p } in
     let lr = length-rows places order in
     let la : length (rows ++ r ∷ []) ≡ length rows + 1 = length-append rows (r ∷ []) in
-    let P : List Row → Type 0 = λ xs. IsTable (record { rows = xs; expired = expired; spare = length rest }) in
+    let P : List PendingRow → Type 0 = λ xs. IsTable (record { rows = xs; expired = expired; spare = length rest }) in
     record {
       stand = stand-append places' order o (stand-same places places' order (omega arith) same k.stand)
           (record {
@@ -293,7 +294,7 @@ pub taken-rows : (places : List (Option PendingData)) (free : List ℕ) (order :
 taken-rows places free order expired id p t =
     rows-same places (slice_set places (id - 1) None) (without_first (λ o. o.id == id) order) (taken-same places free order expired id p t) ∙ rows-without places order id
 
-taken-expired : (n id : ℕ) (rows : List Row) (r : Row) → ExpiredFirst n rows → first_of (has_id id) rows ≡ Some r → ExpiredFirst (less r.pending.expired n) (without_first (has_id id) rows)
+taken-expired : (n id : ℕ) (rows : List PendingRow) (r : PendingRow) → ExpiredFirst n rows → first_of (has_id id) rows ≡ Some r → ExpiredFirst (less r.pending.expired n) (without_first (has_id id) rows)
 taken-expired n id rows r e h =
     let P : Bool → Type 0 = λ b. ExpiredFirst (less b n) (without_first (has_id id) rows) in
     ⊎_elim
@@ -330,7 +331,7 @@ taken-kept places free order expired id p t =
     (λ (x : is_among free id ≡ true). absurd (none-some _ (sym (k.are_free id x).free ∙ taken-here places free order expired id p t)))
     (λ (x : is_among free id ≡ false). x)
     (cases_Bool (is_among free id)) in
-    let P : List Row → Type 0 = λ xs. IsTable (record { rows = xs; expired = less p.expired expired; spare = length (free ++ id ∷ []) }) in
+    let P : List PendingRow → Type 0 = λ xs. IsTable (record { rows = xs; expired = less p.expired expired; spare = length (free ++ id ∷ []) }) in
     record {
       stand = stand-same places places' order' (omega arith) same (stand-without places order id k.stand);
       ranked = λ other q l g.
@@ -360,7 +361,7 @@ taken-kept places free order expired id p t =
           });
     }
 
-same-table : (a b : List Row) (n m k : ℕ) → a ≡ b → m ≡ k →
+same-table : (a b : List PendingRow) (n m k : ℕ) → a ≡ b → m ≡ k →
     ◌≡◌ {A = TableData} (record { rows = a; expired = n; spare = m }) (record { rows = b; expired = n; spare = k })
 same-table a b n m k p q = cc
 
@@ -439,7 +440,7 @@ pub expired-rows : (places places' : List (Option PendingData)) (free : List ℕ
 expired-rows places places' free order expired id p x =
     row-expired places places' order id p x.kept.stand x.kept.sound.differ (taken-here places free order expired id p (expiring-row places places' free order expired id p x)) x.here x.others
 
-expired-one : (n id : ℕ) (rows : List Row) (found : Option Row) → first_of is_waiting rows ≡ found → id_of found ≡ Some id → ExpiredFirst n rows → IdsDiffer rows →
+expired-one : (n id : ℕ) (rows : List PendingRow) (found : Option PendingRow) → first_of is_waiting rows ≡ found → id_of found ≡ Some id → ExpiredFirst n rows → IdsDiffer rows →
     ExpiredFirst (n + 1) (with_first (has_id id) with_expired rows)
 expired-one n id rows None f h e d = absurd (none-some _ h)
 expired-one n id rows (Some r) f h e d =
@@ -490,7 +491,7 @@ expired-kept places places' free order expired id p x =
     let c = k.counted in
     let rows = rows_of places order in
     let room = k.sound.room in
-    let P : List Row → Type 0 = λ xs. IsTable (record { rows = xs; expired = expired + 1; spare = length free }) in
+    let P : List PendingRow → Type 0 = λ xs. IsTable (record { rows = xs; expired = expired + 1; spare = length free }) in
     let long = length-expired (has_id id) rows in
     record {
       stand = stand-expired places places' order id p k.stand was x.here x.others x.as_long;
@@ -518,7 +519,7 @@ expired-kept places places' free order expired id p x =
     }
 
 -- the first that is not expired is there
-waiting-ranked : (places : List (Option PendingData)) (order : List Ranked) (id : ℕ) (found : Option Row) → first_of is_waiting (rows_of places order) ≡ found → id_of found ≡ Some id → is_ranked order id ≡ true
+waiting-ranked : (places : List (Option PendingData)) (order : List Ranked) (id : ℕ) (found : Option PendingRow) → first_of is_waiting (rows_of places order) ≡ found → id_of found ≡ Some id → is_ranked order id ≡ true
 waiting-ranked places order id None f h = absurd (none-some _ h)
 waiting-ranked places order id (Some r) f h =
     let i : r.id ≡ id = cc in
@@ -592,7 +593,7 @@ new-kept places order expired k l =
     let n : length (places ++ None ∷ []) ≡ length places + 1 = length-append places (None ∷ []) in
     let c = k.counted in
     let lr = length-rows places order in
-    let P : List Row → Type 0 = λ xs. IsTable (record { rows = xs; expired = expired; spare = 1 }) in
+    let P : List PendingRow → Type 0 = λ xs. IsTable (record { rows = xs; expired = expired; spare = 1 }) in
     record {
       stand = stand-same places (places ++ None ∷ []) order (omega arith) (new-same places order k.stand) k.stand;
       ranked = λ id p low h. k.ranked id p low (new-empty places id p low h);

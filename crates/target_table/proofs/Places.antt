@@ -9,7 +9,8 @@ use Rattle.region_model.specs.Pending.{PendingData}
 use Rattle.target_table.specs.declared.table.Ranked.{Ranked}
 use Rattle.std.specs.List.Sorted.{IsNonDecreasingBy, IsPartitionPoint}
 use Rattle.std.proofs.lemmas.Option.{none-some}
-use Rattle.target_table.specs.Rows.{Row, has_id, has_passed, is_due, is_behind, id_of, pending_of, PrecedesAll, AreInOrder, ExpiredFirst}
+use Rattle.target_table.specs.Rows.{has_id, has_passed, is_due, is_behind, id_of, pending_of, PrecedesAll, AreInOrder, ExpiredFirst}
+use Rattle.region_model.specs.Sides.{PendingRow}
 use Rattle.target_table.proofs.Ordered.{due-none, due-some, due-later, or-true, eqb-not}
 use Rattle.target_table.specs.Kept.{place_of, at_id, or_none, row_at, rows_of, Stands, AllStand, is_ranked}
 
@@ -25,7 +26,7 @@ eqb-self n = grind arith
 
 -- ==== the row of an id
 
-abbrev pub row_of : List (Option PendingData) → ℕ → Row
+abbrev pub row_of : List (Option PendingData) → ℕ → PendingRow
 row_of places id = record { id = id; pending = or_none (place_of places id) }
 
 pub row-found : (places : List (Option PendingData)) (order : List Ranked) (id : ℕ) → is_ranked order id ≡ true → first_of (has_id id) (rows_of places order) ≡ Some (row_of places id)
@@ -185,7 +186,7 @@ first-not-due places order now n id p s e o h q f =
 
 -- ==== by halving
 
-precedes-at : (places : List (Option PendingData)) (r : Row) (os : List Ranked) → AllStand places os → PrecedesAll r (rows_of places os) →
+precedes-at : (places : List (Option PendingData)) (r : PendingRow) (os : List Ranked) → AllStand places os → PrecedesAll r (rows_of places os) →
     (j : ℕ) (d : Ranked) → j < length os → r.pending.serial < (slice_index_or os j d).serial
 precedes-at places r [] s p j d l = absurd (omega arith)
 precedes-at places r (o ∷ os) s p zero d l = let e = s.0.serial in let b = p.0.serial in omega arith
@@ -221,7 +222,7 @@ behind-first places (o ∷ os) serial (suc rank) s p =
     (λ k d a b. p.0 (suc k) d (omega arith) (omega arith), λ k d a b. p.1 (suc k) d (omega arith) (omega arith)))
 
 -- the command of an id stands behind what comes before all
-precedes-id : (places : List (Option PendingData)) (r : Row) (os : List Ranked) (id : ℕ) → PrecedesAll r (rows_of places os) → is_ranked os id ≡ true → r.pending.serial < (or_none (place_of places id)).serial
+precedes-id : (places : List (Option PendingData)) (r : PendingRow) (os : List Ranked) (id : ℕ) → PrecedesAll r (rows_of places os) → is_ranked os id ≡ true → r.pending.serial < (or_none (place_of places id)).serial
 precedes-id places r [] id p h = absurd (false≢true h)
 precedes-id places r (o ∷ os) id p h =
     ⊎_elim

@@ -4,7 +4,8 @@ use Rattle.std.specs.List.{list_any}
 use Rattle.region_model.specs.Pending.{PendingData}
 use Rattle.tcmu_types.specs.Numbers.{is_among}
 use Rattle.target_table.specs.declared.table.Ranked.{Ranked}
-use Rattle.target_table.specs.Rows.{Row, IsTable}
+use Rattle.target_table.specs.Rows.{IsTable}
+use Rattle.region_model.specs.Sides.{PendingRow}
 
 -- stands for a command that is not there
 abbrev pub no_command : PendingData
@@ -22,10 +23,10 @@ abbrev pub or_none : Option PendingData → PendingData
 or_none None = no_command
 or_none (Some p) = p
 
-abbrev pub row_at : List (Option PendingData) → Ranked → Row
+abbrev pub row_at : List (Option PendingData) → Ranked → PendingRow
 row_at places o = record { id = o.id; pending = or_none (place_of places o.id) }
 
-abbrev pub rows_of : List (Option PendingData) → List Ranked → List Row
+abbrev pub rows_of : List (Option PendingData) → List Ranked → List PendingRow
 rows_of places order = map (row_at places) order
 
 -- each has its command in the place of its id

@@ -3,25 +3,22 @@ use Rattle.std.specs.Prelude.{◌≡◌, ℕ, ◌+◌, ◌-◌, ◌≤◌, ◌<�
 use Rattle.std.specs.List.{list_any}
 use Rattle.std.specs.Option.{option_map}
 use Rattle.tcmu_types.specs.Lists.{first_of, without_first}
-use Rattle.region_model.specs.Pending.{PendingData}
-
-pub record Row : Type 0 where
-  pub id : ℕ
-  pub pending : PendingData
+use Rattle.region_model.specs.Pending.{NotAfter, PendingData}
+use Rattle.region_model.specs.Sides.{PendingRow}
 
 -- the rows, how many of them are expired, and for how many more there is a place
 pub record TableData : Type 0 where
-  pub rows : List Row
+  pub rows : List PendingRow
   pub expired : ℕ
   pub spare : ℕ
 
-abbrev pub has_id : ℕ → Row → Bool
+abbrev pub has_id : ℕ → PendingRow → Bool
 has_id id r = r.id == id
 
-abbrev pub is_expired : Row → Bool
+abbrev pub is_expired : PendingRow → Bool
 is_expired r = r.pending.expired
 
-abbrev pub is_waiting : Row → Bool
+abbrev pub is_waiting : PendingRow → Bool
 is_waiting r = not r.pending.expired
 
 -- the moment is at or behind a deadline
@@ -30,20 +27,20 @@ has_passed now None = false
 has_passed now (Some deadline) = nat_le deadline now
 
 -- not expired, with a deadline at most now
-abbrev pub is_due : ℕ → Row → Bool
+abbrev pub is_due : ℕ → PendingRow → Bool
 is_due now r = is_waiting r && has_passed now r.pending.deadline
 
-abbrev pub is_behind : ℕ → Row → Bool
+abbrev pub is_behind : ℕ → PendingRow → Bool
 is_behind serial r = nat_lt serial r.pending.serial
 
-abbrev pub id_of : Option Row → Option ℕ
+abbrev pub id_of : Option PendingRow → Option ℕ
 id_of row = option_map (λ r. r.id) row
 
 -- the command of an id
-abbrev pub pending_of : List Row → ℕ → Option PendingData
+abbrev pub pending_of : List PendingRow → ℕ → Option PendingData
 pending_of rows id = option_map (λ r. r.pending) (first_of (has_id id) rows)
 
-abbrev pub with_expired : Row → Row
+abbrev pub with_expired : PendingRow → PendingRow
 with_expired r = record r { pending = record r.pending { expired = true } }
 
 abbrev pub without_found : TableData → ℕ → Option PendingData → TableData
@@ -61,43 +58,36 @@ without t id = without_found t id (pending_of t.rows id)
 
 -- ==== what every table keeps
 
--- both have no deadline, or the second's is not below the first's
-abbrev pub NotAfter : Option ℕ → Option ℕ → Type 0
-NotAfter None None = Unit {0}
-NotAfter (Some a) (Some b) = a ≤ b
-NotAfter None (Some b) = ⊥
-NotAfter (Some a) None = ⊥
-
 pub record Precedes (p q : PendingData) : Type 0 where
   pub serial : p.serial < q.serial
   pub deadline : NotAfter p.deadline q.deadline
 
 -- each row comes before a command
-abbrev pub AllPrecede : List Row → PendingData → Type 0
+abbrev pub AllPrecede : List PendingRow → PendingData → Type 0
 AllPrecede [] q = Unit {0}
 AllPrecede (r ∷ rs) q = Precedes r.pending q × AllPrecede rs q
 
-abbrev pub PrecedesAll : Row → List Row → Type 0
+abbrev pub PrecedesAll : PendingRow → List PendingRow → Type 0
 PrecedesAll r [] = Unit {0}
 PrecedesAll r (x ∷ xs) = Precedes r.pending x.pending × PrecedesAll r xs
 
 -- each row comes before all behind it
-abbrev pub AreInOrder : List Row → Type 0
+abbrev pub AreInOrder : List PendingRow → Type 0
 AreInOrder [] = Unit {0}
 AreInOrder (r ∷ rs) = PrecedesAll r rs × AreInOrder rs
 
 -- no two rows have one id
-abbrev pub IdsDiffer : List Row → Type 0
+abbrev pub IdsDiffer : List PendingRow → Type 0
 IdsDiffer [] = Unit {0}
 IdsDiffer (r ∷ rs) = (list_any (has_id r.id) rs ≡ false) × IdsDiffer rs
 
 -- ids are 1 to 65,535
-abbrev pub AreIds : List Row → Type 0
+abbrev pub AreIds : List PendingRow → Type 0
 AreIds [] = Unit {0}
 AreIds (r ∷ rs) = (1 ≤ r.id) × (r.id ≤ 65535) × AreIds rs
 
 -- the first n rows are expired, and no other
-abbrev pub ExpiredFirst : ℕ → List Row → Type 0
+abbrev pub ExpiredFirst : ℕ → List PendingRow → Type 0
 ExpiredFirst zero [] = Unit {0}
 ExpiredFirst zero (r ∷ rs) = (r.pending.expired ≡ false) × ExpiredFirst zero rs
 ExpiredFirst (suc n) [] = ⊥

@@ -4,7 +4,8 @@ ghost use Rattle.std.specs.List.{list_any};
 ghost use Rattle.std.specs.List.Sorted.{IsNonDecreasingBy, IsPartitionPoint};
 ghost use Rattle.std.specs.Option.{option_map};
 ghost use Rattle.tcmu_types.specs.Lists.{first_of, with_first};
-ghost use Rattle.target_table.specs.Rows.{Row, TableData, IsTable, AllPrecede, has_id, has_passed, is_due, is_behind, is_waiting, id_of, pending_of, with_expired, without};
+ghost use Rattle.target_table.specs.Rows.{TableData, IsTable, AllPrecede, has_id, has_passed, is_due, is_behind, is_waiting, id_of, pending_of, with_expired, without};
+ghost use Rattle.region_model.specs.Sides.{PendingRow};
 ghost use Rattle.target_table.specs.Kept.{at_id};
 
 use crate::Pending;

@@ -1,6 +1,7 @@
 //! Two commands from their adding to their taking out.
 ghost use Rattle.std.specs.Prelude.{◌≡◌, ◌<◌, [], ◌∷◌, ◌++◌, length, false, IfOk};
-ghost use Rattle.target_table.specs.Rows.{Row, AllPrecede};
+ghost use Rattle.target_table.specs.Rows.{AllPrecede};
+ghost use Rattle.region_model.specs.Sides.{PendingRow};
 
 use crate::{Pending, Table};
 use std::alloc::Global;

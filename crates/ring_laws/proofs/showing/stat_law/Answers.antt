@@ -1,0 +1,5 @@
+use Rattle.ring_laws.proofs.StatSame.{stat_same}
+use Rattle.ring_laws.proofs.showing.stat_law.Goals as goal
+
+pub returns : goal.returns
+returns c = stat_same

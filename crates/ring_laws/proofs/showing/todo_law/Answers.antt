@@ -1,0 +1,5 @@
+use Rattle.ring_laws.proofs.TodoSame.{todo_same}
+use Rattle.ring_laws.proofs.showing.todo_law.Goals as goal
+
+pub returns : goal.returns
+returns c = todo_same
