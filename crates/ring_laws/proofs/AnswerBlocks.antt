@@ -36,7 +36,7 @@ use Rattle.ring_laws.proofs.AnswerData.{returned-other, returned-data, scattered
 use Rattle.ring_laws.proofs.PlacedAnswers.{Into, goes_into}
 use Rattle.tcmu_types.proofs.Rises.{among-append, among_every, every-among, differ_front}
 use Rattle.tcmu_model.proofs.DrainEnds.{laid_command}
-use Rattle.tcmu_model.proofs.ListsCleaned.{differ-right}
+use Rattle.tcmu_types.proofs.Rises.{differ-right}
 
 -- ==== what is apart
 

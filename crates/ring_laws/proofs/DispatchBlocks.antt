@@ -19,7 +19,7 @@ use Rattle.region_model.specs.UserNext.{nexted}
 use Rattle.tcmu_types.proofs.Everies.{every-append, every-front, every-back}
 use Rattle.ring_laws.specs.Dispatched.{CanDispatch}
 use Rattle.ring_laws.proofs.AnswerBlocks.{Leaves, differ-split, rest-apart}
-use Rattle.tcmu_model.proofs.ListsCleaned.{differ-right}
+use Rattle.tcmu_types.proofs.Rises.{differ-right}
 use Rattle.ring_laws.proofs.Lending.{without-other, without-lent}
 use Rattle.ring_laws.proofs.NextCases.{by_next, sent_in}
 use Rattle.ring_laws.proofs.Nexts.{Blocks, blocks_sent}

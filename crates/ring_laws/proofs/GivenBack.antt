@@ -15,7 +15,7 @@ use Rattle.ring_laws.proofs.LaidBlocks.{every-join}
 use Rattle.ring_laws.proofs.Scatter.{along-same}
 use Rattle.ring_laws.proofs.AnswerData.{returned-other, returned-data}
 use Rattle.ring_laws.proofs.AnswerBlocks.{differ-split}
-use Rattle.tcmu_model.proofs.ListsCleaned.{differ-right}
+use Rattle.tcmu_types.proofs.Rises.{differ-right}
 use Rattle.tcmu_types.proofs.Everies.{every-weaker}
 use Rattle.tcmu_types.proofs.Rises.{among-append, among_every, every-among, differ_front}
 

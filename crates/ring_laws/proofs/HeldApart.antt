@@ -8,7 +8,8 @@ use Rattle.tcmu_types.specs.Lists.{Every}
 use Rattle.tcmu_model.specs.BlockLists.{Taken, list_of, held_by}
 use Rattle.ring_laws.proofs.LaidBlocks.{among-filter}
 use Rattle.ring_laws.proofs.AnswerBlocks.{differ-split}
-use Rattle.tcmu_model.proofs.ListsCleaned.{differ-right, differ-fewer}
+use Rattle.tcmu_model.proofs.ListsCleaned.{differ-fewer}
+use Rattle.tcmu_types.proofs.Rises.{differ-right}
 use Rattle.ring_laws.proofs.GivenBack.{split-left}
 use Rattle.tcmu_types.proofs.Rises.{among-append}
 

@@ -13,7 +13,8 @@ use Rattle.tcmu_types.proofs.Rises.{among-append, differ-push}
 use Rattle.ring_laws.specs.Calls.{RowsSound}
 use Rattle.tcmu_model.proofs.FreeBlocks.{IsFree, length-least_free, least-are, least-differ}
 use Rattle.tcmu_model.proofs.ListsLaid.{differ-append}
-use Rattle.tcmu_model.proofs.ListsCleaned.{differ-right, differ-fewer}
+use Rattle.tcmu_model.proofs.ListsCleaned.{differ-fewer}
+use Rattle.tcmu_types.proofs.Rises.{differ-right}
 use Rattle.ring_laws.proofs.TakenOut.{differ-left}
 
 pub no_rows : (limit : ℕ) → RowsSound limit []

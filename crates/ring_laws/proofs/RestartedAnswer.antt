@@ -22,7 +22,7 @@ use Rattle.tcmu_model.proofs.Standing.{answered_rows, any_among, placed_there}
 use Rattle.region_model.specs.Sides.{GivenJob, InHand, PendingRow, UserState}
 use Rattle.region_model.specs.Represents.{AreGiven, AreOut, JobsStand, UserKeeps, is_out}
 use Rattle.ring_laws.specs.Restarted.{count_jobs, count_parked, restarted_answer}
-use Rattle.tcmu_model.proofs.ListsCleaned.{differ-right}
+use Rattle.tcmu_types.proofs.Rises.{differ-right}
 use Rattle.ring_laws.proofs.GivenBack.{split-left}
 use Rattle.ring_laws.proofs.JobsBack.{parked_among}
 use Rattle.ring_laws.proofs.Matched.{matched, unmatched}

@@ -29,11 +29,12 @@ use Rattle.region_model.specs.Represents.{AreOut, JobsStand, RingStands, TargetK
 use Rattle.region_model.specs.Sides.{InHand, PendingRow, TargetState, UserState}
 use Rattle.ring_laws.specs.SidesShow.{stat_on}
 use Rattle.ring_laws.proofs.Agree.{Agrees, agrees, held-same}
-use Rattle.ring_laws.proofs.AnswerBlocks.{differ-right, differ-split}
+use Rattle.ring_laws.proofs.AnswerBlocks.{differ-split}
+use Rattle.tcmu_types.proofs.Rises.{differ-right}
 use Rattle.ring_laws.proofs.GivenBack.{split-left}
 use Rattle.ring_laws.proofs.HandTells.{Tells, handled_tells, out_tells}
 use Rattle.ring_laws.proofs.RestartedAnswer.{count_mapped, count_none, count_plus, parked_total}
-use Rattle.ring_laws.proofs.TargetAnswers.{held_length}
+use Rattle.tcmu_model.proofs.ListsLaid.{held_length}
 
 -- ==== jobs in hand
 

@@ -4,7 +4,7 @@ use Rattle.std.proofs.lemmas.Bool.{cases_Bool, or_parts}
 use Rattle.tcmu_types.specs.Lists.{first_of, without_first, Every}
 use Rattle.tcmu_types.specs.Numbers.{is_among, Differ}
 use Rattle.tcmu_types.proofs.Everies.{every-append, every-front, every-back, every-without_first}
-use Rattle.tcmu_types.proofs.Rises.{among-append}
+use Rattle.tcmu_types.proofs.Rises.{among-append, differ-right}
 use Rattle.tcmu_model.specs.declared.state.CommandState.TheVariants.{Placed}
 use Rattle.tcmu_model.specs.Lengths.{blocks_of}
 use Rattle.tcmu_model.specs.Device.{Unfinished, DeviceState, is_at}
@@ -13,10 +13,6 @@ use Rattle.tcmu_model.specs.BlockLists.{Taken, list_of, held_by}
 use Rattle.tcmu_model.specs.Owned.{ListsSound}
 use Rattle.tcmu_model.specs.Sound.{IsSound}
 use Rattle.tcmu_model.proofs.SoundClean.{finish_taken}
-
-pub differ-right : (xs ys : List ℕ) → Differ (xs ++ ys) → Differ ys
-differ-right [] ys d = d
-differ-right (x ∷ xs) ys d = differ-right xs ys d.1
 
 -- ==== the commands that are left
 

@@ -210,3 +210,7 @@ rising_rest x (y ∷ ys) h = h.1
 pub rise_differ : (low : ℕ) (xs : List ℕ) (high : ℕ) → Rise low xs high → Differ xs
 rise_differ low [] high r = tt
 rise_differ low (x ∷ xs) high r = (not_above x xs high x r.1 (omega arith), rise_differ x xs high r.1)
+
+pub differ-right : (xs ys : List ℕ) → Differ (xs ++ ys) → Differ ys
+differ-right [] ys d = d
+differ-right (x ∷ xs) ys d = differ-right xs ys d.1
