@@ -17,7 +17,7 @@ use Rattle.region_model.specs.UserNext.{with_passed, with_job, nexted}
 use Rattle.tcmu_types.proofs.Counts.{sum-with_first_less, sum-without_first}
 use Rattle.tcmu_types.proofs.Firsts.{length-with_first}
 use Rattle.ring_laws.specs.UserKept.{UserCounts, UsesEntries}
-use Rattle.ring_laws.proofs.Found.{first-passes}
+use Rattle.tcmu_model.proofs.FirstItems.{first-passes}
 use Rattle.ring_laws.proofs.HandTells.{some_first}
 use Rattle.ring_laws.proofs.AnyAttached.{attached_sound}
 use Rattle.ring_laws.proofs.AnyUsers.{next_user}

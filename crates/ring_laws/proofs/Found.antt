@@ -1,16 +1,8 @@
--- What is found first in a list: it passes the test, and another number finds it too.
+-- What is found first in a list is found by another number too.
 use Rattle.std.proofs.Common.{◌≡◌, ℕ, Bool, true, false, List, [], ◌∷◌, map, sym, ap, ◌∙◌, Some, subst, ⊎_elim, eqb}
 use Rattle.std.proofs.lemmas.Bool.{cases_Bool, eq-eqb, ne_eqb, true≢false, or_left, or_right}
 use Rattle.tcmu_types.specs.Lists.{first_of}
 use Rattle.tcmu_types.specs.Numbers.{is_among, Differ}
-
-pub first-passes : {X : Type 0} (p : X → Bool) (xs : List X) (x : X) → first_of p xs ≡ Some x → p x ≡ true
-first-passes p [] x f = absurd (cc)
-first-passes p (y ∷ xs) x f =
-    ⊎_elim
-    (λ (k : p y ≡ true). let g : Some y ≡ Some x = rw k at f in let q : y ≡ x = cc in subst (λ z. p z ≡ true) q k)
-    (λ (k : p y ≡ false). let g : first_of p xs ≡ Some x = rw k at f in first-passes p xs x g)
-    (cases_Bool (p y))
 
 found_among : {X : Type 0} (p : X → Bool) (g : X → ℕ) (xs : List X) (e : X) → first_of p xs ≡ Some e → is_among (map g xs) (g e) ≡ true
 found_among p g [] e h = absurd (cc)

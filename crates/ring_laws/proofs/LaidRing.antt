@@ -35,7 +35,8 @@ use Rattle.ring_laws.proofs.LaidEntry.{laid_in, entered}
 use Rattle.ring_laws.proofs.RingLaid.{SameItems, ring-laid}
 use Rattle.ring_laws.proofs.Agree.{Agrees, agrees, blocks-same}
 use Rattle.region_model.proofs.PartLengths.{length-iovs, length-request}
-use Rattle.tcmu_model.proofs.ListsLaid.{first-append, first-here, not_below, unlisted, cmd_item, with_waiting}
+use Rattle.tcmu_model.proofs.ListsLaid.{not_below, unlisted, cmd_item, with_waiting}
+use Rattle.tcmu_model.proofs.FirstItems.{first-append, first-here}
 
 -- ==== what is laid
 

@@ -10,7 +10,8 @@ use Rattle.tcmu_model.specs.BlockLists.{Taken}
 use Rattle.region_model.specs.Pending.{PendingData}
 use Rattle.region_model.specs.Sides.{PendingRow}
 use Rattle.region_model.specs.Represents.{AreNoteIds, IsLeftOver, IsNoteId, NoteStands, has_id, id_of, pending_of, row_has, serial_with}
-use Rattle.ring_laws.proofs.Found.{first-passes, found_by}
+use Rattle.ring_laws.proofs.Found.{found_by}
+use Rattle.tcmu_model.proofs.FirstItems.{first-passes}
 
 -- ==== a serial and its id
 

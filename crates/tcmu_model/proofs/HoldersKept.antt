@@ -9,22 +9,14 @@ use Rattle.tcmu_types.specs.declared.answer.Submit.TheVariants as submit
 use Rattle.tcmu_types.proofs.Everies.{map_kept}
 use Rattle.tcmu_model.specs.declared.state.CommandState.{CommandState}
 use Rattle.tcmu_model.specs.declared.state.CommandState.TheVariants.{Waiting, Out, Handled, Parked, Placed, Lost}
-use Rattle.tcmu_model.specs.RingState.{Item, Laid, Pad, Cmd, Tmr}
+use Rattle.tcmu_model.specs.RingState.{Laid, Pad, Cmd, Tmr}
 use Rattle.tcmu_model.specs.Device.{Unfinished, DeviceState, is_at, has_state}
 use Rattle.tcmu_model.specs.Events.{with_delayed, after_submit, in_state, turned, after_item, after_dispatch, with_reply, after_handle, Placing, with_placed, run_placed, placed_by, placing, with_parked, after_respond, after_publish, later, is_due, expire, after_tick, after_block, answered, is_losing, lose, after_restart}
 use Rattle.tcmu_model.specs.BlockLists.{Taken}
 use Rattle.tcmu_model.specs.Owned.{ListsSound}
+use Rattle.tcmu_model.proofs.FirstItems.{map-with_first}
 use Rattle.tcmu_model.proofs.Unnamed.{dispatch_kept, respond_kept, publish_kept}
 use Rattle.tcmu_model.proofs.ListsKept.{Called, called, Holders, holders, lists_same}
-
--- the first that passes is changed, and keeps what the change keeps
-pub map-with_first : {X Y : Type 0} (p : X → Bool) (f : X → X) (g : X → Y) (xs : List X) → ((x : X) → g (f x) ≡ g x) → map g (with_first p f xs) ≡ map g xs
-map-with_first p f g [] h = refl
-map-with_first p f g (x ∷ xs) h =
-    ⊎_elim
-    (λ (e : p x ≡ true). rw (e, h x) refl)
-    (λ (e : p x ≡ false). rw e (ap (λ ys. g x ∷ ys) (map-with_first p f g xs h)))
-    (cases_Bool (p x))
 
 -- ==== the commands
 

@@ -1,5 +1,5 @@
 -- One walk over the events of a device: what holds of each event, its answer and the state that it leaves holds of every step.
-use Rattle.std.proofs.Common.{◌≡◌, ℕ, ◌≤◌, Bool, true, false, List, length, Some, None, refl, sym, subst}
+use Rattle.std.proofs.Common.{◌≡◌, ℕ, ◌≤◌, Bool, true, false, List, length, Some, refl, sym, subst}
 use Rattle.tcmu_types.specs.Data.{CommandData, ReplyData}
 use Rattle.tcmu_types.specs.Rules.{IsCommand, IsReply}
 use Rattle.tcmu_types.specs.Events.{EventData, AnswerData, DispatchData}
@@ -14,8 +14,8 @@ use Rattle.tcmu_types.specs.declared.answer.Reset.{Reset}
 use Rattle.tcmu_types.specs.declared.answer.Tmr.{Tmr}
 use Rattle.tcmu_types.specs.declared.stat.Stat.{Stat}
 use Rattle.tcmu_model.specs.Device.{Unfinished, DeviceState, Device}
-use Rattle.tcmu_model.specs.Events.{submit_answer, after_submit, enter_answer, after_enter, dispatch_answer, after_dispatch, command_out, after_handle, respond_answer, after_respond, publish_answer, after_publish, clean_answer, after_clean, tick_answer, after_tick, block_answer, after_block, reset_answer, after_reset, restart_answer, after_restart, tmr_answer, after_tmr, stat_answer}
-use Rattle.tcmu_model.specs.Steps.{HandlerRelation, Makes, Handles, Step, Run}
+use Rattle.tcmu_model.specs.Events.{submit_answer, after_submit, enter_answer, after_enter, after_dispatch, command_out, after_handle, after_respond, after_publish, after_clean, after_tick, after_block, reset_answer, after_reset, after_restart, tmr_answer, after_tmr}
+use Rattle.tcmu_model.specs.Steps.{HandlerRelation, Makes, Handles}
 
 -- P holds of each event of this device, with its answer and the state that it leaves
 pub record KeptByEvents (P : EventData → AnswerData → DeviceState → Type 0) (d : DeviceState) : Type 0 where

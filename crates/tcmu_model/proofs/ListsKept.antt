@@ -1,7 +1,7 @@
 -- Block lists stay sound where no command is laid or cleaned, and where lists go that no unfinished command and no uncleared item has.
 use Rattle.std.proofs.Common.{◌≡◌, ℕ, ◌≤◌, ◌<◌, ◌||◌, Bool, true, false, List, [], ◌∷◌, ◌++◌, length, drop, map, filter, refl, sym, ap, ◌∙◌, arith, suc, zero, Some, slice_get, append_assoc, subst, ⊎_elim, eqb}
 use Rattle.std.specs.List.{list_any, flat_map}
-use Rattle.std.proofs.lemmas.Bool.{cases_Bool, eqb-true, eq-eqb, or_left, or_right, false≢true}
+use Rattle.std.proofs.lemmas.Bool.{cases_Bool, eqb-true, eq-eqb, or_left, or_right}
 use Rattle.tcmu_types.specs.Data.{CommandData, SettingsData}
 use Rattle.tcmu_types.specs.Lists.{first_of, Every}
 use Rattle.tcmu_types.specs.Numbers.{is_among, Differ}
@@ -11,7 +11,7 @@ use Rattle.tcmu_model.specs.Lengths.{blocks_of}
 use Rattle.tcmu_model.specs.RingState.{Item, serials_in, serial_in}
 use Rattle.tcmu_model.specs.RingState as ring
 use Rattle.tcmu_model.specs.Device.{Unfinished, DeviceState, has_serial, opening_state}
-use Rattle.tcmu_model.specs.Events.{emptied, after_clean}
+use Rattle.tcmu_model.specs.Events.{emptied}
 use Rattle.tcmu_model.specs.BlockLists.{Taken, list_of, held_by, blocks_taken, is_kept, kept_lists}
 use Rattle.tcmu_model.specs.Owned.{ListsSound}
 

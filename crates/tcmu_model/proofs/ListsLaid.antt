@@ -1,7 +1,7 @@
 -- A command is laid: the block lists stay sound.
-use Rattle.std.proofs.Common.{◌≡◌, ℕ, ◌+◌, ◌≤◌, ◌<◌, ◌||◌, Bool, true, false, List, [], ◌∷◌, ◌++◌, length, Some, None, refl, sym, ap, ◌∙◌, arith, append_assoc, append-nil, subst, ⊎_elim, eqb, length-append}
+use Rattle.std.proofs.Common.{◌≡◌, ℕ, ◌+◌, ◌≤◌, ◌<◌, ◌||◌, true, false, List, [], ◌∷◌, ◌++◌, length, None, refl, sym, ap, ◌∙◌, arith, append_assoc, append-nil, subst, eqb, length-append}
 use Rattle.std.specs.List.{sum_by}
-use Rattle.std.proofs.lemmas.Bool.{cases_Bool, eqb-false, eq-eqb, ne_eqb, false≢true, or_parts, or_left}
+use Rattle.std.proofs.lemmas.Bool.{eqb-false, eq-eqb, ne_eqb, false≢true, or_parts, or_left}
 use Rattle.std.proofs.lemmas.List.Sums.{sum_by-cons}
 use Rattle.tcmu_types.specs.Data.{CommandData}
 use Rattle.tcmu_types.specs.Lists.{first_of, Every}
@@ -21,26 +21,11 @@ use Rattle.tcmu_model.specs.Sound.{IsSound}
 use Rattle.tcmu_model.proofs.Basics.{rows_among}
 use Rattle.tcmu_model.proofs.Laying.{serials-append}
 use Rattle.tcmu_model.proofs.LaidItems.{laid_with, LaidCase, laid_case, Old, Padding, New, serial_at}
+use Rattle.tcmu_model.proofs.FirstItems.{first-append, first-here}
 use Rattle.tcmu_model.proofs.FreeBlocks.{IsFree, length-least_free, least-are, least-differ}
 use Rattle.tcmu_model.proofs.AnsweredRoom.{queued_room, above_accepted, room_answered, above_laid}
 
 -- ==== lists of one more
-
-pub first-append : {X : Type 0} (p : X → Bool) (xs : List X) (y : X) → p y ≡ false → first_of p (xs ++ y ∷ []) ≡ first_of p xs
-first-append p [] y h = rw h refl
-first-append p (x ∷ xs) y h =
-    ⊎_elim
-    (λ (e : p x ≡ true). rw e refl)
-    (λ (e : p x ≡ false). rw e (first-append p xs y h))
-    (cases_Bool (p x))
-
-pub first-here : {X : Type 0} (p : X → Bool) (xs : List X) (y : X) → p y ≡ true → first_of p xs ≡ None → first_of p (xs ++ y ∷ []) ≡ Some y
-first-here p [] y h n = rw h refl
-first-here p (x ∷ xs) y h n =
-    ⊎_elim
-    (λ (e : p x ≡ true). let k : Some x ≡ None = rw e at n in absurd (cc))
-    (λ (e : p x ≡ false). let k : first_of p xs ≡ None = rw e at n in rw e (first-here p xs y h k))
-    (cases_Bool (p x))
 
 pub not_below : (s q : ℕ) → q < s → eqb s q ≡ false
 not_below s q h = ne_eqb s q (λ e. absurd (omega arith))

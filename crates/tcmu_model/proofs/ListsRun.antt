@@ -1,5 +1,5 @@
 -- The block lists of a run: there are some, they are sound, and the entries alone tell them.
-use Rattle.std.proofs.Common.{◌≡◌, ℕ, ◌≤◌, ◌&&◌, nat_eq, Bool, true, false, cond, List, [], ◌∷◌, ◌++◌, length, Some, append-nil, refl, sym, ap, ◌∙◌, subst}
+use Rattle.std.proofs.Common.{◌≡◌, ℕ, ◌≤◌, ◌&&◌, nat_eq, Bool, true, false, cond, List, [], ◌∷◌, ◌++◌, length, append-nil, refl, sym, ap, ◌∙◌, subst}
 use Rattle.std.proofs.lemmas.Bool.{false≢true}
 use Rattle.tcmu_types.specs.Data.{CommandData, SettingsData}
 use Rattle.tcmu_types.specs.Rules.{IsSettings}
@@ -19,7 +19,7 @@ use Rattle.tcmu_model.specs.RingState as ring
 use Rattle.tcmu_model.specs.MediumState.{MediumState}
 use Rattle.tcmu_model.specs.Device.{Delayed, DeviceState, Device, opening}
 use Rattle.tcmu_model.specs.Events.{submit_answer, after_submit, entered_or_full, enter_answer, after_enter, after_dispatch, after_handle, after_respond, after_publish, after_clean, after_tick, after_block, emptied, count_in_hand, after_reset, after_restart, tmr_length_of, with_note, after_tmr}
-use Rattle.tcmu_model.specs.Steps.{HandlerRelation, Makes, Step, Run}
+use Rattle.tcmu_model.specs.Steps.{HandlerRelation, Step, Run}
 use Rattle.tcmu_model.specs.BlockLists.{Taken, list_of, with_taken, kept_lists, lists_after, HasLists, BlockRun}
 use Rattle.tcmu_model.specs.Owned.{ListsSound}
 use Rattle.tcmu_model.specs.Sound.{IsSound}
@@ -31,7 +31,7 @@ use Rattle.tcmu_model.proofs.ListsLaid.{lists_submitted, lists_entered}
 use Rattle.tcmu_model.proofs.ListsCleaned.{lists_cleaned}
 use Rattle.tcmu_model.proofs.ListsKept.{lists_kept, lists_sound_opening, lists_emptied, none_kept}
 use Rattle.tcmu_model.proofs.HoldersKept.{lists_delayed, lists_dispatched, lists_handled, lists_responded, lists_published, lists_ticked, lists_blocked, lists_restarted}
-use Rattle.tcmu_model.proofs.Runs.{sound_step, sound_run}
+use Rattle.tcmu_model.proofs.Runs.{sound_step}
 use Rattle.tcmu_model.proofs.SoundEvents.{sound_opening}
 
 -- ==== a note is laid

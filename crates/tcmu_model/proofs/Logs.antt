@@ -3,10 +3,8 @@ use Rattle.std.proofs.Common.{◌≡◌, ℕ, Bool, true, false, cond, ◌&&◌,
 use Rattle.std.proofs.lemmas.List.{append-nil}
 use Rattle.tcmu_types.specs.Data.{CommandData, ReplyData, DoneData}
 use Rattle.tcmu_types.specs.Events.{EventData, AnswerData}
-use Rattle.tcmu_types.specs.Events as ev
 use Rattle.tcmu_types.specs.declared.answer.Submit.{Submit}
 use Rattle.tcmu_types.specs.declared.answer.Submit.TheVariants as submit
-use Rattle.tcmu_types.specs.declared.answer.Handle.TheVariants as handle
 use Rattle.tcmu_types.specs.declared.answer.Tmr.{Tmr}
 use Rattle.tcmu_types.specs.declared.answer.Tmr.TheVariants as tmr
 use Rattle.tcmu_model.specs.declared.state.CommandState.TheVariants.{Placed}
@@ -14,6 +12,7 @@ use Rattle.tcmu_types.specs.Lists.{first_of, without_first}
 use Rattle.tcmu_model.specs.Device.{Unfinished, DeviceState, Device, is_at}
 use Rattle.tcmu_model.specs.Events.{after_submit, with_command, with_delayed, after_handle, Books, finish, finish_all, books, answered, completions, after_clean, after_tick, after_block, emptied, count_in_hand, after_reset, after_restart, with_note, after_tmr}
 use Rattle.tcmu_model.specs.Steps.{HandlerRelation, Makes}
+use Rattle.tcmu_model.proofs.KeptByEvents.{KeptByEvents, made}
 use Rattle.tcmu_model.proofs.Unnamed.{enter_kept, dispatch_kept, respond_kept, publish_kept}
 
 -- the later log is the earlier one with more behind it
@@ -63,7 +62,7 @@ after_reset_grows d level = go (d.blocked && nat_eq (count_in_hand d) 0)
     go true = then d.log (after_clean d).log (emptied (after_clean d) level).log (after_clean_grows d) (_, refl)
     go false = same d.log d.log refl
 
-after_tmr_same : (d : DeviceState) (kind : ℕ) (ss : List ℕ) (a : Tmr) → (after_tmr d kind ss a).log ≡ d.log
+pub after_tmr_same : (d : DeviceState) (kind : ℕ) (ss : List ℕ) (a : Tmr) → (after_tmr d kind ss a).log ≡ d.log
 unfolding after_tmr with_note
 after_tmr_same d kind ss tmr.Noted = refl
 after_tmr_same d kind ss tmr.Off = refl
@@ -71,39 +70,38 @@ after_tmr_same d kind ss tmr.Busy = refl
 after_tmr_same d kind ss (tmr.Unknown s) = refl
 after_tmr_same d kind ss (tmr.FullRing need free) = refl
 
-handled_same : (d : DeviceState) (s : ℕ) (reply : ReplyData) → (after_handle d s reply).log ≡ d.log
+pub handled_same : (d : DeviceState) (s : ℕ) (reply : ReplyData) → (after_handle d s reply).log ≡ d.log
 unfolding after_handle
 handled_same d s reply = refl
 
-restarted_same : (d : DeviceState) → (after_restart d).log ≡ d.log
+pub restarted_same : (d : DeviceState) → (after_restart d).log ≡ d.log
 unfolding after_restart
 restarted_same d = refl
 
-block_same : (d : DeviceState) (b : Bool) → (after_block d b).log ≡ d.log
+pub block_same : (d : DeviceState) (b : Bool) → (after_block d b).log ≡ d.log
 unfolding after_block
 block_same d b = refl
 
-log_of : (d d' : Device) (s : DeviceState) → d' ≡ record d { state = s } → d'.state.log ≡ s.log
-log_of d d' s e = ap (λ (x : Device). x.state.log) e
-
-grows_to : (d d' : Device) (s : DeviceState) → d' ≡ record d { state = s } → Grows d.state.log s.log → Grows d.state.log d'.state.log
-grows_to d d' s e g = (g.0, log_of d d' s e ∙ g.1)
+each_event : (d : DeviceState) → KeptByEvents (λ e a after. Grows d.log after.log) d
+unfolding with_command
+each_event d =
+    record {
+      submit = λ c a i q. same d.log _ (after_submit_same d c a);
+      enter = λ a q. same d.log _ (enter_kept (λ x. x.log) d a (λ w ws. refl));
+      dispatch = λ a. same d.log _ (dispatch_kept (λ x. x.log) d (λ i. refl));
+      replied = λ s u reply f w p. same d.log _ (handled_same d s reply);
+      not_out = λ s t. same d.log d.log refl;
+      respond = λ s a. same d.log _ (respond_kept (λ x. x.log) d s refl);
+      publish = λ a. same d.log _ (publish_kept (λ x. x.log) d refl);
+      clean = λ n. after_clean_grows d;
+      tick = λ n count. after_tick_grows d n;
+      block = λ b. same d.log _ (block_same d true);
+      unblock = λ b. same d.log _ (block_same d false);
+      reset = λ level a q. after_reset_grows d level;
+      restart = λ n. same d.log _ (restarted_same d);
+      tmr = λ kind ss a q. same d.log _ (after_tmr_same d kind ss a);
+      stat = λ a. same d.log d.log refl;
+    }
 
 pub makes_grows : (R : HandlerRelation) (d d' : Device) (e : EventData) (a : AnswerData) → Makes R d e a d' → Grows d.state.log d'.state.log
-unfolding with_command
-makes_grows R d d' (ev.Submit c) (ev.Submitted a) h = grows_to d d' _ h.after (same _ _ (after_submit_same d.state c a))
-makes_grows R d d' ev.Dispatch (ev.Dispatched a) h = grows_to d d' _ h.after (same _ _ (dispatch_kept (λ x. x.log) d.state (λ i. refl)))
-makes_grows R d d' (ev.Handle s) (ev.Answered (handle.Done reply)) h = same _ _ (ap (λ (x : DeviceState). x.log) h.1.state ∙ handled_same d.state s reply)
-makes_grows R d d' (ev.Handle s) (ev.Answered (handle.NotOut t)) h = same _ _ (ap (λ (x : Device). x.state.log) h.2)
-makes_grows R d d' (ev.Respond s) (ev.Responded a) h = grows_to d d' _ h.after (same _ _ (respond_kept (λ x. x.log) d.state s refl))
-makes_grows R d d' ev.Publish (ev.Published a) h = grows_to d d' _ h.after (same _ _ (publish_kept (λ x. x.log) d.state refl))
-makes_grows R d d' ev.Clean (ev.Logged n) h = grows_to d d' _ h.after (after_clean_grows d.state)
-makes_grows R d d' (ev.Tick n) (ev.Logged count) h = grows_to d d' _ h.after (after_tick_grows d.state n)
-makes_grows R d d' ev.Block (ev.Changed b) h = grows_to d d' _ h.after (same _ _ (block_same d.state true))
-makes_grows R d d' ev.Unblock (ev.Changed b) h = grows_to d d' _ h.after (same _ _ (block_same d.state false))
-makes_grows R d d' (ev.Reset level) (ev.WasReset a) h = grows_to d d' _ h.after (after_reset_grows d.state level)
-makes_grows R d d' ev.Restart (ev.Lost n) h = grows_to d d' _ h.after (same _ _ (restarted_same d.state))
-makes_grows R d d' (ev.Tmr kind ss) (ev.Noted a) h = grows_to d d' _ h.after (same _ _ (after_tmr_same d.state kind ss a))
-makes_grows R d d' ev.Stat (ev.Told a) h = same _ _ (ap (λ (x : Device). x.state.log) h.after)
-makes_grows R d d' ev.Enter (ev.Entered a) h = grows_to d d' _ h.after (same _ _ (enter_kept (λ x. x.log) d.state a (λ w ws. refl)))
-makes_grows R d d' _ _ h = absurd h
+makes_grows R d d' e a m = made R (λ e a after. Grows d.state.log after.log) d d' e a (each_event d.state) m

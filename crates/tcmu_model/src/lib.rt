@@ -17,7 +17,7 @@ mod tests;
 mod worked;
 
 pub use laws_drain::{drain_empties, drain_ends, drain_goes_on};
-pub use laws_journal::journal_law;
+pub use laws_journal::{asked_law, cause_law, journal_law};
 pub use laws_lists::{block_lists_alone, block_lists_law};
 pub use laws_log::{delayed_law, log_law, open_law};
 pub use laws_ring::{answers_law, publish_law, ring_law, room_law};

@@ -22,6 +22,8 @@ fn laws_hold_for_a_handler() {
     drain_goes_on::<Idle>();
     drain_empties::<Idle>();
     journal_law::<Idle>();
+    cause_law::<Idle>();
+    asked_law::<Idle>();
 }
 
 /// A READ(10) that asks for so many bytes.
