@@ -6,7 +6,7 @@ use Rattle.std.proofs.lemmas.List.Elements.{All-append, All-cons}
 use Rattle.tcmu_types.specs.Events as ev
 use Rattle.text_model.specs.ScenarioData.{DeviceLineData, LineData, ScenarioData, command_of}
 use Rattle.text_model.specs.ScenarioData as line
-use Rattle.text_model.specs.Scenario.{with_name, is_dump, bytes_in, bytes_out, initiators, initiators_from}
+use Rattle.text_model.specs.Scenario.{with_name, is_dump, is_event, bytes_in, bytes_out, initiators, initiators_from}
 use Rattle.text_model.specs.ScenarioRules.{IsScenario, IsDeviceLine, IsLine}
 use Rattle.text_model.specs.Load.{load_command, load_writes, load_lba, load_count, load_fill, load_line, load_step, load_lines, load_device, load_config, load_settings, load_scenario_data, random_of}
 use Rattle.load_gen.proofs.Sendable.{IsLoad, write_is, read_is}
@@ -148,6 +148,7 @@ scenario_is seed count few =
       names = λ i j d lt within. absurd (omega arith);
       files = λ i j d lt within. absurd (omega arith);
       few_lines = omega (arith, lines_few seed count);
+      few_events = omega (arith, few, sum_few (λ l. cond (is_event l) 1 0) 1 refl (λ i x. omega arith) seed count);
       lines = lines_are (load_device ∷ []) seed count (omega arith);
       few_initiators = λ d. one_few (initiators d (load_lines seed count)) (one_initiator d seed count);
       few_dumps = omega (arith, sum_few (λ l. cond (is_dump l) 1 0) 0 refl (λ i x. omega arith) seed count);

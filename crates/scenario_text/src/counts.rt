@@ -1,6 +1,6 @@
-//! What the limits of a scenario count: initiators, dumps, and bytes in each direction.
+//! What the limits of a reading count: initiators, dumps, events, and bytes in each direction.
 ghost use Rattle.std.specs.Prelude.{◌≡◌, ◌<◌, [], length, OnOk, slice_index_or};
-ghost use Rattle.text_model.specs.Scenario.{is_dump, bytes_in, bytes_out};
+ghost use Rattle.text_model.specs.Scenario.{is_dump, is_event, bytes_in, bytes_out};
 ghost use Rattle.scenario_text.specs.Counts.{noted};
 
 use crate::kinds::{Line, LineKind};
@@ -36,6 +36,17 @@ pub fn is_dump(line: &Line) -> bool
         LineKind::Dump => true,
         LineKind::Event(_) => false,
         LineKind::Drain => false,
+    }
+}
+
+/// Whether a line asks for an event.
+pub fn is_event(line: &Line) -> bool
+    ensures { result ≡ is_event line.now }
+{
+    match &line.what {
+        LineKind::Event(_) => true,
+        LineKind::Drain => false,
+        LineKind::Dump => false,
     }
 }
 

@@ -5,8 +5,8 @@ ghost use Rattle.scenario_text.specs.declared.kinds.LineFault.TheVariants as lin
 use device_config::Config;
 use std::alloc::AllocFailed;
 use std::marker::Model;
-use text_model::Why;
 use tcmu_types::{Command, Event, Listed, Name, NoMemory, Settings};
+use text_model::Why;
 use thiserror::Error;
 
 /// What a device line says.

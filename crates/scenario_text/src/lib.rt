@@ -17,6 +17,6 @@ pub use kinds::{
     Commands, DeviceLine, Devices, Events, InitLine, InitLines, Line, LineKind, Lines, Scenario,
     ScenarioFault, Script,
 };
-pub use reading::{MOST_TEXT, read_scenario};
+pub use reading::{MOST_TEXT, read_scenario, read_within};
 pub use scripts::script;
 pub use text_model::Why;

@@ -20,10 +20,10 @@ use crate::so_far::SoFar;
 use device_config::fields::{cdb_of, flags_of, name_of, number_of, runs_of, serials_of};
 use device_config::{Config, config_of_bytes};
 use std::alloc::Global;
-use text_model::{ConfigFault, Verb, Why};
 use tcmu_types::{
     Bytes, Cdb, Command, Event, MOST_PAYLOAD, MOST_RING, Name, NoMemory, PAGE, Settings,
 };
+use text_model::{ConfigFault, Verb, Why};
 
 /// What a line says: a device, or a line of a device.
 #[derive(Debug, Drop)]

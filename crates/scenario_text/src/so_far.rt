@@ -1,5 +1,5 @@
 //! A scenario while its lines are read, with what its limits count.
-ghost use Rattle.std.specs.Prelude.{◌≡◌, ◌≤◌, ◌<◌, length, Some, None};
+ghost use Rattle.std.specs.Prelude.{◌≡◌, ◌≤◌, ◌<◌, false, length, Some, None};
 ghost use Rattle.std.specs.List.{list_any};
 ghost use Rattle.text_model.specs.Said.{has_name, device_at, same_file};
 ghost use Rattle.text_model.specs.Scenario.{with_line, with_device, nothing_yet};
@@ -7,15 +7,15 @@ ghost use Rattle.device_config.specs.Views.{medium_data};
 ghost use Rattle.scenario_text.specs.Counts.{dump_by, many_by, one_if, IsNewName};
 ghost use Rattle.scenario_text.specs.Giving.{LineGives};
 
-use crate::counts::{bytes_in, bytes_out, is_dump, names_at, note_initiator};
+use crate::counts::{bytes_in, bytes_out, is_dump, is_event, names_at, note_initiator};
 use crate::devices::{any_in_file, small_at};
 use crate::kinds::{DeviceLine, Devices, Line, LineFault, Lines, Scenario};
 use crate::names::Names;
 use device_config::MediumKind;
 use std::alloc::Global;
 use std::marker::Model;
-use text_model::Why;
 use tcmu_types::Name;
+use text_model::{Limits, Why};
 
 /// The scenario so far, with the names of its devices and of the initiators of each.
 #[derive(Drop)]
@@ -25,6 +25,7 @@ pub struct SoFar {
     names: Names,
     initiators: Vec<Names>,
     dumps: u32,
+    events: u64,
     bytes_in: u64,
     bytes_out: u64,
 }
@@ -37,7 +38,7 @@ impl Model for SoFar {
 
     ghost view = { λ a. record { devices = a.devices.items; lines = a.lines.items } };
 
-    ghost invariant = { λ a. Counted a.devices.items a.lines.items a.initiators.items a.dumps a.bytes_in a.bytes_out × AreNames a.devices.items a.names };
+    ghost invariant = { λ a. Counted a.devices.items a.lines.items a.initiators.items a.dumps a.events a.bytes_in a.bytes_out × AreNames a.devices.items a.names };
 }
 
 pub(crate) fn breaks_dump(devices: &[DeviceLine], dumps: u32, line: &Line) -> bool
@@ -49,10 +50,22 @@ pub(crate) fn breaks_dump(devices: &[DeviceLine], dumps: u32, line: &Line) -> bo
     16 < dumps || !small_at(devices, line.device)
 }
 
-fn breaks_many(initiators: &[Name], lines: usize, ins: u64, outs: u64) -> bool
-    ensures { result ≡ many_by initiators.now lines ins outs }
+fn breaks_many(
+    limits: &Limits,
+    initiators: &[Name],
+    lines: usize,
+    events: u64,
+    ins: u64,
+    outs: u64,
+) -> bool
+    ensures value { result ≡ many_by limits.now initiators.now lines events ins outs }
+    ensures few { result ≡ false → lines < 4294967296 }
 {
-    16 < initiators.len() || 20_000 < lines || 67_108_864 < ins || 67_108_864 < outs
+    16 < initiators.len()
+        || (limits.lines as usize) < lines
+        || (limits.events as u64) < events
+        || 67_108_864 < ins
+        || 67_108_864 < outs
 }
 
 fn one_if(b: bool) -> u32
@@ -73,6 +86,7 @@ impl SoFar {
             names: Names::new(alloc),
             initiators: Vec::new(alloc),
             dumps: 0,
+            events: 0,
             bytes_in: 0,
             bytes_out: 0,
         }
@@ -112,11 +126,11 @@ impl SoFar {
         }
     }
 
-    /// With this line after the others.
+    /// With this line after the others, within these limits.
     #[tactic(auto, unfolding(text_model::specs::Scenario::with_line))]
-    pub fn with_line(self, line: Line) -> Result<SoFar, LineFault>
+    pub fn with_line(self, limits: &Limits, line: Line) -> Result<SoFar, LineFault>
         requires { line.device < length self.devices }
-        ensures { LineGives (λ x. x) result (with_line self line) }
+        ensures { LineGives (λ x. x) result (with_line limits.now self line) }
     {
         let SoFar {
             devices,
@@ -124,6 +138,7 @@ impl SoFar {
             names,
             mut initiators,
             dumps,
+            events,
             bytes_in: ins,
             bytes_out: outs,
         } = self;
@@ -132,10 +147,11 @@ impl SoFar {
             return Err(LineFault::Bad(Why::Dump));
         }
         note_initiator(&mut initiators, &line)?;
+        let events = events + one_if(is_event(&line)) as u64;
         let ins = ins + bytes_in(&line);
         let outs = outs + bytes_out(&line);
         let senders = names_at(&initiators, line.device);
-        if breaks_many(senders, lines.len() + 1, ins, outs) {
+        if breaks_many(limits, senders, lines.len() + 1, events, ins, outs) {
             return Err(LineFault::Bad(Why::Many));
         }
         lines.reserve(1)?;
@@ -146,6 +162,7 @@ impl SoFar {
             names,
             initiators,
             dumps,
+            events,
             bytes_in: ins,
             bytes_out: outs,
         })
@@ -163,6 +180,7 @@ impl SoFar {
             mut names,
             mut initiators,
             dumps,
+            events,
             bytes_in,
             bytes_out,
         } = self;
@@ -182,6 +200,7 @@ impl SoFar {
             names,
             initiators,
             dumps,
+            events,
             bytes_in,
             bytes_out,
         })

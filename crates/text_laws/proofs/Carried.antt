@@ -19,7 +19,7 @@ use Rattle.text_model.specs.Config.{ConfigData, config_of}
 use Rattle.text_model.specs.ScenarioData.{DeviceLineData, LineData, LineWhat, EventLine, DrainLine, DumpLine, ScenarioData}
 use Rattle.text_model.specs.ScenarioRules.{IsDeviceLine}
 use Rattle.text_model.specs.Said.{Said, SaysDevice, SaysLine, device_at, new_name, device_config, is_own, settings_of, payload_of, device_line, submit_line, plain_line, number_at, number_line, tmr_line, said_by}
-use Rattle.text_model.specs.Scenario.{with_rules, is_not_yet, with_said, with_fields, with_text, with_lines, nothing_yet, scenario_of, Bad}
+use Rattle.text_model.specs.Scenario.{with_rules, is_not_yet, with_said, with_fields, with_text, with_lines, nothing_yet, scenario_within, Bad}
 use Rattle.tcmu_types.specs.Lists.{Every}
 use Rattle.text_model.specs.declared.faults.ConfigFault.{ConfigFault}
 use Rattle.text_model.specs.declared.faults.Why.{Why}
@@ -29,6 +29,7 @@ use Rattle.text_model.specs.declared.words.Verb.TheVariants as verb
 use Rattle.tcmu_types.proofs.Readings.{same_some, same_ok, step, read_step, both, mapped, passed, number_within}
 use Rattle.tcmu_types.proofs.Everies.{every-append}
 use Rattle.text_model.proofs.ScenarioLaws.{kept_line, kept_device, scenario_is}
+use Rattle.text_model.specs.declared.limits.Limits.{Limits}
 use Rattle.text_laws.specs.Bytes.{AreBytes}
 use Rattle.text_laws.specs.Lines.{IsCarried, CarriesBytes}
 use Rattle.text_laws.specs.Configs.{FileLacks}
@@ -231,54 +232,54 @@ record IsCarriedAll (s : ScenarioData) : Type 0 where
   lines : Every (λ l. IsCarriedWhat l.what) s.lines
   devices : Every (λ d. IsLegible d.config) s.devices
 
-rules_carry : (s t : ScenarioData) (said : Said) → IsCarriedAll s → IsCarriedSaid said → with_rules s said ≡ Ok t → IsCarriedAll t
-rules_carry s t (SaysDevice d) k n e = subst IsCarriedAll (kept_device s t d e).0 (record { lines = k.lines; devices = every-append (λ (x : DeviceLineData). IsLegible x.config) s.devices (d ∷ []) k.devices (n, tt) })
-rules_carry s t (SaysLine l) k n e = subst IsCarriedAll (kept_line s t l e).0 (record { lines = every-append (λ (x : LineData). IsCarriedWhat x.what) s.lines (l ∷ []) k.lines (n, tt); devices = k.devices })
+rules_carry : (limits : Limits) (s t : ScenarioData) (said : Said) → IsCarriedAll s → IsCarriedSaid said → with_rules limits s said ≡ Ok t → IsCarriedAll t
+rules_carry limits s t (SaysDevice d) k n e = subst IsCarriedAll (kept_device s t d e).0 (record { lines = k.lines; devices = every-append (λ (x : DeviceLineData). IsLegible x.config) s.devices (d ∷ []) k.devices (n, tt) })
+rules_carry limits s t (SaysLine l) k n e = subst IsCarriedAll (kept_line limits s t l e).0 (record { lines = every-append (λ (x : LineData). IsCarriedWhat x.what) s.lines (l ∷ []) k.lines (n, tt); devices = k.devices })
 
-with_said_carries : (s t : ScenarioData) (said : Said) → IsCarriedAll s → IsCarriedSaid said → with_said s said ≡ Ok t → IsCarriedAll t
+with_said_carries : (limits : Limits) (s t : ScenarioData) (said : Said) → IsCarriedAll s → IsCarriedSaid said → with_said limits s said ≡ Ok t → IsCarriedAll t
 unfolding with_said
-with_said_carries s t said k n e =
-    let a = step (with_rules s said) _ t e in
-    subst IsCarriedAll (served (is_not_yet s said) a.0 a.2) (rules_carry s a.0 said k n a.1)
+with_said_carries limits s t said k n e =
+    let a = step (with_rules limits s said) _ t e in
+    subst IsCarriedAll (served (is_not_yet s said) a.0 a.2) (rules_carry limits s a.0 said k n a.1)
   where
     served : (b : Bool) (u : ScenarioData) → ◌≡◌ {A = Result ScenarioData Why} (cond b (Err why.NotYet) (Ok u)) (Ok t) → u ≡ t
     served true u e = absurd (cc)
     served false u e = same_ok u t e
 
-with_fields_carries : (s t : ScenarioData) (fields : List (List ℕ)) → Every (Lacks 35) fields → IsCarriedAll s → with_fields s fields ≡ Ok t → IsCarriedAll t
+with_fields_carries : (limits : Limits) (s t : ScenarioData) (fields : List (List ℕ)) → Every (Lacks 35) fields → IsCarriedAll s → with_fields limits s fields ≡ Ok t → IsCarriedAll t
 unfolding with_fields
-with_fields_carries s t [] clean k e = subst IsCarriedAll (same_ok s t e) k
-with_fields_carries s t (word ∷ fields) clean k e =
+with_fields_carries limits s t [] clean k e = subst IsCarriedAll (same_ok s t e) k
+with_fields_carries limits s t (word ∷ fields) clean k e =
     let v = read_step (verb_of word) why.Verb _ t e in
     let said = step (said_by s v.0 fields) _ t v.2 in
-    with_said_carries s t said.0 k (said_carries s v.0 fields said.0 clean.1 said.1) said.2
+    with_said_carries limits s t said.0 k (said_carries s v.0 fields said.0 clean.1 said.1) said.2
 
-with_text_carries : (s t : ScenarioData) (text : List ℕ) → IsCarriedAll s → with_text s text ≡ Ok t → IsCarriedAll t
+with_text_carries : (limits : Limits) (s t : ScenarioData) (text : List ℕ) → IsCarriedAll s → with_text limits s text ≡ Ok t → IsCarriedAll t
 unfolding with_text
-with_text_carries s t text k e = go (list_all is_allowed (before_hash text)) e
+with_text_carries limits s t text k e = go (list_all is_allowed (before_hash text)) e
   where
-    go : (b : Bool) → ◌≡◌ {A = Result ScenarioData Why} (cond b (with_fields s (fields_of (before_hash text))) (Err why.Byte)) (Ok t) → IsCarriedAll t
-    go true e = with_fields_carries s t (fields_of (before_hash text)) (fields_lack text) k e
+    go : (b : Bool) → ◌≡◌ {A = Result ScenarioData Why} (cond b (with_fields limits s (fields_of (before_hash text))) (Err why.Byte)) (Ok t) → IsCarriedAll t
+    go true e = with_fields_carries limits s t (fields_of (before_hash text)) (fields_lack text) k e
     go false e = absurd (cc)
 
-with_lines_carries : (n : ℕ) (s t : ScenarioData) (texts : List (List ℕ)) → IsCarriedAll s → with_lines n s texts ≡ Ok t → IsCarriedAll t
-with_lines_carries n s t [] k e = subst IsCarriedAll (same_ok s t e) k
-with_lines_carries n s t (text ∷ texts) k e = go (with_text s text) refl e (λ u. with_lines_carries (n + 1) u t texts)
+with_lines_carries : (limits : Limits) (n : ℕ) (s t : ScenarioData) (texts : List (List ℕ)) → IsCarriedAll s → with_lines limits n s texts ≡ Ok t → IsCarriedAll t
+with_lines_carries limits n s t [] k e = subst IsCarriedAll (same_ok s t e) k
+with_lines_carries limits n s t (text ∷ texts) k e = go (with_text limits s text) refl e (λ u. with_lines_carries limits (n + 1) u t texts)
   where
-    go : (r : Result ScenarioData Why) → with_text s text ≡ r → ◌≡◌ {A = Result ScenarioData Bad} (elim r [ Ok u ↦ with_lines (n + 1) u texts | Err f ↦ Err (record { line = n; why = f }) ]) (Ok t) → ((u : ScenarioData) → IsCarriedAll u → with_lines (n + 1) u texts ≡ Ok t → IsCarriedAll t) → IsCarriedAll t
+    go : (r : Result ScenarioData Why) → with_text limits s text ≡ r → ◌≡◌ {A = Result ScenarioData Bad} (elim r [ Ok u ↦ with_lines limits (n + 1) u texts | Err f ↦ Err (record { line = n; why = f }) ]) (Ok t) → ((u : ScenarioData) → IsCarriedAll u → with_lines limits (n + 1) u texts ≡ Ok t → IsCarriedAll t) → IsCarriedAll t
     go (Err f) is e more = absurd (cc)
-    go (Ok u) is e more = more u (with_text_carries s u text k is) e
+    go (Ok u) is e more = more u (with_text_carries limits s u text k is) e
 
-read_carries : (bytes : List ℕ) (s : ScenarioData) → scenario_of bytes ≡ Ok s → IsCarriedAll s
-unfolding scenario_of
-read_carries bytes s e = go (nat_lt 4194304 (length bytes)) e
+read_carries : (limits : Limits) (bytes : List ℕ) (s : ScenarioData) → scenario_within limits bytes ≡ Ok s → IsCarriedAll s
+unfolding scenario_within
+read_carries limits bytes s e = go (nat_lt limits.bytes (length bytes)) e
   where
-    go : (b : Bool) → ◌≡◌ {A = Result ScenarioData Bad} (cond b (Err (record { line = 0; why = why.TooLong })) (with_lines 1 nothing_yet (pieces 10 bytes))) (Ok s) → IsCarriedAll s
+    go : (b : Bool) → ◌≡◌ {A = Result ScenarioData Bad} (cond b (Err (record { line = 0; why = why.TooLong })) (with_lines limits 1 nothing_yet (pieces 10 bytes))) (Ok s) → IsCarriedAll s
     go true e = absurd (cc)
-    go false e = with_lines_carries 1 nothing_yet s (pieces 10 bytes) (record { lines = tt; devices = tt }) e
+    go false e = with_lines_carries limits 1 nothing_yet s (pieces 10 bytes) (record { lines = tt; devices = tt }) e
 
 pub carried_read : CarriedRead
-carried_read bytes s e = let carries = read_carries bytes s e in carries.lines
+carried_read limits bytes s e = let carries = read_carries limits bytes s e in carries.lines
 
 -- both what a device line keeps and that its config has a text
 spelled_each : (ds : List DeviceLineData) → All IsDeviceLine ds → Every (λ d. IsLegible d.config) ds → Every IsSpelledDevice ds
@@ -288,7 +289,7 @@ spelled_each (d ∷ ds) all each =
     (record { line = is; config = record { config = is.config; one = each.0.0; file = each.0.1 }; file = each.0.2 }, spelled_each ds (All-tail IsDeviceLine d ds all) each.1)
 
 pub spelled_read : SpelledRead
-spelled_read bytes s e =
-    let carries = read_carries bytes s e in
-    let is = scenario_is bytes s e in
+spelled_read limits bytes s e =
+    let carries = read_carries limits bytes s e in
+    let is = scenario_is limits bytes s e in
     spelled_each s.devices is.devices carries.devices

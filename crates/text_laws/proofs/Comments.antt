@@ -4,15 +4,16 @@ use Rattle.tcmu_types.specs.Fields.{before_hash, fields_of}
 use Rattle.text_model.specs.ScenarioData.{ScenarioData}
 use Rattle.text_model.specs.Scenario.{with_fields, with_text}
 use Rattle.text_model.specs.Text.{completion_text, end_text}
+use Rattle.text_model.specs.declared.limits.Limits.{Limits}
 use Rattle.text_laws.specs.Lines.{CommentsIgnored, CompletionsIgnored, EndsIgnored}
 
 pub comments_ignored : CommentsIgnored
 unfolding with_text before_hash fields_of with_fields
-comments_ignored s text = refl
+comments_ignored limits s text = refl
 
-pub empty_ignored : (s : ScenarioData) → with_text s [] ≡ Ok s
+pub empty_ignored : (limits : Limits) (s : ScenarioData) → with_text limits s [] ≡ Ok s
 unfolding with_text before_hash fields_of with_fields
-empty_ignored s = refl
+empty_ignored limits s = refl
 
 pub completions_ignored : CompletionsIgnored
 unfolding completion_text

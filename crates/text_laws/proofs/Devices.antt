@@ -211,8 +211,8 @@ line_says s d is new =
 
 pub devices_again : DevicesAgain
 unfolding with_fields verb_of said_by
-devices_again s d answer is new =
-    ap (λ t. with_text s (t ++ (codes " # " ++ answer))) (spelled d)
-    ∙ line_again s (codes "device") (d.name ∷ config_text d.config ∷ settings_list d.settings) (32 ∷ answer) (record { some = omega arith; bytes = refl })
+devices_again limits s d answer is new =
+    ap (λ t. with_text limits s (t ++ (codes " # " ++ answer))) (spelled d)
+    ∙ line_again limits s (codes "device") (d.name ∷ config_text d.config ∷ settings_list d.settings) (32 ∷ answer) (record { some = omega arith; bytes = refl })
     (name_word d.name is.line.name, (config_word d is, settings_words d.settings is.line.settings))
     ∙ rw (line_says s d is new) refl

@@ -20,6 +20,7 @@ use Rattle.text_model.specs.ScenarioRules.{IsNote}
 use Rattle.text_model.specs.Said.{SaysLine, device_at, said_by, plain_line, number_at, tmr_line, submit_line, payload_of}
 use Rattle.text_model.specs.Scenario.{with_said, with_fields, with_text}
 use Rattle.text_model.specs.Text.{spaced, event_text, command_text, data_fields, serials_text, runs_text}
+use Rattle.text_model.specs.declared.limits.Limits.{Limits}
 use Rattle.tcmu_types.specs.Hex.{hex_byte}
 use Rattle.text_laws.specs.Words.{IsWord, AreWords}
 use Rattle.text_laws.specs.Lines.{IsCarried, made, EventsAgain}
@@ -30,11 +31,11 @@ use Rattle.text_laws.proofs.Runs.{runs_again}
 use Rattle.text_laws.proofs.Words.{before_again, fields_again, all_allowed}
 use Rattle.text_laws.proofs.Fields.{name_word, number_word, words_join, hex_word, serials_word, runs_fit}
 
-pub line_again : (s : ScenarioData) (w : List ℕ) (fs : List (List ℕ)) (rest : List ℕ) → IsWord w → AreWords fs → with_text s (spaced w fs ++ 32 ∷ 35 ∷ rest) ≡ with_fields s (w ∷ fs)
+pub line_again : (limits : Limits) (s : ScenarioData) (w : List ℕ) (fs : List (List ℕ)) (rest : List ℕ) → IsWord w → AreWords fs → with_text limits s (spaced w fs ++ 32 ∷ 35 ∷ rest) ≡ with_fields limits s (w ∷ fs)
 unfolding with_text
-line_again s w fs rest h t =
-    ap (λ l. cond (list_all is_allowed l) (with_fields s (fields_of l)) (Err why.Byte)) (before_again w fs rest h t)
-    ∙ cond-true _ _ _ (all_allowed w fs h t) ∙ ap (with_fields s) (fields_again w fs h t)
+line_again limits s w fs rest h t =
+    ap (λ l. cond (list_all is_allowed l) (with_fields limits s (fields_of l)) (Err why.Byte)) (before_again w fs rest h t)
+    ∙ cond-true _ _ _ (all_allowed w fs h t) ∙ ap (with_fields limits s) (fields_again w fs h t)
 
 -- ---- lines of a name alone
 
@@ -42,73 +43,73 @@ plain_said : (s : ScenarioData) (at : ℕ) (name : List ℕ) (what : LineWhat) �
 unfolding plain_line
 plain_said s at name what d = rw d refl
 
-abbrev Again : ScenarioData → ℕ → List ℕ → EventData → List ℕ → Type 0
-Again s at name e answer = with_text s (event_text name e ++ (codes " # " ++ answer)) ≡ with_said s (SaysLine (made at e))
+abbrev Again : Limits → ScenarioData → ℕ → List ℕ → EventData → List ℕ → Type 0
+Again limits s at name e answer = with_text limits s (event_text name e ++ (codes " # " ++ answer)) ≡ with_said limits s (SaysLine (made at e))
 
-dispatch_again : (s : ScenarioData) (at : ℕ) (name answer : List ℕ) → device_at s name ≡ Some at → is_name name ≡ true → Again s at name ev.Dispatch answer
+dispatch_again : (limits : Limits) (s : ScenarioData) (at : ℕ) (name answer : List ℕ) → device_at s name ≡ Some at → is_name name ≡ true → Again limits s at name ev.Dispatch answer
 unfolding event_text with_fields verb_of said_by plain_line
-dispatch_again s at name answer d n = line_again s (codes "dispatch") (name ∷ []) (32 ∷ answer) (record { some = omega arith; bytes = refl }) (name_word name n, tt) ∙ rw d refl
+dispatch_again limits s at name answer d n = line_again limits s (codes "dispatch") (name ∷ []) (32 ∷ answer) (record { some = omega arith; bytes = refl }) (name_word name n, tt) ∙ rw d refl
 
-publish_again : (s : ScenarioData) (at : ℕ) (name answer : List ℕ) → device_at s name ≡ Some at → is_name name ≡ true → Again s at name ev.Publish answer
+publish_again : (limits : Limits) (s : ScenarioData) (at : ℕ) (name answer : List ℕ) → device_at s name ≡ Some at → is_name name ≡ true → Again limits s at name ev.Publish answer
 unfolding event_text with_fields verb_of said_by plain_line
-publish_again s at name answer d n = line_again s (codes "publish") (name ∷ []) (32 ∷ answer) (record { some = omega arith; bytes = refl }) (name_word name n, tt) ∙ rw d refl
+publish_again limits s at name answer d n = line_again limits s (codes "publish") (name ∷ []) (32 ∷ answer) (record { some = omega arith; bytes = refl }) (name_word name n, tt) ∙ rw d refl
 
-clean_again : (s : ScenarioData) (at : ℕ) (name answer : List ℕ) → device_at s name ≡ Some at → is_name name ≡ true → Again s at name ev.Clean answer
+clean_again : (limits : Limits) (s : ScenarioData) (at : ℕ) (name answer : List ℕ) → device_at s name ≡ Some at → is_name name ≡ true → Again limits s at name ev.Clean answer
 unfolding event_text with_fields verb_of said_by plain_line
-clean_again s at name answer d n = line_again s (codes "clean") (name ∷ []) (32 ∷ answer) (record { some = omega arith; bytes = refl }) (name_word name n, tt) ∙ rw d refl
+clean_again limits s at name answer d n = line_again limits s (codes "clean") (name ∷ []) (32 ∷ answer) (record { some = omega arith; bytes = refl }) (name_word name n, tt) ∙ rw d refl
 
-enter_again : (s : ScenarioData) (at : ℕ) (name answer : List ℕ) → device_at s name ≡ Some at → is_name name ≡ true → Again s at name ev.Enter answer
+enter_again : (limits : Limits) (s : ScenarioData) (at : ℕ) (name answer : List ℕ) → device_at s name ≡ Some at → is_name name ≡ true → Again limits s at name ev.Enter answer
 unfolding event_text with_fields verb_of said_by plain_line
-enter_again s at name answer d n = line_again s (codes "enter") (name ∷ []) (32 ∷ answer) (record { some = omega arith; bytes = refl }) (name_word name n, tt) ∙ rw d refl
+enter_again limits s at name answer d n = line_again limits s (codes "enter") (name ∷ []) (32 ∷ answer) (record { some = omega arith; bytes = refl }) (name_word name n, tt) ∙ rw d refl
 
-block_again : (s : ScenarioData) (at : ℕ) (name answer : List ℕ) → device_at s name ≡ Some at → is_name name ≡ true → Again s at name ev.Block answer
+block_again : (limits : Limits) (s : ScenarioData) (at : ℕ) (name answer : List ℕ) → device_at s name ≡ Some at → is_name name ≡ true → Again limits s at name ev.Block answer
 unfolding event_text with_fields verb_of said_by plain_line
-block_again s at name answer d n = line_again s (codes "block") (name ∷ []) (32 ∷ answer) (record { some = omega arith; bytes = refl }) (name_word name n, tt) ∙ rw d refl
+block_again limits s at name answer d n = line_again limits s (codes "block") (name ∷ []) (32 ∷ answer) (record { some = omega arith; bytes = refl }) (name_word name n, tt) ∙ rw d refl
 
-unblock_again : (s : ScenarioData) (at : ℕ) (name answer : List ℕ) → device_at s name ≡ Some at → is_name name ≡ true → Again s at name ev.Unblock answer
+unblock_again : (limits : Limits) (s : ScenarioData) (at : ℕ) (name answer : List ℕ) → device_at s name ≡ Some at → is_name name ≡ true → Again limits s at name ev.Unblock answer
 unfolding event_text with_fields verb_of said_by plain_line
-unblock_again s at name answer d n = line_again s (codes "unblock") (name ∷ []) (32 ∷ answer) (record { some = omega arith; bytes = refl }) (name_word name n, tt) ∙ rw d refl
+unblock_again limits s at name answer d n = line_again limits s (codes "unblock") (name ∷ []) (32 ∷ answer) (record { some = omega arith; bytes = refl }) (name_word name n, tt) ∙ rw d refl
 
-restart_again : (s : ScenarioData) (at : ℕ) (name answer : List ℕ) → device_at s name ≡ Some at → is_name name ≡ true → Again s at name ev.Restart answer
+restart_again : (limits : Limits) (s : ScenarioData) (at : ℕ) (name answer : List ℕ) → device_at s name ≡ Some at → is_name name ≡ true → Again limits s at name ev.Restart answer
 unfolding event_text with_fields verb_of said_by plain_line
-restart_again s at name answer d n = line_again s (codes "restart") (name ∷ []) (32 ∷ answer) (record { some = omega arith; bytes = refl }) (name_word name n, tt) ∙ rw d refl
+restart_again limits s at name answer d n = line_again limits s (codes "restart") (name ∷ []) (32 ∷ answer) (record { some = omega arith; bytes = refl }) (name_word name n, tt) ∙ rw d refl
 
-stat_again : (s : ScenarioData) (at : ℕ) (name answer : List ℕ) → device_at s name ≡ Some at → is_name name ≡ true → Again s at name ev.Stat answer
+stat_again : (limits : Limits) (s : ScenarioData) (at : ℕ) (name answer : List ℕ) → device_at s name ≡ Some at → is_name name ≡ true → Again limits s at name ev.Stat answer
 unfolding event_text with_fields verb_of said_by plain_line
-stat_again s at name answer d n = line_again s (codes "stat") (name ∷ []) (32 ∷ answer) (record { some = omega arith; bytes = refl }) (name_word name n, tt) ∙ rw d refl
+stat_again limits s at name answer d n = line_again limits s (codes "stat") (name ∷ []) (32 ∷ answer) (record { some = omega arith; bytes = refl }) (name_word name n, tt) ∙ rw d refl
 
 -- ---- lines of a name and a number
 
-handle_again : (s : ScenarioData) (at : ℕ) (name answer : List ℕ) (k : ℕ) → device_at s name ≡ Some at → is_name name ≡ true → 1 ≤ k → k ≤ 1000000000 → Again s at name (ev.Handle k) answer
+handle_again : (limits : Limits) (s : ScenarioData) (at : ℕ) (name answer : List ℕ) (k : ℕ) → device_at s name ≡ Some at → is_name name ≡ true → 1 ≤ k → k ≤ 1000000000 → Again limits s at name (ev.Handle k) answer
 unfolding event_text with_fields verb_of said_by number_at
-handle_again s at name answer k d n low high =
-    line_again s (codes "handle") (name ∷ decimal k ∷ []) (32 ∷ answer) (record { some = omega arith; bytes = refl }) (name_word name n, (number_word k (omega (arith, high)), tt))
+handle_again limits s at name answer k d n low high =
+    line_again limits s (codes "handle") (name ∷ decimal k ∷ []) (32 ∷ answer) (record { some = omega arith; bytes = refl }) (name_word name n, (number_word k (omega (arith, high)), tt))
     ∙ rw (d, number_again 1 1000000000 k low high (omega arith)) refl
 
-respond_again : (s : ScenarioData) (at : ℕ) (name answer : List ℕ) (k : ℕ) → device_at s name ≡ Some at → is_name name ≡ true → 1 ≤ k → k ≤ 1000000000 → Again s at name (ev.Respond k) answer
+respond_again : (limits : Limits) (s : ScenarioData) (at : ℕ) (name answer : List ℕ) (k : ℕ) → device_at s name ≡ Some at → is_name name ≡ true → 1 ≤ k → k ≤ 1000000000 → Again limits s at name (ev.Respond k) answer
 unfolding event_text with_fields verb_of said_by number_at
-respond_again s at name answer k d n low high =
-    line_again s (codes "respond") (name ∷ decimal k ∷ []) (32 ∷ answer) (record { some = omega arith; bytes = refl }) (name_word name n, (number_word k (omega (arith, high)), tt))
+respond_again limits s at name answer k d n low high =
+    line_again limits s (codes "respond") (name ∷ decimal k ∷ []) (32 ∷ answer) (record { some = omega arith; bytes = refl }) (name_word name n, (number_word k (omega (arith, high)), tt))
     ∙ rw (d, number_again 1 1000000000 k low high (omega arith)) refl
 
-tick_again : (s : ScenarioData) (at : ℕ) (name answer : List ℕ) (k : ℕ) → device_at s name ≡ Some at → is_name name ≡ true → 0 ≤ k → k ≤ 1000000 → Again s at name (ev.Tick k) answer
+tick_again : (limits : Limits) (s : ScenarioData) (at : ℕ) (name answer : List ℕ) (k : ℕ) → device_at s name ≡ Some at → is_name name ≡ true → 0 ≤ k → k ≤ 1000000 → Again limits s at name (ev.Tick k) answer
 unfolding event_text with_fields verb_of said_by number_at
-tick_again s at name answer k d n low high =
-    line_again s (codes "tick") (name ∷ decimal k ∷ []) (32 ∷ answer) (record { some = omega arith; bytes = refl }) (name_word name n, (number_word k (omega (arith, high)), tt))
+tick_again limits s at name answer k d n low high =
+    line_again limits s (codes "tick") (name ∷ decimal k ∷ []) (32 ∷ answer) (record { some = omega arith; bytes = refl }) (name_word name n, (number_word k (omega (arith, high)), tt))
     ∙ rw (d, number_again 0 1000000 k low high (omega arith)) refl
 
-reset_again : (s : ScenarioData) (at : ℕ) (name answer : List ℕ) (k : ℕ) → device_at s name ≡ Some at → is_name name ≡ true → 1 ≤ k → k ≤ 2 → Again s at name (ev.Reset k) answer
+reset_again : (limits : Limits) (s : ScenarioData) (at : ℕ) (name answer : List ℕ) (k : ℕ) → device_at s name ≡ Some at → is_name name ≡ true → 1 ≤ k → k ≤ 2 → Again limits s at name (ev.Reset k) answer
 unfolding event_text with_fields verb_of said_by number_at
-reset_again s at name answer k d n low high =
-    line_again s (codes "reset") (name ∷ decimal k ∷ []) (32 ∷ answer) (record { some = omega arith; bytes = refl }) (name_word name n, (number_word k (omega (arith, high)), tt))
+reset_again limits s at name answer k d n low high =
+    line_again limits s (codes "reset") (name ∷ decimal k ∷ []) (32 ∷ answer) (record { some = omega arith; bytes = refl }) (name_word name n, (number_word k (omega (arith, high)), tt))
     ∙ rw (d, number_again 1 2 k low high (omega arith)) refl
 
 -- ---- task management
 
-tmr_again : (s : ScenarioData) (at : ℕ) (name answer : List ℕ) (kind : ℕ) (serials : List ℕ) → device_at s name ≡ Some at → is_name name ≡ true → IsNote kind serials → Again s at name (ev.Tmr kind serials) answer
+tmr_again : (limits : Limits) (s : ScenarioData) (at : ℕ) (name answer : List ℕ) (kind : ℕ) (serials : List ℕ) → device_at s name ≡ Some at → is_name name ≡ true → IsNote kind serials → Again limits s at name (ev.Tmr kind serials) answer
 unfolding event_text with_fields verb_of said_by tmr_line
-tmr_again s at name answer kind serials d n is =
-    line_again s (codes "tmr") (name ∷ decimal kind ∷ serials_text serials ∷ []) (32 ∷ answer) (record { some = omega arith; bytes = refl })
+tmr_again limits s at name answer kind serials d n is =
+    line_again limits s (codes "tmr") (name ∷ decimal kind ∷ serials_text serials ∷ []) (32 ∷ answer) (record { some = omega arith; bytes = refl })
     (name_word name n, (number_word kind (omega (arith, is.known.most)), (serials_word serials (rising_numbers serials is.rising), tt)))
     ∙ rw (d, number_again 1 7 kind is.known.least is.known.most (omega arith), serials_again serials is.rising) refl
 
@@ -175,25 +176,25 @@ submit_said s at name c d is h =
     let way : only_if is_directed c ≡ Some c = cond-true _ _ _ is.directed in
     rw (p.field, d, named, number_again 0 4294967295 c.tag (omega arith) h.tag (omega arith), cdb_again c.cdb h.cdb is.cdb, p.says, way) refl
 
-submit_again : (s : ScenarioData) (at : ℕ) (name answer : List ℕ) (c : CommandData) → device_at s name ≡ Some at → is_name name ≡ true → IsCommand c → IsCarried c → Again s at name (ev.Submit c) answer
+submit_again : (limits : Limits) (s : ScenarioData) (at : ℕ) (name answer : List ℕ) (c : CommandData) → device_at s name ≡ Some at → is_name name ≡ true → IsCommand c → IsCarried c → Again limits s at name (ev.Submit c) answer
 unfolding event_text command_text with_fields verb_of said_by
-submit_again s at name answer c d n is h =
-    line_again s (codes "submit") (name ∷ c.init ∷ decimal c.tag ∷ flat_map hex_byte c.cdb ∷ data_fields c) (32 ∷ answer) (record { some = omega arith; bytes = refl })
+submit_again limits s at name answer c d n is h =
+    line_again limits s (codes "submit") (name ∷ c.init ∷ decimal c.tag ∷ flat_map hex_byte c.cdb ∷ data_fields c) (32 ∷ answer) (record { some = omega arith; bytes = refl })
     (name_word name n, (name_word c.init is.init, (number_word c.tag (omega (arith, h.tag)), (hex_word c.cdb h.cdb is.cdb.some, data_words c is h))))
     ∙ rw (submit_said s at name c d is h) refl
 
 pub events_again : EventsAgain
-events_again s at name (ev.Submit c) answer d n is h = submit_again s at name answer c d n is h
-events_again s at name ev.Dispatch answer d n is h = dispatch_again s at name answer d n
-events_again s at name (ev.Handle k) answer d n is h = handle_again s at name answer k d n is.least is.most
-events_again s at name (ev.Respond k) answer d n is h = respond_again s at name answer k d n is.least is.most
-events_again s at name ev.Publish answer d n is h = publish_again s at name answer d n
-events_again s at name ev.Clean answer d n is h = clean_again s at name answer d n
-events_again s at name ev.Enter answer d n is h = enter_again s at name answer d n
-events_again s at name (ev.Tick k) answer d n is h = tick_again s at name answer k d n (omega arith) is
-events_again s at name ev.Block answer d n is h = block_again s at name answer d n
-events_again s at name ev.Unblock answer d n is h = unblock_again s at name answer d n
-events_again s at name (ev.Reset k) answer d n is h = reset_again s at name answer k d n is.least is.most
-events_again s at name ev.Restart answer d n is h = restart_again s at name answer d n
-events_again s at name (ev.Tmr kind serials) answer d n is h = tmr_again s at name answer kind serials d n is
-events_again s at name ev.Stat answer d n is h = stat_again s at name answer d n
+events_again limits s at name (ev.Submit c) answer d n is h = submit_again limits s at name answer c d n is h
+events_again limits s at name ev.Dispatch answer d n is h = dispatch_again limits s at name answer d n
+events_again limits s at name (ev.Handle k) answer d n is h = handle_again limits s at name answer k d n is.least is.most
+events_again limits s at name (ev.Respond k) answer d n is h = respond_again limits s at name answer k d n is.least is.most
+events_again limits s at name ev.Publish answer d n is h = publish_again limits s at name answer d n
+events_again limits s at name ev.Clean answer d n is h = clean_again limits s at name answer d n
+events_again limits s at name ev.Enter answer d n is h = enter_again limits s at name answer d n
+events_again limits s at name (ev.Tick k) answer d n is h = tick_again limits s at name answer k d n (omega arith) is
+events_again limits s at name ev.Block answer d n is h = block_again limits s at name answer d n
+events_again limits s at name ev.Unblock answer d n is h = unblock_again limits s at name answer d n
+events_again limits s at name (ev.Reset k) answer d n is h = reset_again limits s at name answer k d n is.least is.most
+events_again limits s at name ev.Restart answer d n is h = restart_again limits s at name answer d n
+events_again limits s at name (ev.Tmr kind serials) answer d n is h = tmr_again limits s at name answer kind serials d n is
+events_again limits s at name ev.Stat answer d n is h = stat_again limits s at name answer d n

@@ -8,7 +8,7 @@ use Rattle.tcmu_model.specs.Device.{Device, opening}
 use Rattle.scsi_model.specs.Medium.{memory_below, opened_medium}
 use Rattle.text_model.specs.Config.{MediumData, InMemory, InFile}
 use Rattle.text_model.specs.ScenarioData.{DeviceLineData, ScenarioData}
-use Rattle.text_model.specs.Scenario.{scenario_of}
+use Rattle.text_model.specs.Scenario.{scenario_limits, scenario_of}
 use Rattle.scsi_model.specs.Scsi.{Serves}
 use Rattle.text_model.specs.Several.{Journaled, IsReplayOf}
 use Rattle.tcmu_types.specs.Lists.{Every}
@@ -80,7 +80,7 @@ law_of_replay bytes text s read is size few =
 
 pub law_of_journals : LawOfJournals
 law_of_journals bytes text s js read is keeps =
-    let back = read_back Serves s.devices is.opened js is.ends text (spelled_read bytes s read) is.journal keeps in
+    let back = read_back Serves scenario_limits s.devices is.opened js is.ends text (spelled_read scenario_limits bytes s read) is.journal keeps in
     let replay = replayed_again Serves s.devices is.opened js is.ends text is.journal is.done in
     (back, own_text text (written s.devices (entries_of js)) is.opened back is.memory replay)
 
@@ -96,8 +96,8 @@ journal_of bytes text s read is = let starts = all_open s.devices is.opened is.m
 
 pub has_one_journal : HasOneJournal
 has_one_journal bytes others text s t read read' is it =
-    let first = scenario_is bytes s read in
-    let other = scenario_is others t read' in
+    let first = scenario_is scenario_limits bytes s read in
+    let other = scenario_is scenario_limits others t read' in
     one_journal Serves Serves s.devices t.devices is.opened it.opened is.replay.journal it.replay.journal is.replay.ends it.replay.ends text
-    (record { spelled = spelled_read bytes s read; names = first.names }) (record { spelled = spelled_read others t read'; names = other.names })
+    (record { spelled = spelled_read scenario_limits bytes s read; names = first.names }) (record { spelled = spelled_read scenario_limits others t read'; names = other.names })
     (are_values bytes text s read is) (are_values others text t read' it) (journal_of bytes text s read is) (journal_of others text t read' it)

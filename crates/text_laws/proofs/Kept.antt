@@ -7,7 +7,7 @@ use Rattle.tcmu_types.specs.Data.{CommandData}
 use Rattle.tcmu_types.specs.Events.{EntryData}
 use Rattle.text_model.specs.ScenarioData.{DeviceLineData, LineData, ScenarioData, command_of}
 use Rattle.text_model.specs.ScenarioRules.{IsLine, IsScenario}
-use Rattle.text_model.specs.Scenario.{is_dump, bytes_in, bytes_out, with_name, initiators, initiators_from}
+use Rattle.text_model.specs.Scenario.{is_dump, is_event, bytes_in, bytes_out, with_name, initiators, initiators_from}
 use Rattle.tcmu_types.specs.Lists.{Every}
 use Rattle.text_laws.specs.Lines.{made}
 use Rattle.text_laws.specs.Replays.{lines_of, written}
@@ -56,6 +56,10 @@ as_many : (es : List EntryData) → length (lines_of es) ≡ length es
 as_many [] = refl
 as_many (e ∷ es) = ap suc (as_many es)
 
+events_count : (es : List EntryData) → count_by is_event (lines_of es) ≡ length es
+events_count [] = refl
+events_count (e ∷ es) = omega (arith, sum_by-cons {X = LineData} (λ x. cond (is_event x) 1 0) (made e.device e.event) (lines_of es), events_count es)
+
 lines_are : (ls : List DeviceLineData) (es : List EntryData) → Every (IsWithinLines (length ls)) es → All (IsLine ls) (lines_of es)
 lines_are ls [] h = All-nil (IsLine ls)
 lines_are ls (e ∷ es) h =
@@ -72,6 +76,7 @@ replay_keeps s es is within same few =
       names = is.names;
       files = is.files;
       few_lines = omega (arith, as_many es, few);
+      few_events = omega (arith, events_count es, few);
       lines = lines_are s.devices es within;
       few_initiators = λ d. subst (λ (names : List (List ℕ)). length names ≤ 16) (initiators_same d) (is.few_initiators d);
       few_dumps = omega (arith, no_dumps es);

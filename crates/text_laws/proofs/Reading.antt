@@ -1,6 +1,6 @@
 -- The whole text of a journal is read line by line.
 use Rattle.std.proofs.Common.{◌≡◌, ◌≢◌, ℕ, suc, ◌+◌, ◌<◌, ◌≤◌, Bool, true, false, cond, not, nat_eq, List, [], ◌∷◌, ◌++◌, length, All, get_or, slice_get, Option, Some, None, Ok, Err, refl, sym, ap, subst, ◌∙◌, arith, codes, append_assoc, length-append}
-use Rattle.std.specs.List.{flat_map, list_any, sum_by, AllPairs, position_or_len}
+use Rattle.std.specs.List.{flat_map, list_any, sum_by, count_by, AllPairs, position_or_len}
 use Rattle.std.specs.Str.{bytes_eq}
 use Rattle.std.specs.Fmt.{decimal}
 use Rattle.std.proofs.lemmas.Bool.{eq-eqb, le-ltb, lt-ltb, cond-true, cond-false}
@@ -17,13 +17,14 @@ use Rattle.tcmu_model.specs.Sound.{open_count}
 use Rattle.text_model.specs.Several.{Journaled, journaled_text, ends_text}
 use Rattle.tcmu_types.specs.Lists.{Every}
 use Rattle.text_model.specs.ScenarioData.{DeviceLineData, LineData, ScenarioData, command_of}
-use Rattle.text_model.specs.ScenarioRules.{IsEvent, IsScenario}
+use Rattle.text_model.specs.ScenarioRules.{IsEvent, IsScenarioWithin}
 use Rattle.text_model.specs.Said.{has_name, same_file, device_at, SaysLine, SaysDevice}
-use Rattle.text_model.specs.Scenario.{bytes_in, bytes_out, with_name, with_initiator, initiators, initiators_from, breaks_dump, breaks_many, with_line, with_device, is_not_yet, with_said, with_text, with_lines, nothing_yet, scenario_of}
+use Rattle.text_model.specs.Scenario.{is_event, bytes_in, bytes_out, with_name, with_initiator, initiators, initiators_from, breaks_dump, breaks_many, with_line, with_device, is_not_yet, with_said, with_text, with_lines, nothing_yet, scenario_within}
 use Rattle.text_model.specs.Text.{spaced, line, device_text, event_text, answer_text, completion_text, event_line, entry_text, end_text}
 use Rattle.tcmu_types.proofs.Everies.{every-weaker, every-none, every_at}
 use Rattle.tcmu_types.proofs.Readings.{same_bytes}
 use Rattle.text_model.proofs.ScenarioLaws.{initiators_append}
+use Rattle.text_model.specs.declared.limits.Limits.{Limits}
 use Rattle.tcmu_types.proofs.Places.{get_within}
 use Rattle.text_laws.specs.Configs.{is_other}
 use Rattle.text_laws.specs.Devices.{IsSpelledDevice, IsNew}
@@ -53,48 +54,49 @@ first_line t rest h = ap (pieces 10) (append_assoc t (10 ∷ []) rest) ∙ slice
     whole = λ k d lt. no_feed (get_or t k d) (AllPass-from_list_all (is_other 10) t h.bytes k d lt)
 
 -- lines that are read one after another, wherever they begin
-abbrev pub Reads : ScenarioData → List ℕ → ScenarioData → Type 0
-Reads s text t = (n : ℕ) → with_lines n s (pieces 10 text) ≡ Ok t
+abbrev pub Reads : Limits → ScenarioData → List ℕ → ScenarioData → Type 0
+Reads limits s text t = (n : ℕ) → with_lines limits n s (pieces 10 text) ≡ Ok t
 
-reads_line : (s m t : ScenarioData) (text rest : List ℕ) → Unbroken text → with_text s text ≡ Ok m → Reads m rest t → Reads s (line text ++ rest) t
-reads_line s m t text rest h e k = λ n.
-    ap (with_lines n s) (first_line text rest h)
-    ∙ ap (λ r. elim r [ Ok x ↦ with_lines (n + 1) x (pieces 10 rest) | Err f ↦ Err (record { line = n; why = f }) ]) e ∙ k (n + 1)
+reads_line : (limits : Limits) (s m t : ScenarioData) (text rest : List ℕ) → Unbroken text → with_text limits s text ≡ Ok m → Reads limits m rest t → Reads limits s (line text ++ rest) t
+reads_line limits s m t text rest h e k = λ n.
+    ap (with_lines limits n s) (first_line text rest h)
+    ∙ ap (λ r. elim r [ Ok x ↦ with_lines limits (n + 1) x (pieces 10 rest) | Err f ↦ Err (record { line = n; why = f }) ]) e ∙ k (n + 1)
 
-reads_nothing : (s : ScenarioData) → Reads s [] s
-reads_nothing s = λ n. ap (λ r. elim r [ Ok x ↦ with_lines (n + 1) x [] | Err f ↦ Err (record { line = n; why = f }) ]) (empty_ignored s)
+reads_nothing : (limits : Limits) (s : ScenarioData) → Reads limits s [] s
+reads_nothing limits s = λ n. ap (λ r. elim r [ Ok x ↦ with_lines limits (n + 1) x [] | Err f ↦ Err (record { line = n; why = f }) ]) (empty_ignored limits s)
 
 -- ---- completions and end lines
 
-reads_done : (s t : ScenarioData) (name : List ℕ) (c : DoneData) (rest : List ℕ) → is_name name ≡ true → Named c → Reads s rest t → Reads s (completion_text name c ++ rest) t
+reads_done : (limits : Limits) (s t : ScenarioData) (name : List ℕ) (c : DoneData) (rest : List ℕ) → is_name name ≡ true → Named c → Reads limits s rest t → Reads limits s (completion_text name c ++ rest) t
 unfolding completion_text
-reads_done s t name c rest n h k = reads_line s s t (spaced (codes "# done") (done_fields name c)) rest (done_line name c n h) (comments_ignored s _) k
+reads_done limits s t name c rest n h k = reads_line limits s s t (spaced (codes "# done") (done_fields name c)) rest (done_line name c n h) (comments_ignored limits s _) k
 
-reads_dones : (s t : ScenarioData) (name : List ℕ) (cs : List DoneData) (rest : List ℕ) → is_name name ≡ true → Every Named cs → Reads s rest t → Reads s (flat_map (completion_text name) cs ++ rest) t
-reads_dones s t name [] rest n h k = k
-reads_dones s t name (c ∷ cs) rest n h k =
-    subst (λ text. Reads s text t) (sym (append_assoc (completion_text name c) (flat_map (completion_text name) cs) rest))
-    (reads_done s t name c (flat_map (completion_text name) cs ++ rest) n h.0 (reads_dones s t name cs rest n h.1 k))
+reads_dones : (limits : Limits) (s t : ScenarioData) (name : List ℕ) (cs : List DoneData) (rest : List ℕ) → is_name name ≡ true → Every Named cs → Reads limits s rest t → Reads limits s (flat_map (completion_text name) cs ++ rest) t
+reads_dones limits s t name [] rest n h k = k
+reads_dones limits s t name (c ∷ cs) rest n h k =
+    subst (λ text. Reads limits s text t) (sym (append_assoc (completion_text name c) (flat_map (completion_text name) cs) rest))
+    (reads_done limits s t name c (flat_map (completion_text name) cs ++ rest) n h.0 (reads_dones limits s t name cs rest n h.1 k))
 
-reads_end : (s t : ScenarioData) (name : List ℕ) (k : ℕ) (rest : List ℕ) → is_name name ≡ true → Reads s rest t → Reads s (end_text name k ++ rest) t
+reads_end : (limits : Limits) (s t : ScenarioData) (name : List ℕ) (k : ℕ) (rest : List ℕ) → is_name name ≡ true → Reads limits s rest t → Reads limits s (end_text name k ++ rest) t
 unfolding end_text
-reads_end s t name k rest n more = reads_line s s t (spaced (codes "# open") (name ∷ decimal k ∷ [])) rest (end_line name k n) (comments_ignored s _) more
+reads_end limits s t name k rest n more = reads_line limits s s t (spaced (codes "# open") (name ∷ decimal k ∷ [])) rest (end_line name k n) (comments_ignored limits s _) more
 
-pub reads_ends : (s : ScenarioData) (ls : List DeviceLineData) (ends : List Device) → Every IsSpelledDevice ls → Reads s (ends_text ls ends) s
-reads_ends s [] ends h = reads_nothing s
-reads_ends s (l ∷ ls) [] h = reads_nothing s
-reads_ends s (l ∷ ls) (d ∷ ends) h = reads_end s s l.name (open_count d.state) (ends_text ls ends) h.0.line.name (reads_ends s ls ends h.1)
+pub reads_ends : (limits : Limits) (s : ScenarioData) (ls : List DeviceLineData) (ends : List Device) → Every IsSpelledDevice ls → Reads limits s (ends_text ls ends) s
+reads_ends limits s [] ends h = reads_nothing limits s
+reads_ends limits s (l ∷ ls) [] h = reads_nothing limits s
+reads_ends limits s (l ∷ ls) (d ∷ ends) h = reads_end limits s s l.name (open_count d.state) (ends_text ls ends) h.0.line.name (reads_ends limits s ls ends h.1)
 
 -- ---- the limits of a front of the lines
 
-pub record Fits (ls : List LineData) : Type 0 where
-  pub few : length ls ≤ 20000
+pub record Fits (limits : Limits) (ls : List LineData) : Type 0 where
+  pub few : length ls ≤ limits.lines
+  pub events : count_by is_event ls ≤ limits.events
   pub initiators : (device : ℕ) → length (initiators device ls) ≤ 16
   pub ins : sum_by bytes_in ls ≤ 67108864
   pub outs : sum_by bytes_out ls ≤ 67108864
 
-fits_whole : (s : ScenarioData) → IsScenario s → Fits s.lines
-fits_whole s is = record { few = is.few_lines; initiators = is.few_initiators; ins = is.few_in; outs = is.few_out }
+fits_whole : (limits : Limits) (s : ScenarioData) → IsScenarioWithin limits s → Fits limits s.lines
+fits_whole limits s is = record { few = is.few_lines; events = is.few_events; initiators = is.few_initiators; ins = is.few_in; outs = is.few_out }
 
 grows_by : (names : List (List ℕ)) (name : List ℕ) → length names ≤ length (with_name names name)
 grows_by names name = go (list_any (λ n. bytes_eq n name) names)
@@ -121,17 +123,18 @@ grows d names (l ∷ ls) = omega (arith, grows_with d names l, grows d (with_ini
 sum_front : (f : LineData → ℕ) (xs ys : List LineData) → sum_by f xs ≤ sum_by f (xs ++ ys)
 sum_front f xs ys = omega (arith, sum_by-append f xs ys)
 
-fits_front : (xs ys : List LineData) → Fits (xs ++ ys) → Fits xs
-fits_front xs ys h = record {
+fits_front : (limits : Limits) (xs ys : List LineData) → Fits limits (xs ++ ys) → Fits limits xs
+fits_front limits xs ys h = record {
   few = omega (arith, h.few, length-append xs ys);
+  events = omega (arith, h.events, sum_front (λ l. cond (is_event l) 1 0) xs ys);
   initiators = λ d. omega (arith, h.initiators d, ap (λ (l : List (List ℕ)). length l) (initiators_append d [] xs ys), grows d (initiators_from d [] xs) ys);
   ins = omega (arith, h.ins, sum_front bytes_in xs ys);
   outs = omega (arith, h.outs, sum_front bytes_out xs ys);
 }
 
-keeps_many : (ls : List LineData) (device : ℕ) → Fits ls → breaks_many ls device ≡ false
+keeps_many : (limits : Limits) (ls : List LineData) (device : ℕ) → Fits limits ls → breaks_many limits ls device ≡ false
 unfolding breaks_many
-keeps_many ls device h = rw (le-ltb _ _ (h.initiators device), le-ltb _ _ h.few, le-ltb _ _ h.ins, le-ltb _ _ h.outs) refl
+keeps_many limits ls device h = rw (le-ltb _ _ (h.initiators device), le-ltb _ _ h.few, le-ltb _ _ h.events, le-ltb _ _ h.ins, le-ltb _ _ h.outs) refl
 
 -- ---- event lines
 
@@ -139,9 +142,9 @@ keeps_many ls device h = rw (le-ltb _ _ (h.initiators device), le-ltb _ _ h.few,
 abbrev pub so_far : List DeviceLineData → List LineData → ScenarioData
 so_far ls front = record { devices = ls; lines = front }
 
-pub adds : (ls : List DeviceLineData) (front : List LineData) (at : ℕ) (e : EventData) → Fits (front ++ made at e ∷ []) → with_said (so_far ls front) (SaysLine (made at e)) ≡ Ok (so_far ls (front ++ made at e ∷ []))
+pub adds : (limits : Limits) (ls : List DeviceLineData) (front : List LineData) (at : ℕ) (e : EventData) → Fits limits (front ++ made at e ∷ []) → with_said limits (so_far ls front) (SaysLine (made at e)) ≡ Ok (so_far ls (front ++ made at e ∷ []))
 unfolding with_said with_line breaks_dump is_not_yet
-adds ls front at e h = rw (keeps_many (front ++ made at e ∷ []) at h) refl
+adds limits ls front at e h = rw (keeps_many limits (front ++ made at e ∷ []) at h) refl
 
 abbrev DifferInName : DeviceLineData → DeviceLineData → Type 0
 DifferInName d e = d.name ≢ e.name
@@ -164,39 +167,39 @@ its_number ls front at l pairs e =
     before : (k : ℕ) → k < at → get_or ls at l ≡ l → has_name l.name (get_or ls k l) ≡ false
     before k less here = differ (get_or ls k l).name l.name (λ q. pairs k at l less (slice_get_within ls at l e) (q ∙ ap (λ (d : DeviceLineData). d.name) (sym here)))
 
-reads_event : (ls : List DeviceLineData) (l : DeviceLineData) (front : List LineData) (e : EntryData) (rest : List ℕ) (t : ScenarioData) → AllPairs DifferInName ls → slice_get ls e.device ≡ Some l → is_name l.name ≡ true → IsEvent e.event → CarriesBytes e.event
-    → Fits (front ++ made e.device e.event ∷ []) → Reads (so_far ls (front ++ made e.device e.event ∷ [])) rest t → Reads (so_far ls front) (event_line l.name l.settings.qfull e.event e.answer ++ rest) t
+reads_event : (limits : Limits) (ls : List DeviceLineData) (l : DeviceLineData) (front : List LineData) (e : EntryData) (rest : List ℕ) (t : ScenarioData) → AllPairs DifferInName ls → slice_get ls e.device ≡ Some l → is_name l.name ≡ true → IsEvent e.event → CarriesBytes e.event
+    → Fits limits (front ++ made e.device e.event ∷ []) → Reads limits (so_far ls (front ++ made e.device e.event ∷ [])) rest t → Reads limits (so_far ls front) (event_line l.name l.settings.qfull e.event e.answer ++ rest) t
 unfolding event_line
-reads_event ls l front e rest t pairs found n is h fits k =
+reads_event limits ls l front e rest t pairs found n is h fits k =
     let shown = answer_text l.settings.qfull e.event e.answer in
-    reads_line (so_far ls front) (so_far ls (front ++ made e.device e.event ∷ [])) t (told_event l.name l.settings.qfull e.event e.answer) rest (told_line l.name l.settings.qfull e.event e.answer n (line_asks e.event is) (line_value e.event is h))
-    (ap (with_text (so_far ls front)) (append_assoc (event_text l.name e.event) (codes " # ") shown)
-    ∙ events_again (so_far ls front) e.device l.name e.event shown (its_number ls front e.device l pairs found) n is h ∙ adds ls front e.device e.event fits) k
+    reads_line limits (so_far ls front) (so_far ls (front ++ made e.device e.event ∷ [])) t (told_event l.name l.settings.qfull e.event e.answer) rest (told_line l.name l.settings.qfull e.event e.answer n (line_asks e.event is) (line_value e.event is h))
+    (ap (with_text limits (so_far ls front)) (append_assoc (event_text l.name e.event) (codes " # ") shown)
+    ∙ events_again limits (so_far ls front) e.device l.name e.event shown (its_number ls front e.device l pairs found) n is h ∙ adds limits ls front e.device e.event fits) k
 
-reads_entry : (ls : List DeviceLineData) (l : DeviceLineData) (front : List LineData) (j : Journaled) (rest : List ℕ) (t : ScenarioData) → AllPairs DifferInName ls → slice_get ls j.entry.device ≡ Some l → is_name l.name ≡ true → IsEvent j.entry.event → CarriesBytes j.entry.event
-    → Every Named j.completions → Fits (front ++ made j.entry.device j.entry.event ∷ []) → Reads (so_far ls (front ++ made j.entry.device j.entry.event ∷ [])) rest t
-    → Reads (so_far ls front) (entry_text l.name l.settings.qfull j.entry j.completions ++ rest) t
+reads_entry : (limits : Limits) (ls : List DeviceLineData) (l : DeviceLineData) (front : List LineData) (j : Journaled) (rest : List ℕ) (t : ScenarioData) → AllPairs DifferInName ls → slice_get ls j.entry.device ≡ Some l → is_name l.name ≡ true → IsEvent j.entry.event → CarriesBytes j.entry.event
+    → Every Named j.completions → Fits limits (front ++ made j.entry.device j.entry.event ∷ []) → Reads limits (so_far ls (front ++ made j.entry.device j.entry.event ∷ [])) rest t
+    → Reads limits (so_far ls front) (entry_text l.name l.settings.qfull j.entry j.completions ++ rest) t
 unfolding entry_text
-reads_entry ls l front j rest t pairs found n is h named fits k =
+reads_entry limits ls l front j rest t pairs found n is h named fits k =
     let e = j.entry in
-    let dones = reads_dones (so_far ls (front ++ made e.device e.event ∷ [])) t l.name j.completions rest n named k in
-    subst (λ text. Reads (so_far ls front) text t) (sym (append_assoc (event_line l.name l.settings.qfull e.event e.answer) (flat_map (completion_text l.name) j.completions) rest))
-    (reads_event ls l front e (flat_map (completion_text l.name) j.completions ++ rest) t pairs found n is h fits dones)
+    let dones = reads_dones limits (so_far ls (front ++ made e.device e.event ∷ [])) t l.name j.completions rest n named k in
+    subst (λ text. Reads limits (so_far ls front) text t) (sym (append_assoc (event_line l.name l.settings.qfull e.event e.answer) (flat_map (completion_text l.name) j.completions) rest))
+    (reads_event limits ls l front e (flat_map (completion_text l.name) j.completions ++ rest) t pairs found n is h fits dones)
 
-pub reads_journal : (ls : List DeviceLineData) (js : List Journaled) (front : List LineData) (rest : List ℕ) (t : ScenarioData) → AllPairs DifferInName ls → Every IsSpelledDevice ls → Every (λ j. IsWithinLines (length ls) j.entry) js
-    → Every (λ j. Every Named j.completions) js → Fits (front ++ lines_of (entries_of js)) → Reads (so_far ls (front ++ lines_of (entries_of js))) rest t → Reads (so_far ls front) (flat_map (journaled_text ls) js ++ rest) t
-reads_journal ls [] front rest t pairs spelled within named fits k = subst (λ (xs : List LineData). Reads (so_far ls xs) rest t) (append-nil front) k
-reads_journal ls (j ∷ js) front rest t pairs spelled within named fits k =
+pub reads_journal : (limits : Limits) (ls : List DeviceLineData) (js : List Journaled) (front : List LineData) (rest : List ℕ) (t : ScenarioData) → AllPairs DifferInName ls → Every IsSpelledDevice ls → Every (λ j. IsWithinLines (length ls) j.entry) js
+    → Every (λ j. Every Named j.completions) js → Fits limits (front ++ lines_of (entries_of js)) → Reads limits (so_far ls (front ++ lines_of (entries_of js))) rest t → Reads limits (so_far ls front) (flat_map (journaled_text ls) js ++ rest) t
+reads_journal limits ls [] front rest t pairs spelled within named fits k = subst (λ (xs : List LineData). Reads limits (so_far ls xs) rest t) (append-nil front) k
+reads_journal limits ls (j ∷ js) front rest t pairs spelled within named fits k =
     let e = j.entry in
     let found = get_within ls e.device within.0.device in
     let l = found.0 in
     let next : front ++ made e.device e.event ∷ [] ++ lines_of (entries_of js) ≡ front ++ made e.device e.event ∷ lines_of (entries_of js) = append_assoc front (made e.device e.event ∷ []) (lines_of (entries_of js)) in
-    let fits_next = subst Fits (sym next) fits in
-    let later = reads_journal ls js (front ++ made e.device e.event ∷ []) rest t pairs spelled within.1 named.1 fits_next (subst (λ (xs : List LineData). Reads (so_far ls xs) rest t) (sym next) k) in
+    let fits_next = subst (Fits limits) (sym next) fits in
+    let later = reads_journal limits ls js (front ++ made e.device e.event ∷ []) rest t pairs spelled within.1 named.1 fits_next (subst (λ (xs : List LineData). Reads limits (so_far ls xs) rest t) (sym next) k) in
     let sp = every_at IsSpelledDevice ls e.device l spelled found.1 in
-    let one = reads_entry ls l front j (flat_map (journaled_text ls) js ++ rest) t pairs found.1 sp.line.name within.0.event within.0.bytes named.0 (fits_front (front ++ made e.device e.event ∷ []) (lines_of (entries_of js)) fits_next) later in
+    let one = reads_entry limits ls l front j (flat_map (journaled_text ls) js ++ rest) t pairs found.1 sp.line.name within.0.event within.0.bytes named.0 (fits_front limits (front ++ made e.device e.event ∷ []) (lines_of (entries_of js)) fits_next) later in
     let text_is : journaled_text ls j ≡ entry_text l.name l.settings.qfull j.entry j.completions = ap (λ o. elim o [ Some m ↦ entry_text m.name m.settings.qfull j.entry j.completions | None ↦ [] ]) found.1 in
-    subst (λ text. Reads (so_far ls front) text t)
+    subst (λ text. Reads limits (so_far ls front) text t)
     (ap (λ (x : List ℕ). x ++ (flat_map (journaled_text ls) js ++ rest)) (sym text_is) ∙ sym (append_assoc (journaled_text ls j) (flat_map (journaled_text ls) js) rest)) one
 
 -- ---- device lines
@@ -216,9 +219,9 @@ pairs_before R (x ∷ xs) y ys h = (
 abbrev DifferInFile : DeviceLineData → DeviceLineData → Type 0
 DifferInFile d e = same_file d.config.kind e.config.kind ≡ false
 
-pub opens : (ds : List DeviceLineData) (l : DeviceLineData) → length ds + 1 ≤ 16 → with_said (so_far ds []) (SaysDevice l) ≡ Ok (so_far (ds ++ l ∷ []) [])
+pub opens : (limits : Limits) (ds : List DeviceLineData) (l : DeviceLineData) → length ds + 1 ≤ 16 → with_said limits (so_far ds []) (SaysDevice l) ≡ Ok (so_far (ds ++ l ∷ []) [])
 unfolding with_said with_device is_not_yet
-opens ds l few = rw (le-ltb _ _ few) refl
+opens limits ds l few = rw (le-ltb _ _ few) refl
 
 is_new : (ds : List DeviceLineData) (l : DeviceLineData) (more : List DeviceLineData) → AllPairs DifferInName (ds ++ l ∷ more) → AllPairs DifferInFile (ds ++ l ∷ more) → IsNew (so_far ds []) l
 is_new ds l more names files = record {
@@ -226,27 +229,27 @@ is_new ds l more names files = record {
   file = every-none (λ e. same_file e.config.kind l.config.kind) ds (pairs_before DifferInFile ds l more files);
 }
 
-pub reads_devices : (ds ls : List DeviceLineData) (rest : List ℕ) (t : ScenarioData) → Every IsSpelledDevice ls → AllPairs DifferInName (ds ++ ls) → AllPairs DifferInFile (ds ++ ls) → length (ds ++ ls) ≤ 16
-    → Reads (so_far (ds ++ ls) []) rest t → Reads (so_far ds []) (flat_map device_text ls ++ rest) t
+pub reads_devices : (limits : Limits) (ds ls : List DeviceLineData) (rest : List ℕ) (t : ScenarioData) → Every IsSpelledDevice ls → AllPairs DifferInName (ds ++ ls) → AllPairs DifferInFile (ds ++ ls) → length (ds ++ ls) ≤ 16
+    → Reads limits (so_far (ds ++ ls) []) rest t → Reads limits (so_far ds []) (flat_map device_text ls ++ rest) t
 unfolding device_text
-reads_devices ds [] rest t spelled names files few k = subst (λ (xs : List DeviceLineData). Reads (so_far xs []) rest t) (append-nil ds) k
-reads_devices ds (l ∷ ls) rest t spelled names files few k =
+reads_devices limits ds [] rest t spelled names files few k = subst (λ (xs : List DeviceLineData). Reads limits (so_far xs []) rest t) (append-nil ds) k
+reads_devices limits ds (l ∷ ls) rest t spelled names files few k =
     let next : ds ++ l ∷ [] ++ ls ≡ ds ++ l ∷ ls = append_assoc ds (l ∷ []) ls in
-    let later = reads_devices (ds ++ l ∷ []) ls rest t spelled.1 (subst (AllPairs DifferInName) (sym next) names) (subst (AllPairs DifferInFile) (sym next) files)
-    (omega (arith, few, ap (λ (xs : List DeviceLineData). length xs) next)) (subst (λ (xs : List DeviceLineData). Reads (so_far xs []) rest t) (sym next) k) in
+    let later = reads_devices limits (ds ++ l ∷ []) ls rest t spelled.1 (subst (AllPairs DifferInName) (sym next) names) (subst (AllPairs DifferInFile) (sym next) files)
+    (omega (arith, few, ap (λ (xs : List DeviceLineData). length xs) next)) (subst (λ (xs : List DeviceLineData). Reads limits (so_far xs []) rest t) (sym next) k) in
     let room : length ds + 1 ≤ 16 = omega (arith, few, length-append ds (l ∷ ls)) in
-    subst (λ text. Reads (so_far ds []) text t) (sym (append_assoc (device_text l) (flat_map device_text ls) rest))
-    (reads_line (so_far ds []) (so_far (ds ++ l ∷ []) []) t (told_device l) (flat_map device_text ls ++ rest) (device_told_line l spelled.0)
-    (devices_again (so_far ds []) l (codes "ready") spelled.0 (is_new ds l ls names files) ∙ opens ds l room) later)
+    subst (λ text. Reads limits (so_far ds []) text t) (sym (append_assoc (device_text l) (flat_map device_text ls) rest))
+    (reads_line limits (so_far ds []) (so_far (ds ++ l ∷ []) []) t (told_device l) (flat_map device_text ls ++ rest) (device_told_line l spelled.0)
+    (devices_again limits (so_far ds []) l (codes "ready") spelled.0 (is_new ds l ls names files) ∙ opens limits ds l room) later)
 
 -- ---- whole texts
 
-pub reads_whole : (ls : List DeviceLineData) (js : List Journaled) (ends : List Device) → Every IsSpelledDevice ls → IsScenario (written ls (entries_of js)) → Every (λ j. IsWithinLines (length ls) j.entry) js → Every (λ j. Every Named j.completions) js
-    → length (flat_map device_text ls ++ flat_map (journaled_text ls) js ++ ends_text ls ends) ≤ 4194304
-    → scenario_of (flat_map device_text ls ++ flat_map (journaled_text ls) js ++ ends_text ls ends) ≡ Ok (written ls (entries_of js))
-unfolding scenario_of
-reads_whole ls js ends spelled is within named size =
-    let journal = reads_journal ls js [] (ends_text ls ends) (written ls (entries_of js)) is.names spelled within named (fits_whole (written ls (entries_of js)) is) (reads_ends (written ls (entries_of js)) ls ends spelled) in
+pub reads_whole : (limits : Limits) (ls : List DeviceLineData) (js : List Journaled) (ends : List Device) → Every IsSpelledDevice ls → IsScenarioWithin limits (written ls (entries_of js)) → Every (λ j. IsWithinLines (length ls) j.entry) js → Every (λ j. Every Named j.completions) js
+    → length (flat_map device_text ls ++ flat_map (journaled_text ls) js ++ ends_text ls ends) ≤ limits.bytes
+    → scenario_within limits (flat_map device_text ls ++ flat_map (journaled_text ls) js ++ ends_text ls ends) ≡ Ok (written ls (entries_of js))
+unfolding scenario_within
+reads_whole limits ls js ends spelled is within named size =
+    let journal = reads_journal limits ls js [] (ends_text ls ends) (written ls (entries_of js)) is.names spelled within named (fits_whole limits (written ls (entries_of js)) is) (reads_ends limits (written ls (entries_of js)) ls ends spelled) in
     cond-false _ _ _ (le-ltb _ _ size)
-    ∙ ap (λ text. with_lines 1 nothing_yet (pieces 10 text)) (append_assoc (flat_map device_text ls) (flat_map (journaled_text ls) js) (ends_text ls ends))
-    ∙ reads_devices [] ls (flat_map (journaled_text ls) js ++ ends_text ls ends) (written ls (entries_of js)) spelled is.names is.files is.few_devices journal 1
+    ∙ ap (λ text. with_lines limits 1 nothing_yet (pieces 10 text)) (append_assoc (flat_map device_text ls) (flat_map (journaled_text ls) js) (ends_text ls ends))
+    ∙ reads_devices limits [] ls (flat_map (journaled_text ls) js ++ ends_text ls ends) (written ls (entries_of js)) spelled is.names is.files is.few_devices journal 1

@@ -16,7 +16,7 @@ use Rattle.tcmu_model.specs.Steps.{HandlerRelation, Makes, Submits, Run}
 use Rattle.tcmu_model.specs.Drain.{drain_event}
 use Rattle.text_model.specs.ScenarioData.{DeviceLineData, LineData, ScenarioData}
 use Rattle.text_model.specs.ScenarioRules.{IsLine}
-use Rattle.text_model.specs.Scenario.{scenario_of}
+use Rattle.text_model.specs.Scenario.{scenario_limits, scenario_within, scenario_of}
 use Rattle.text_model.specs.Several.{Journaled, is_of, RunLogs, IsLegalEach, DrainsEach, ReplaysEach, IsReplayOf}
 use Rattle.tcmu_model.specs.Journals.{Has, WasAccepted}
 use Rattle.tcmu_types.specs.Lists.{Every}
@@ -124,10 +124,10 @@ within_limits ls (j ∷ js) all bytes =
     (record { device = first.device; event = first.what; bytes = bytes.0 }, within_limits ls js (All-tail (IsLine ls) (made j.entry.device j.entry.event) (lines_of (entries_of js)) all) bytes.1)
 
 pub read_back : (R : HandlerRelation) → IsReadBack R
-read_back R ls opened js ends text spelled is keeps =
+read_back R limits ls opened js ends text spelled is keeps =
     let within = within_limits ls js keeps.scenario.lines keeps.bytes in
-    ap scenario_of is.whole
-    ∙ reads_whole ls js ends spelled keeps.scenario within (journal_named R ls opened js ends text is) (subst (λ (t : List ℕ). length t ≤ 4194304) is.whole keeps.size)
+    ap (scenario_within limits) is.whole
+    ∙ reads_whole limits ls js ends spelled keeps.scenario within (journal_named R ls opened js ends text is) (subst (λ (t : List ℕ). length t ≤ limits.bytes) is.whole keeps.size)
 
 -- ---- the events make the same entries
 
@@ -171,8 +171,8 @@ askable ds (l ∷ ls) all carried =
 
 pub replay_asked : (R : HandlerRelation) (bytes text : List ℕ) (s : ScenarioData) (opened : List Device) → scenario_of bytes ≡ Ok s → OpenAs s.devices opened → (is : IsReplayOf R s.devices opened s.lines text) → IsAsked (length s.devices) (entries_of is.journal) s.lines is.ends
 replay_asked R bytes text s opened read opens is =
-    let limits = scenario_is bytes s read in
-    let asked = replays_asked R 0 opened is.ends s.lines (entries_of is.journal) (omega (arith, limits.few_lines)) (accepted_none s.devices opened (spelled_read bytes s read) opens) (askable s.devices s.lines limits.lines (carried_read bytes s read)) is.replays in
+    let limits = scenario_is scenario_limits bytes s read in
+    let asked = replays_asked R 0 opened is.ends s.lines (entries_of is.journal) (omega (arith, limits.few_lines)) (accepted_none s.devices opened (spelled_read scenario_limits bytes s read) opens) (askable s.devices s.lines limits.lines (carried_read scenario_limits bytes s read)) is.replays in
     subst (λ (n : ℕ). IsAsked n (entries_of is.journal) s.lines is.ends) (opened_count s.devices opened opens) asked
 
 pub replay_journal : (R : HandlerRelation) (bytes text : List ℕ) (s : ScenarioData) (opened : List Device) → scenario_of bytes ≡ Ok s → OpenAs s.devices opened → (is : IsReplayOf R s.devices opened s.lines text) → IsJournalOf R s.devices opened is.journal is.ends text
@@ -194,8 +194,8 @@ pub scenario_again : (R : HandlerRelation) → IsScenarioAgain R
 scenario_again R bytes text s opened read opens is size few =
     let asked = replay_asked R bytes text s opened read opens is in
     let journal = replay_journal R bytes text s opened read opens is in
-    let kept = replay_keeps s (entries_of is.journal) (scenario_is bytes s read) asked.entries asked.sends_these (omega (arith, few, as_many is.journal)) in
+    let kept = replay_keeps s (entries_of is.journal) (scenario_is scenario_limits bytes s read) asked.entries asked.sends_these (omega (arith, few, as_many is.journal)) in
     let bytes_are = every-weaker (IsWithinLines (length s.devices)) (λ (e : EntryData). CarriesBytes e.event) (entries_of is.journal) (λ e h. h.bytes) asked.entries in (
-      read_back R s.devices opened is.journal is.ends text (spelled_read bytes s read) journal (record { size = size; scenario = kept; bytes = bytes_are }),
+      read_back R scenario_limits s.devices opened is.journal is.ends text (spelled_read scenario_limits bytes s read) journal (record { size = size; scenario = kept; bytes = bytes_are }),
       replayed_again R s.devices opened is.journal is.ends text journal asked.rest,
     )

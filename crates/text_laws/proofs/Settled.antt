@@ -15,6 +15,7 @@ use Rattle.tcmu_model.specs.Steps.{Step, Makes, Handles, asked, moved}
 use Rattle.tcmu_model.specs.Drain.{Drains}
 use Rattle.text_model.specs.ScenarioData.{DeviceLineData, LineWhat, LineData, ScenarioData}
 use Rattle.text_model.specs.ScenarioData as line
+use Rattle.text_model.specs.Scenario.{scenario_limits}
 use Rattle.scsi_model.specs.Scsi.{Serves}
 use Rattle.text_model.specs.Replay.{Plays}
 use Rattle.text_model.specs.Several.{Journaled, DrainsEach, ReplaysEach, journaled_text, ends_text}
@@ -211,7 +212,7 @@ one_text bytes s opened t u read opens lose h k =
     let same = one_replay opened s.lines (entries_of h.journal) (entries_of k.journal) h.ends k.ends lose h.replays k.replays in
     let first = replay_journal Serves bytes t s opened read opens h in
     let other = replay_journal Serves bytes u s opened read opens k in
-    let spelled = spelled_read bytes s read in
+    let spelled = spelled_read scenario_limits bytes s read in
     let sound = opened_sound s.devices opened spelled opens in
     let count = opened_count s.devices opened opens in
     let goes : ReadsOn Serves s.devices opened h.journal h.ends = record { count = count; last = first.count; sound = sound; within = first.devices; legal = h.legal } in

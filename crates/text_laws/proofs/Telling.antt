@@ -6,7 +6,7 @@ use Rattle.tcmu_types.specs.Dumps.{DumpData}
 use Rattle.tcmu_types.specs.Events.{EventData}
 use Rattle.text_model.specs.Said.{device_at}
 use Rattle.text_model.specs.ScenarioData.{DeviceLineData, ScenarioData}
-use Rattle.text_model.specs.Scenario.{with_text}
+use Rattle.text_model.specs.Scenario.{scenario_limits, with_text}
 use Rattle.text_model.specs.Several.{Journaled}
 use Rattle.tcmu_types.specs.Lists.{Every}
 use Rattle.text_model.specs.Text.{event_text, answer_text}
@@ -33,9 +33,9 @@ first_device l s = elim (slice_get s.devices 0) [ Some k ↦ k | None ↦ l ]
 
 device_told : (l k : DeviceLineData) → IsSpelledDevice l → IsSpelledDevice k → told_device l ≡ told_device k → l ≡ k
 device_told l k h m e =
-    let read = devices_again (so_far [] []) l (codes "ready") h (record { name = refl; file = refl }) ∙ opens [] l (omega arith) in
-    let read' = devices_again (so_far [] []) k (codes "ready") m (record { name = refl; file = refl }) ∙ opens [] k (omega arith) in
-    ap (first_device l) (same_ok (so_far (l ∷ []) []) (so_far (k ∷ []) []) (sym read ∙ ap (with_text (so_far [] [])) e ∙ read'))
+    let read = devices_again scenario_limits (so_far [] []) l (codes "ready") h (record { name = refl; file = refl }) ∙ opens scenario_limits [] l (omega arith) in
+    let read' = devices_again scenario_limits (so_far [] []) k (codes "ready") m (record { name = refl; file = refl }) ∙ opens scenario_limits [] k (omega arith) in
+    ap (first_device l) (same_ok (so_far (l ∷ []) []) (so_far (k ∷ []) []) (sym read ∙ ap (with_text scenario_limits (so_far [] [])) e ∙ read'))
 
 pub devices_told : (ls ks : List DeviceLineData) → Every IsSpelledDevice ls → Every IsSpelledDevice ks → map told_device ls ≡ map told_device ks → ls ≡ ks
 devices_told [] [] h m e = refl

@@ -6,6 +6,7 @@ use Rattle.text_model.specs.ScenarioRules.{IsDeviceLine}
 use Rattle.text_model.specs.Said.{has_name, same_file, SaysDevice}
 use Rattle.text_model.specs.Scenario.{with_said, with_text}
 use Rattle.text_model.specs.Text.{device_spelling}
+use Rattle.text_model.specs.declared.limits.Limits.{Limits}
 use Rattle.text_laws.specs.Configs.{FileLacks, IsSpelledConfig}
 
 -- A device that has a line: its config has a text, in which no `#` stands.
@@ -22,5 +23,5 @@ pub record IsNew (s : ScenarioData) (d : DeviceLineData) : Type 0 where
 -- The line of a new device is the device's line; what stands behind it is a comment.
 abbrev pub DevicesAgain : Type 0
 DevicesAgain =
-    (s : ScenarioData) (d : DeviceLineData) (answer : List ℕ)
-    → IsSpelledDevice d → IsNew s d → with_text s (device_spelling d ++ (codes " # " ++ answer)) ≡ with_said s (SaysDevice d)
+    (limits : Limits) (s : ScenarioData) (d : DeviceLineData) (answer : List ℕ)
+    → IsSpelledDevice d → IsNew s d → with_text limits s (device_spelling d ++ (codes " # " ++ answer)) ≡ with_said limits s (SaysDevice d)

@@ -7,7 +7,7 @@ use Rattle.tcmu_model.specs.Drain.{drain_event}
 use Rattle.tcmu_types.specs.Lists.{Every}
 use Rattle.text_model.specs.Config.{InMemory, InFile}
 use Rattle.text_model.specs.ScenarioData.{DeviceLineData, ScenarioData}
-use Rattle.text_model.specs.Scenario.{scenario_of}
+use Rattle.text_model.specs.Scenario.{scenario_limits, scenario_of}
 use Rattle.scsi_model.specs.Scsi.{Serves}
 use Rattle.text_model.specs.Several.{Journaled, IsReplayOf}
 use Rattle.text_laws.specs.Replays.{entries_of, written, IsJournalOf, KeepsLimits}
@@ -52,7 +52,7 @@ LawOfReplay =
 abbrev pub LawOfJournals : Type 0
 LawOfJournals =
     (bytes text : List ℕ) (s : ScenarioData) (js : List Journaled)
-    → scenario_of bytes ≡ Ok s → IsJournalText s.devices js text → KeepsLimits s.devices (entries_of js) text
+    → scenario_of bytes ≡ Ok s → IsJournalText s.devices js text → KeepsLimits scenario_limits s.devices (entries_of js) text
     → (scenario_of text ≡ Ok (written s.devices (entries_of js))) × IsOwnText (written s.devices (entries_of js)) text
 
 -- A scenario over media in memory has one text.

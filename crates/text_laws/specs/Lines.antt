@@ -9,6 +9,7 @@ use Rattle.text_model.specs.ScenarioRules.{IsEvent}
 use Rattle.text_model.specs.Said.{device_at, SaysLine}
 use Rattle.text_model.specs.Scenario.{with_said, with_text}
 use Rattle.text_model.specs.Text.{event_text, completion_text, end_text}
+use Rattle.text_model.specs.declared.limits.Limits.{Limits}
 use Rattle.text_laws.specs.Bytes.{AreBytes}
 
 -- its bytes are bytes, and its tag is a number of 32 bits
@@ -30,13 +31,13 @@ made at e = record { device = at; what = EventLine e }
 -- answer does, is a comment.
 abbrev pub EventsAgain : Type 0
 EventsAgain =
-    (s : ScenarioData) (at : ℕ) (name : List ℕ) (e : EventData) (answer : List ℕ)
+    (limits : Limits) (s : ScenarioData) (at : ℕ) (name : List ℕ) (e : EventData) (answer : List ℕ)
     → device_at s name ≡ Some at → IsTrue (is_name name) → IsEvent e → CarriesBytes e
-    → with_text s (event_text name e ++ (codes " # " ++ answer)) ≡ with_said s (SaysLine (made at e))
+    → with_text limits s (event_text name e ++ (codes " # " ++ answer)) ≡ with_said limits s (SaysLine (made at e))
 
 -- A line that begins with `#`, as each completion and each end line does, is ignored.
 abbrev pub CommentsIgnored : Type 0
-CommentsIgnored = (s : ScenarioData) (text : List ℕ) → with_text s (35 ∷ text) ≡ Ok s
+CommentsIgnored = (limits : Limits) (s : ScenarioData) (text : List ℕ) → with_text limits s (35 ∷ text) ≡ Ok s
 
 abbrev pub CompletionsIgnored : Type 0
 CompletionsIgnored = (name : List ℕ) (c : DoneData) → (text : List ℕ) × (completion_text name c ≡ 35 ∷ text)

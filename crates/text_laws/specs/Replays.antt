@@ -8,10 +8,11 @@ use Rattle.tcmu_model.specs.Steps.{HandlerRelation}
 use Rattle.tcmu_model.specs.Drain.{drain_event}
 use Rattle.tcmu_types.specs.Lists.{Every}
 use Rattle.text_model.specs.ScenarioData.{DeviceLineData, LineData, ScenarioData}
-use Rattle.text_model.specs.ScenarioRules.{IsScenario}
-use Rattle.text_model.specs.Scenario.{scenario_of}
+use Rattle.text_model.specs.ScenarioRules.{IsScenarioWithin}
+use Rattle.text_model.specs.Scenario.{scenario_within, scenario_of}
 use Rattle.text_model.specs.Several.{Journaled, IsLegalEach, journaled_text, ends_text, IsReplayOf}
 use Rattle.text_model.specs.Text.{device_text}
+use Rattle.text_model.specs.declared.limits.Limits.{Limits}
 use Rattle.text_laws.specs.Devices.{IsSpelledDevice}
 use Rattle.text_laws.specs.Lines.{CarriesBytes, made}
 
@@ -44,21 +45,21 @@ pub record IsJournalOf (R : HandlerRelation) (ls : List DeviceLineData) (opened 
   pub legal : IsLegalEach R opened js ends
   pub whole : text ≡ flat_map device_text ls ++ flat_map (journaled_text ls) js ++ ends_text ls ends
 
--- The text of these entries keeps the limits of scenarios: it is short enough, its events are within the limits of a scenario, and
--- what they carry are bytes.
-pub record KeepsLimits (ls : List DeviceLineData) (es : List EntryData) (text : List ℕ) : Type 0 where
-  pub size : length text ≤ 4194304
-  pub scenario : IsScenario (written ls es)
+-- The text of these entries keeps the limits of a reading: it is short enough, its events are within the limits, and what they carry are
+-- bytes.
+pub record KeepsLimits (limits : Limits) (ls : List DeviceLineData) (es : List EntryData) (text : List ℕ) : Type 0 where
+  pub size : length text ≤ limits.bytes
+  pub scenario : IsScenarioWithin limits (written ls es)
   pub bytes : Every (λ e. CarriesBytes e.event) es
 
 -- ==== the laws, over any handler
 
--- The text of a journal of devices that have lines, where it keeps the limits, is the scenario of the journal's events.
+-- The text of a journal of devices that have lines, where it keeps the limits of a reading, is read as the scenario of the journal's events.
 abbrev pub IsReadBack : HandlerRelation → Type 0
 IsReadBack R =
-    (ls : List DeviceLineData) (opened : List Device) (js : List Journaled) (ends : List Device) (text : List ℕ)
-    → Every IsSpelledDevice ls → IsJournalOf R ls opened js ends text → KeepsLimits ls (entries_of js) text
-    → scenario_of text ≡ Ok (written ls (entries_of js))
+    (limits : Limits) (ls : List DeviceLineData) (opened : List Device) (js : List Journaled) (ends : List Device) (text : List ℕ)
+    → Every IsSpelledDevice ls → IsJournalOf R ls opened js ends text → KeepsLimits limits ls (entries_of js) text
+    → scenario_within limits text ≡ Ok (written ls (entries_of js))
 
 -- The text of a journal that leaves its devices nothing to do is the text of a replay of the journal's events.
 abbrev pub IsReplayedAgain : HandlerRelation → Type 0

@@ -9,8 +9,9 @@ use Rattle.tcmu_types.specs.Decimals.{IsRisingTo, IsWithin}
 use Rattle.text_model.specs.Config.{ConfigData, MediumData, InMemory, InFile, is_file_name}
 use Rattle.text_model.specs.ScenarioData.{DeviceLineData, LineWhat, EventLine, DrainLine, DumpLine, LineData, ScenarioData}
 use Rattle.text_model.specs.Said.{same_file}
-use Rattle.text_model.specs.Scenario.{is_dump, small_at, bytes_in, bytes_out, initiators}
+use Rattle.text_model.specs.Scenario.{scenario_limits, is_dump, is_event, small_at, bytes_in, bytes_out, initiators}
 use Rattle.text_model.specs.Script.{InitLineData, ScriptData, is_admin}
+use Rattle.text_model.specs.declared.limits.Limits.{Limits}
 
 -- ==== configs
 
@@ -65,17 +66,21 @@ pub record IsLine (ds : List DeviceLineData) (l : LineData) : Type 0 where
   pub what : IsWhat l.what
   pub dumped : is_dump l ≡ true → small_at ds l.device ≡ true
 
-pub record IsScenario (s : ScenarioData) : Type 0 where
+pub record IsScenarioWithin (limits : Limits) (s : ScenarioData) : Type 0 where
   pub few_devices : length s.devices ≤ 16
   pub devices : All IsDeviceLine s.devices
   pub names : AllPairs (λ d e. d.name ≢ e.name) s.devices
   pub files : AllPairs (λ d e. same_file d.config.kind e.config.kind ≡ false) s.devices
-  pub few_lines : length s.lines ≤ 20000
+  pub few_lines : length s.lines ≤ limits.lines
+  pub few_events : count_by is_event s.lines ≤ limits.events
   pub lines : All (IsLine s.devices) s.lines
   pub few_initiators : (device : ℕ) → length (initiators device s.lines) ≤ 16
   pub few_dumps : count_by is_dump s.lines ≤ 16
   pub few_in : sum_by bytes_in s.lines ≤ 67108864
   pub few_out : sum_by bytes_out s.lines ≤ 67108864
+
+abbrev pub IsScenario : ScenarioData → Type 0
+IsScenario s = IsScenarioWithin scenario_limits s
 
 -- What is served so far: no dumps.
 pub record IsServed (s : ScenarioData) : Type 0 where

@@ -4,10 +4,12 @@
 
 mod faults;
 mod laws;
+mod limits;
 mod words;
 mod worked;
 
 pub use faults::{ConfigFault, Why};
 pub use laws::{config_law, scenario_law, script_law, served_law};
+pub use limits::{Limits, SCENARIO_LIMITS};
 pub use words::{Subtype, Verb};
 pub use worked::load_examples;

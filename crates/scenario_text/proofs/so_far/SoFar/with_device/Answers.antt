@@ -12,4 +12,4 @@ invariant_of-result c =
     let new : IsNewName w d = subst (λ (s : ScenarioData). IsNewName s d) (sym c.self.view_is) c.requires in
     let few : length w.devices + 1 ≤ 16 = omega (arith, c.len.ensures, c.if-len-gt16.false) in
     rw (c.push.ensures.items, c.in_ok-reserve.ensures.items, c.in_ok-push.ensures.items, c.new.ensures, c.in_ok-note.ensures, ap (λ (x : DeviceLineData). x.name) c.device.view_is)
-    (counted_device w.devices w.lines _ d _ _ _ c.self.invariant.0 few, are_names_more w _ d c.self.invariant.1 new)
+    (counted_device w.devices w.lines _ d _ _ _ _ c.self.invariant.0 few, are_names_more w _ d c.self.invariant.1 new)
