@@ -1,15 +1,13 @@
 -- What is read of a region that represents a device is the device's picture.
-use Rattle.std.proofs.Common.{◌≡◌, ℕ, ◌+◌, ◌-◌, ◌^◌, ◌%◌, ◌<◌, ◌≤◌, Bool, true, false, cond, List, [], ◌∷◌, ◌++◌, length, take, drop, map, replicate, slice_get, IfSome, Option, Some, None, suc, refl, sym, ap, ◌∙◌, arith, length-append, ⊎_elim}
-use Rattle.std.proofs.lemmas.Bool.{cases_Bool}
+use Rattle.std.proofs.Common.{◌≡◌, ℕ, ◌+◌, ◌-◌, ◌^◌, ◌%◌, ◌<◌, ◌≤◌, false, List, [], ◌∷◌, ◌++◌, length, take, drop, map, replicate, slice_get, IfSome, Option, Some, None, suc, refl, sym, ap, ◌∙◌, arith, length-append}
 use Rattle.std.proofs.lemmas.List.{drop-drop}
 use Rattle.tcmu_types.specs.Data.{CommandData, ReplyData, SettingsData}
 use Rattle.tcmu_types.specs.Lists.{Every, first_of}
-use Rattle.tcmu_types.specs.Rules.{payload_length, takes_payload}
+use Rattle.tcmu_types.specs.Rules.{payload_length}
 use Rattle.tcmu_types.specs.declared.iovec.Iov.{Iov}
 use Rattle.tcmu_types.specs.ByteFields.{le, padded, put, zeros}
-use Rattle.tcmu_types.proofs.ByteFields.{length-le, length-put, length-zeros}
+use Rattle.tcmu_types.proofs.ByteFields.{length-le, length-put}
 use Rattle.tcmu_types.proofs.Everies.{every-both, every-weaker}
-use Rattle.tcmu_model.specs.declared.state.CommandState.{CommandState}
 use Rattle.tcmu_model.specs.BlockLists.{Taken, list_of}
 use Rattle.tcmu_model.specs.Device.{DeviceState, Unfinished, has_serial}
 use Rattle.tcmu_model.specs.Events.{is_in_hand}
@@ -20,11 +18,12 @@ use Rattle.tcmu_model.specs.Sound.{IsSound, ReplyFits}
 use Rattle.tcmu_model.proofs.Indexed.{item_at}
 use Rattle.region_model.specs.Areas.{bytes_along}
 use Rattle.region_model.specs.Layout.{cdb_place, command_bytes, command_head, command_length, entry_header, iovs_bytes, response_bytes, ring_start}
-use Rattle.region_model.specs.Picture.{answer_at, answered_entry, command_iovs, data_in, entry_of, ids_named, is_placed, item_bytes, kind_of, payload_of, picture_of, place_of, request_of, shown_items, with_answer, with_reply}
+use Rattle.region_model.specs.Picture.{answer_at, answered_entry, command_iovs, entry_of, ids_named, item_bytes, kind_of, payload_of, picture_of, place_of, request_of, shown_items, with_answer, with_reply}
 use Rattle.region_model.specs.Represents.{BlocksOf, BlocksStand, RingStands, TargetKeeps, entry_at, id_in, ids_in, recorded}
 use Rattle.region_model.specs.Sides.{Recorded, TargetState}
 use Rattle.region_model.proofs.EntriesThere.{length-ids_in}
 use Rattle.region_model.proofs.HeaderLengths.{length-command_head}
+use Rattle.region_model.proofs.PartLengths.{length-payload}
 use Rattle.ring_laws.specs.PictureRead.{items_read, without_ids}
 use Rattle.ring_laws.proofs.Bytes.{put-again, put-apart}
 use Rattle.ring_laws.proofs.CleanedOne.{next-place}
@@ -138,27 +137,8 @@ picture_items front t d lists sound h keeps =
 
 -- ==== the payloads
 
-data_length_in : (n : ℕ) (state : CommandState) (o : Option ReplyData) → IfSome o (λ r. length r.payload ≤ n) → length (data_in n state o) ≡ n
-data_length_in n state None h = length-zeros n
-data_length_in n state (Some reply) h = by_state (is_placed state)
-  where
-    by_state : (b : Bool) → length (cond b (reply.payload ++ zeros (n - length reply.payload)) (zeros n)) ≡ n
-    by_state true = length-append reply.payload (zeros (n - length reply.payload)) ∙ omega (arith, length-zeros (n - length reply.payload))
-    by_state false = length-zeros n
-
-one_length : (u : Unfinished) → IfSome u.reply (ReplyFits u.command) → length (payload_of u) ≡ payload_length u.command
-one_length u h =
-    ⊎_elim
-    (λ (t : takes_payload u.command.cdb ≡ true). rw t refl)
-    (λ (t : takes_payload u.command.cdb ≡ false). rw t (data_length_in u.command.in_len u.state u.reply (shorter u.reply h)))
-    (cases_Bool (takes_payload u.command.cdb))
-  where
-    shorter : (o : Option ReplyData) → IfSome o (ReplyFits u.command) → IfSome o (λ r. length r.payload ≤ u.command.in_len)
-    shorter None k = tt
-    shorter (Some reply) k = k.payload
-
 pub payload_lengths : (d : DeviceState) → IsSound d → Every (λ u. length (payload_of u) ≡ payload_length u.command) d.unfinished
-payload_lengths d sound = every-weaker (λ u. IfSome u.reply (ReplyFits u.command)) (λ u. length (payload_of u) ≡ payload_length u.command) d.unfinished (λ u h. one_length u h) sound.answers.replies
+payload_lengths d sound = every-weaker (λ u. IfSome u.reply (ReplyFits u.command)) (λ u. length (payload_of u) ≡ payload_length u.command) d.unfinished (λ u h. length-payload u h) sound.answers.replies
 
 pub payloads_home : (area : List (Option (List ℕ))) (d : DeviceState) (lists : List Taken) → IsSound d → BlocksStand area d lists →
     Every (λ u. is_in_hand u ≡ false → take (payload_length u.command) (bytes_along (block_size d.settings.pages) area (list_of lists u.serial)) ≡ payload_of u) d.unfinished
