@@ -1,9 +1,12 @@
--- Blocks of a data area: those that are taken out, and their sizes.
-use Rattle.std.proofs.Common.{◌≡◌, ℕ, zero, suc, ◌<◌, ◌≤◌, true, false, List, [], ◌∷◌, length, take, slice_get, Option, None, Some, refl, ap, arith, ⊎_elim}
+-- Blocks of a data area: those that are taken out, their sizes, and what is written over them.
+use Rattle.std.proofs.Common.{◌≡◌, ℕ, zero, suc, ◌+◌, ◌-◌, ◌*◌, ◌<◌, ◌≤◌, true, false, List, [], ◌∷◌, ◌++◌, length, take, drop, slice_get, Option, None, Some, refl, sym, ap, ◌∙◌, arith, length-append, length-take, ⊎_elim}
 use Rattle.std.proofs.Math.ListN.{set}
-use Rattle.std.proofs.lemmas.Bool.{and_parts, cases_Bool}
+use Rattle.std.proofs.lemmas.Bool.{and_parts, cases_Bool, cases_lt}
+use Rattle.tcmu_types.specs.ByteFields.{put, zeros}
 use Rattle.tcmu_types.specs.declared.iovec.Iov.{Iov}
-use Rattle.region_model.specs.Regions.{AreSized, RegionState, can_lend, can_take, is_home, named_by, taken}
+use Rattle.tcmu_types.proofs.ByteFields.{length-put, length-zeros, put-nothing}
+use Rattle.region_model.specs.Areas.{block_bytes}
+use Rattle.region_model.specs.Regions.{AreSized, RegionState, blocks_over, can_lend, can_take, home, is_home, named_by, overlaid, shown, taken}
 
 pub length-taken : (area : List (Option (List ℕ))) (bs : List ℕ) → length (taken area bs) ≡ length bs
 length-taken area [] = refl
@@ -14,6 +17,60 @@ sized-take size zero area h = tt
 sized-take size (suc n) [] h = tt
 sized-take size (suc n) (None ∷ area) h = sized-take size n area h
 sized-take size (suc n) (Some block ∷ area) h = (h.0, sized-take size n area h.1)
+
+-- ==== sizes
+
+pub sized-set : (size : ℕ) (area : List (Option (List ℕ))) (n : ℕ) (o : Option (List ℕ)) → AreSized size (o ∷ []) → AreSized size area → AreSized size (set area n o)
+sized-set size [] n o k h = tt
+sized-set size (None ∷ area) zero None k h = h
+sized-set size (None ∷ area) zero (Some new) k h = (k.0, h)
+sized-set size (Some block ∷ area) zero None k h = h.1
+sized-set size (Some block ∷ area) zero (Some new) k h = (k.0, h.1)
+sized-set size (None ∷ area) (suc n) o k h = sized-set size area n o k h
+sized-set size (Some block ∷ area) (suc n) o k h = (h.0, sized-set size area n o k h.1)
+
+pub length-block : (size : ℕ) (area : List (Option (List ℕ))) (n : ℕ) → AreSized size area → length (block_bytes size (home (slice_get area n))) ≡ size
+length-block size [] n h = length-zeros size
+length-block size (None ∷ area) zero h = length-zeros size
+length-block size (Some block ∷ area) zero h = h.0
+length-block size (None ∷ area) (suc n) h = length-block size area n h
+length-block size (Some block ∷ area) (suc n) h = length-block size area n h.1
+
+pub size-home : (size : ℕ) (area : List (Option (List ℕ))) (n : ℕ) (block : List ℕ) → AreSized size area → home (slice_get area n) ≡ Some block → length block ≡ size
+size-home size area n block h is = ap (λ (o : Option (List ℕ)). length (block_bytes size o)) (sym is) ∙ length-block size area n h
+
+pub length-shown : (size : ℕ) (area : List (Option (List ℕ))) → AreSized size area → length (shown size area) ≡ size * length area
+length-shown size [] h = omega arith
+length-shown size (None ∷ area) h =
+    let e : length (shown size (None ∷ area)) ≡ length (zeros size) + length (shown size area) = length-append (zeros size) (shown size area) in
+    omega (arith, e, length-zeros size, length-shown size area h)
+length-shown size (Some block ∷ area) h =
+    let e : length (shown size (Some block ∷ area)) ≡ length block + length (shown size area) = length-append block (shown size area) in
+    omega (arith, e, h.0, length-shown size area h.1)
+
+-- ==== bytes written
+
+-- over the front of others
+pub put-front : (xs bytes : List ℕ) → put xs 0 bytes ≡ bytes ++ drop (length bytes) xs
+unfolding put
+put-front xs bytes = let k : 0 + length bytes ≡ length bytes = omega arith in ap (λ n. bytes ++ drop n xs) k
+
+pub length-overlaid : (place at : ℕ) (bytes x : List ℕ) → length (overlaid place at bytes x) ≡ length x
+unfolding overlaid
+length-overlaid place at bytes x =
+    let i : ℕ = at - place in
+    let ys : List ℕ = take (length x - i) (drop (place - at) bytes) in
+    ⊎_elim
+    (λ (k : i < length x). length-put x i ys (omega (arith, length-take (length x - i) (drop (place - at) bytes), k)))
+    (λ (k : length x ≤ i).
+    let z : length x - i ≡ 0 = omega (arith, k) in
+    ap (λ n. length (put x i (take n (drop (place - at) bytes)))) z ∙ ap length (put-nothing x i))
+    (cases_lt i (length x))
+
+pub sized-blocks_over : (size place wide at : ℕ) (bytes : List ℕ) (area : List (Option (List ℕ))) → AreSized size area → AreSized size (blocks_over place wide at bytes area)
+sized-blocks_over size place wide at bytes [] h = tt
+sized-blocks_over size place wide at bytes (None ∷ area) h = sized-blocks_over size (place + wide) wide at bytes area h
+sized-blocks_over size place wide at bytes (Some block ∷ area) h = (length-overlaid place at bytes block ∙ h.0, sized-blocks_over size (place + wide) wide at bytes area h.1)
 
 -- ==== how many blocks can be lent
 

@@ -1,15 +1,20 @@
 -- How many bytes each part of a region has, and the mailbox's fields in its bytes.
-use Rattle.std.proofs.Common.{◌≡◌, ℕ, ◌+◌, ◌-◌, ◌*◌, ◌≤◌, true, false, List, [], ◌∷◌, ◌++◌, length, refl, ◌∙◌, arith, append_assoc, length-append, ⊎_elim, eqb, Option, Some, None}
+use Rattle.std.proofs.Common.{◌≡◌, ℕ, ◌+◌, ◌-◌, ◌*◌, ◌≤◌, Bool, true, false, cond, IfSome, List, [], ◌∷◌, ◌++◌, length, refl, ◌∙◌, arith, append_assoc, length-append, ⊎_elim, eqb, Option, Some, None}
 use Rattle.std.proofs.lemmas.Bool.{cases_Bool}
 use Rattle.tcmu_types.specs.Data.{SenseData, ReplyData, SettingsData}
 use Rattle.tcmu_types.specs.SenseBytes.{fixed_sense}
 use Rattle.tcmu_types.specs.declared.iovec.Iov.{Iov}
 use Rattle.region_model.specs.declared.mailbox.Mailbox.{Mailbox}
+use Rattle.tcmu_types.specs.Rules.{payload_length, takes_payload}
+use Rattle.tcmu_model.specs.declared.state.CommandState.{CommandState}
+use Rattle.tcmu_model.specs.Device.{Unfinished}
 use Rattle.tcmu_model.specs.Lengths.{tmr_length, round_up}
+use Rattle.tcmu_model.specs.Sound.{ReplyFits}
 use Rattle.region_model.specs.Layout.{entry_header, command_head, command_bytes, command_length, cdb_place, ring_start, mailbox_bytes, device_mailbox, data_start, pad_bytes, iovs_bytes, ids_bytes, tmr_bytes, sense_buffer, answer_bytes, response_bytes}
 use Rattle.tcmu_types.specs.ByteFields.{le, field, zeros, padded}
 use Rattle.region_model.specs.MailboxReading.{mailbox_in, Fits}
 use Rattle.region_model.specs.Iovecs.{piece, merged, iovs_along}
+use Rattle.region_model.specs.Picture.{data_in, is_placed, payload_of}
 use Rattle.region_model.specs.Regions.{opening_region}
 use Rattle.tcmu_types.proofs.ByteFields.{lengths, length-zeros, length-padded, field-in}
 use Rattle.region_model.proofs.HeaderLengths.{length-entry_header, length-command_head}
@@ -111,3 +116,24 @@ unfolding answer_bytes
 length-response reply n =
     let s : length (padded 96 (sense_buffer reply.sense)) ≡ 96 = length-padded 96 (sense_buffer reply.sense) (length-sense reply.sense) in
     omega (lengths, s)
+
+-- ==== payloads
+
+length-data_in : (n : ℕ) (state : CommandState) (o : Option ReplyData) → IfSome o (λ r. length r.payload ≤ n) → length (data_in n state o) ≡ n
+length-data_in n state None h = length-zeros n
+length-data_in n state (Some reply) h = by_state (is_placed state)
+  where
+    by_state : (b : Bool) → length (cond b (reply.payload ++ zeros (n - length reply.payload)) (zeros n)) ≡ n
+    by_state true = length-append reply.payload (zeros (n - length reply.payload)) ∙ omega (arith, length-zeros (n - length reply.payload))
+    by_state false = length-zeros n
+
+pub length-payload : (u : Unfinished) → IfSome u.reply (ReplyFits u.command) → length (payload_of u) ≡ payload_length u.command
+length-payload u h =
+    ⊎_elim
+    (λ (t : takes_payload u.command.cdb ≡ true). rw t refl)
+    (λ (t : takes_payload u.command.cdb ≡ false). rw t (length-data_in u.command.in_len u.state u.reply (shorter u.reply h)))
+    (cases_Bool (takes_payload u.command.cdb))
+  where
+    shorter : (o : Option ReplyData) → IfSome o (ReplyFits u.command) → IfSome o (λ r. length r.payload ≤ u.command.in_len)
+    shorter None k = tt
+    shorter (Some reply) k = k.payload

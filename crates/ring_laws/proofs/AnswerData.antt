@@ -11,6 +11,7 @@ use Rattle.region_model.specs.Regions.{home, HaveSize, numbers_from, first_block
 use Rattle.tcmu_types.specs.Lists.{Every}
 use Rattle.region_model.specs.Areas.{block_bytes, bytes_along, IsHome, IsLent}
 use Rattle.ring_laws.proofs.Scatter.{get-set_other, get-set_same, here-other, along-same}
+use Rattle.region_model.proofs.Areas.{put-front}
 
 -- ==== what is given back
 
@@ -53,10 +54,6 @@ returned-data size area (b ∷ bs) (p ∷ ps) l d e w =
 
 -- ==== the payload in the parts
 
-put_front : (xs ys : List ℕ) → put xs 0 ys ≡ ys ++ drop (length ys) xs
-unfolding put
-put_front xs ys = let k : 0 + length ys ≡ length ys = omega arith in ap (λ n. ys ++ drop n xs) k
-
 pub scattered-payload : (ps : List (List ℕ)) (bytes : List ℕ) → length bytes ≤ length (gathered ps) → gathered (scattered ps bytes) ≡ bytes ++ drop (length bytes) (gathered ps)
 scattered-payload [] bytes h = let z : length bytes ≡ 0 = omega arith in let q : bytes ≡ [] = nil_from_length bytes z in sym (ap (λ (y : List ℕ). y ++ drop (length y) []) q)
 scattered-payload (p ∷ ps) bytes h =
@@ -65,7 +62,7 @@ scattered-payload (p ∷ ps) bytes h =
     let ih : gathered (scattered ps (drop (length p) bytes)) ≡ drop (length p) bytes ++ drop (length (drop (length p) bytes)) (gathered ps) = scattered-payload ps (drop (length p) bytes) (omega arith) in
     let t : List ℕ = take (length p) bytes in
     let lt : length t ≡ min (length p) (length bytes) = length-take (length p) bytes in
-    let first : put p 0 t ++ gathered (scattered ps (drop (length p) bytes)) ≡ t ++ drop (length t) p ++ gathered (scattered ps (drop (length p) bytes)) = ap (λ z. z ++ gathered (scattered ps (drop (length p) bytes))) (put_front p t) in
+    let first : put p 0 t ++ gathered (scattered ps (drop (length p) bytes)) ≡ t ++ drop (length t) p ++ gathered (scattered ps (drop (length p) bytes)) = ap (λ z. z ++ gathered (scattered ps (drop (length p) bytes))) (put-front p t) in
     first ∙ ⊎_elim
     (λ (l : length p < length bytes).
     let e0 : drop (length t) p ≡ [] = drop_all (length t) p (omega arith) in
@@ -94,7 +91,7 @@ sizes-scattered size (p ∷ ps) bytes e =
     let lt : length t ≡ min (length p) (length bytes) = length-take (length p) bytes in
     let a : length (t ++ drop (length t) p) ≡ length t + length (drop (length t) p) = length-append t (drop (length t) p) in
     let b : length (drop (length t) p) ≡ length p - length t = length-drop (length t) p in
-    (ap length (put_front p t) ∙ omega (arith, lt, a, b, e.0), sizes-scattered size ps (drop (length p) bytes) e.1)
+    (ap length (put-front p t) ∙ omega (arith, lt, a, b, e.0), sizes-scattered size ps (drop (length p) bytes) e.1)
 
 pub length-gathered : (size : ℕ) (ps : List (List ℕ)) → HaveSize size ps → length (gathered ps) ≡ size * length ps
 length-gathered size [] e = let z : 0 ≡ size * 0 = omega arith in z

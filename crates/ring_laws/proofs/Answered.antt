@@ -1,13 +1,12 @@
 -- A response in an entry: what it changes, and the id that is read of it.
-use Rattle.std.proofs.Common.{◌≡◌, ℕ, ◌+◌, ◌-◌, ◌^◌, ◌≤◌, ◌<◌, ◌⊎◌, List, [], ◌++◌, length, take, drop, refl, sym, ap, ◌∙◌, arith, Option, length-append, length-drop, ⊎_elim}
-use Rattle.std.proofs.lemmas.List.{drop-append-le, length-take-le, drop-take, drop-drop}
+use Rattle.std.proofs.Common.{◌≡◌, ℕ, ◌+◌, ◌-◌, ◌^◌, ◌≤◌, ◌<◌, ◌⊎◌, List, [], length, take, drop, refl, ap, ◌∙◌, arith, Option, length-drop, ⊎_elim}
 use Rattle.tcmu_types.specs.Data.{CommandData, ReplyData, SettingsData}
 use Rattle.region_model.specs.Layout.{ring_start, entry_header, command_head, command_bytes, response_bytes, with_response}
 use Rattle.tcmu_types.specs.ByteFields.{le, put, zeros, padded}
 use Rattle.tcmu_types.proofs.ByteFields.{length-le, field-put, field-before, field-le, length-put}
 use Rattle.region_model.specs.Picture.{request_of, answered_entry}
 use Rattle.region_model.specs.Represents.{entry_at, id_in}
-use Rattle.ring_laws.proofs.Bytes.{part, part-written_before, part-written_behind}
+use Rattle.ring_laws.proofs.Bytes.{drop-written_inside, part, part-written_before, part-written_behind}
 use Rattle.ring_laws.proofs.Layouts.{take-written_inside}
 use Rattle.region_model.proofs.PartLengths.{length-response}
 
@@ -27,19 +26,6 @@ response_apart front at id reply n p l h a =
     (λ (k : at + 112 ≤ p). part-written_behind w (ring_start + at + 7) (response_bytes reply n) (ring_start + p) l (omega arith) (omega arith)
     ∙ part-written_behind front (ring_start + at + 4) (le 2 id) (ring_start + p) l (omega arith) (omega arith))
     a
-
-drop-written_inside : (xs : List ℕ) (p a : ℕ) (ys : List ℕ) → p + a ≤ length xs → drop p (put xs (p + a) ys) ≡ put (drop p xs) a ys
-unfolding put
-drop-written_inside xs p a ys h =
-    let t : List ℕ = take (p + a) xs in
-    let lt : length t ≡ p + a = length-take-le (p + a) xs h in
-    let lty : length (t ++ ys) ≡ length t + length ys = length-append t ys in
-    let e1 : drop p (t ++ ys ++ drop (p + a + length ys) xs) ≡ drop p (t ++ ys) ++ drop (p + a + length ys) xs = drop-append-le p (t ++ ys) (drop (p + a + length ys) xs) (omega arith) in
-    let e2 : drop p (t ++ ys) ≡ drop p t ++ ys = drop-append-le p t ys (omega arith) in
-    let e3 : drop p t ≡ take a (drop p xs) = drop-take p a xs in
-    let k : p + a + length ys ≡ p + (a + length ys) = omega arith in
-    let e4 : drop (p + a + length ys) xs ≡ drop (a + length ys) (drop p xs) = ap (λ z. drop z xs) k ∙ sym (drop-drop (a + length ys) p xs) in
-    e1 ∙ ap (λ z. z ++ drop (p + a + length ys) xs) (e2 ∙ ap (λ z. z ++ ys) e3) ∙ ap (λ z. take a (drop p xs) ++ ys ++ z) e4
 
 pub length-with_response : (front : List ℕ) (at id : ℕ) (reply : ReplyData) (n : Option ℕ) → ring_start + at + 112 ≤ length front → length (with_response front at id reply n) ≡ length front
 length-with_response front at id reply n h =

@@ -1,5 +1,5 @@
 -- The jobs of a next over any bytes: their iovecs lie in the data area.
-use Rattle.std.proofs.Common.{◌≡◌, ℕ, ◌+◌, ◌*◌, ◌==◌, Bool, true, false, List, [], ◌∷◌, length, suc, zero, Option, Some, None, Result, Ok, Err, refl, sym, ap, ◌∙◌, arith, subst, length-append}
+use Rattle.std.proofs.Common.{◌≡◌, ℕ, ◌+◌, ◌*◌, ◌==◌, Bool, true, false, length, suc, zero, Result, Ok, Err, refl, sym, ap, ◌∙◌, arith, subst, length-append}
 use Rattle.std.specs.List.{list_all}
 use Rattle.tcmu_types.specs.declared.dump.ItemKind.TheVariants as kind
 use Rattle.region_model.specs.declared.mailbox.Mailbox.{Mailbox}
@@ -8,15 +8,14 @@ use Rattle.region_model.specs.declared.entry.EntryRef.{EntryRef}
 use Rattle.region_model.specs.declared.entry.EntryRef.TheVariants as entry
 use Rattle.region_model.specs.declared.entry.EntryFault.{EntryFault}
 use Rattle.region_model.specs.Layout.{data_start, ring_start}
-use Rattle.tcmu_types.specs.ByteFields.{zeros}
 use Rattle.region_model.specs.EntryReading.{entry_read, lies_inside}
 use Rattle.region_model.specs.Regions.{AreSized, RegionState, size_of, shown, bytes_of}
 use Rattle.region_model.specs.Sides.{JobState, UserState}
 use Rattle.region_model.specs.UserSteps.{lie_in_area, user_mailbox}
 use Rattle.region_model.specs.UserNext.{NextAnswer, Job, Note, Nothing, BadMailbox, BadEntry, Nexted, iovs_in, tmr_ids_in, with_passed, with_unknown, command_next, note_next, next_within, most_entries, nexted}
-use Rattle.tcmu_types.proofs.ByteFields.{length-zeros}
 use Rattle.ring_laws.proofs.PassedEntries.{ReadFrom, read_from, inside_read}
 use Rattle.ring_laws.proofs.AnyFaults.{by_mailbox, next_mailbox}
+use Rattle.region_model.proofs.Areas.{length-shown}
 
 -- ==== the iovecs of a job
 
@@ -66,15 +65,6 @@ within_inside (suc n) m before r u = by_head (u.place == m.head) refl (within_in
     by_head false b rest = by_entry (entry_read r.front (size_of r * length r.blocks) m u.place) refl b rest
 
 -- ==== the data area
-
-length-shown : (size : ℕ) (blocks : List (Option (List ℕ))) → AreSized size blocks → length (shown size blocks) ≡ size * length blocks
-length-shown size [] h = omega arith
-length-shown size (None ∷ blocks) h =
-    let e : length (shown size (None ∷ blocks)) ≡ length (zeros size) + length (shown size blocks) = length-append (zeros size) (shown size blocks) in
-    omega (arith, e, length-zeros size, length-shown size blocks h)
-length-shown size (Some block ∷ blocks) h =
-    let e : length (shown size (Some block ∷ blocks)) ≡ length block + length (shown size blocks) = length-append block (shown size blocks) in
-    omega (arith, e, h.0, length-shown size blocks h.1)
 
 pub next_inside : (r : RegionState) (u : UserState) (job : JobState) → AreSized (size_of r) r.blocks → (nexted r u).answer ≡ Job job → lie_in_area r job.iovs ≡ true
 next_inside r u job sized h = go (user_mailbox r) refl

@@ -24,34 +24,24 @@ use Rattle.tcmu_types.proofs.ByteFields.{length-put}
 use Rattle.ring_laws.specs.Sizes.{IsSized}
 use Rattle.ring_laws.specs.UserKept.{AreWholeJobs, HasPages, HasRing, IsWholeJob, UserSound}
 use Rattle.ring_laws.proofs.AnyFaults.{by_mailbox, next_mailbox}
-use Rattle.ring_laws.proofs.Sized.{AllMove, HasBlocks, MovesBlocks, all_back, own_size, placed_sized, sized_set}
+use Rattle.ring_laws.proofs.Sized.{AllMove, HasBlocks, MovesBlocks, all_back, own_size, placed_sized}
 use Rattle.ring_laws.proofs.AnyAnswers.{respond_keeps}
 use Rattle.ring_laws.proofs.AnyNext.{next_keeps}
 use Rattle.ring_laws.proofs.AnyUsers.{next_user}
+use Rattle.region_model.proofs.Areas.{length-taken, size-home, sized-set}
 
 -- ==== the blocks that are lent
-
-length-taken : (blocks : List (Option (List ℕ))) (ns : List ℕ) → length (taken blocks ns) ≡ length ns
-length-taken blocks [] = refl
-length-taken blocks (n ∷ ns) = ap (λ k. suc k) (length-taken (set blocks n None) ns)
-
-size_home : (size : ℕ) (blocks : List (Option (List ℕ))) (n : ℕ) (block : List ℕ) → AreSized size blocks → slice_get blocks n ≡ Some (Some block) → length block ≡ size
-size_home size [] n block h g = absurd (cc)
-size_home size (None ∷ blocks) zero block h g = absurd (cc)
-size_home size (Some first ∷ blocks) zero block h g = let e : first ≡ block = cc in ap length (sym e) ∙ h.0
-size_home size (None ∷ blocks) (suc n) block h g = size_home size blocks n block h g
-size_home size (Some first ∷ blocks) (suc n) block h g = size_home size blocks n block h.1 g
 
 sizes_taken : (size : ℕ) (blocks : List (Option (List ℕ))) (ns : List ℕ) → AreSized size blocks → can_take blocks ns ≡ true → HaveSize size (taken blocks ns)
 sizes_taken size blocks [] h c = tt
 sizes_taken size blocks (n ∷ ns) h c =
     let p : (is_home (slice_get blocks n) ≡ true) × (can_take (set blocks n None) ns ≡ true) = and_parts _ _ c in
-    (here (slice_get blocks n) refl p.0, sizes_taken size (set blocks n None) ns (sized_set size blocks n None tt h) p.1)
+    (here (slice_get blocks n) refl p.0, sizes_taken size (set blocks n None) ns (sized-set size blocks n None tt h) p.1)
   where
     here : (o : Option (Option (List ℕ))) → slice_get blocks n ≡ o → is_home o ≡ true → length (unwrap_or (home o) []) ≡ size
     here None e k = absurd (false≢true k)
     here (Some None) e k = absurd (false≢true k)
-    here (Some (Some block)) e k = size_home size blocks n block h e
+    here (Some (Some block)) e k = size-home size blocks n block h (ap home e)
 
 -- the job that is read of an entry is whole
 read_whole : (r : RegionState) (ring pages id : ℕ) (iovs : List Iov) (cdb : List ℕ) (parts : List (List ℕ)) → length r.front ≡ data_start ring → r.pages ≡ pages → IsSized r → carried_by r iovs cdb ≡ Moved parts →

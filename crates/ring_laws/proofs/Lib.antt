@@ -26,6 +26,7 @@ pub mod NoteIds
 pub mod Ticked
 pub mod TodoSame
 pub mod StatSame
+pub mod PictureShown
 pub mod Completing
 pub mod KeptLists
 pub mod DelayedKept

@@ -1,8 +1,8 @@
 -- Each block that is at home keeps its size.
-use Rattle.std.proofs.Common.{◌≡◌, ℕ, ◌+◌, ◌-◌, ◌*◌, ◌<◌, ◌≤◌, Bool, true, false, List, [], ◌∷◌, ◌++◌, length, take, drop, replicate, filter, set, refl, sym, ap, ◌∙◌, arith, suc, zero, Option, Some, None, slice_get, length-append, length-take, length-drop, subst, ⊎_elim, eqb}
+use Rattle.std.proofs.Common.{◌≡◌, ℕ, ◌+◌, ◌*◌, ◌≤◌, Bool, true, false, List, [], ◌∷◌, ◌++◌, length, take, drop, replicate, filter, set, refl, sym, ap, ◌∙◌, arith, suc, zero, Option, Some, None, slice_get, length-append, length-take, length-drop, subst, ⊎_elim, eqb}
 use Rattle.std.specs.Prelude.{Result, Ok, Err}
 use Rattle.std.specs.Bool.{MatchBool}
-use Rattle.std.proofs.lemmas.Bool.{cases_Bool, cases_lt}
+use Rattle.std.proofs.lemmas.Bool.{cases_Bool}
 use Rattle.tcmu_types.specs.Data.{SettingsData}
 use Rattle.tcmu_types.specs.declared.iovec.Iov.{Iov}
 use Rattle.tcmu_types.specs.declared.dump.ItemKind.TheVariants as kind
@@ -19,10 +19,10 @@ use Rattle.tcmu_model.specs.Device.{DeviceState, Unfinished, has_state}
 use Rattle.tcmu_model.specs.Events.{is_in_hand}
 use Rattle.tcmu_model.specs.BlockLists.{Taken}
 use Rattle.region_model.specs.Layout.{ring_start}
-use Rattle.tcmu_types.specs.ByteFields.{put, zeros}
+use Rattle.tcmu_types.specs.ByteFields.{zeros}
 use Rattle.region_model.specs.Iovecs.{scattered}
 use Rattle.region_model.specs.EntryReading.{entry_read}
-use Rattle.region_model.specs.Regions.{AreSized, HaveSize, RegionState, can_lend, home, named_by, opening_region, overlaid, blocks_over, wrote, copied_in, given_back, put_where, returned, size_of, without}
+use Rattle.region_model.specs.Regions.{AreSized, HaveSize, RegionState, can_lend, home, named_by, opening_region, wrote, copied_in, given_back, put_where, returned, size_of, without}
 use Rattle.region_model.specs.Areas.{over, written_along}
 use Rattle.region_model.specs.Sides.{Carried, Copied, GivenJob, InHand, JobState, Moved, Parked, PendingRow, TargetState, UserState}
 use Rattle.region_model.specs.Represents.{AreGiven, AreOut, IsJobOf, JobsStand, is_out}
@@ -31,11 +31,11 @@ use Rattle.region_model.specs.TargetCleans.{region_cleaned, region_reset, target
 use Rattle.region_model.specs.UserSteps.{Placing, is_open_job, lie_in_area, moving, placed_at, placed_front, placed_one, placing_by, region_abandoned, region_published, user_mailbox, user_responded, with_job_back, with_jobs, with_parked, with_parked_back, with_payload}
 use Rattle.region_model.specs.UserNext.{Nexted, BadEntry, command_next, iovs_in, most_entries, next_of, next_within, nexted, note_next, region_lent, tmr_ids_in, with_passed, with_unknown}
 use Rattle.tcmu_types.proofs.Everies.{every-with_first}
-use Rattle.tcmu_types.proofs.ByteFields.{length-put, length-zeros, put-nothing}
+use Rattle.tcmu_types.proofs.ByteFields.{length-zeros}
 use Rattle.ring_laws.specs.Restarted.{region_restarted, region_with_hand}
 use Rattle.ring_laws.specs.Sizes.{IsSized}
 use Rattle.ring_laws.proofs.AnswerData.{sizes-scattered}
-use Rattle.region_model.proofs.Areas.{sized-take}
+use Rattle.region_model.proofs.Areas.{sized-blocks_over, sized-set, sized-take}
 
 -- ==== bytes written along blocks, and an area that grows
 
@@ -64,24 +64,15 @@ sized_grown size (Some block ∷ area) n h = (h.0, sized_grown size area n h.1)
 
 -- ==== an area that shrinks, blocks that are lent
 
-pub sized_set : (size : ℕ) (area : List (Option (List ℕ))) (n : ℕ) (o : Option (List ℕ)) → AreSized size (o ∷ []) → AreSized size area → AreSized size (set area n o)
-sized_set size [] n o k h = tt
-sized_set size (None ∷ area) zero None k h = h
-sized_set size (None ∷ area) zero (Some new) k h = (k.0, h)
-sized_set size (Some block ∷ area) zero None k h = h.1
-sized_set size (Some block ∷ area) zero (Some new) k h = (k.0, h.1)
-sized_set size (None ∷ area) (suc n) o k h = sized_set size area n o k h
-sized_set size (Some block ∷ area) (suc n) o k h = (h.0, sized_set size area n o k h.1)
-
 sized_without : (size : ℕ) (area : List (Option (List ℕ))) (ns : List ℕ) → AreSized size area → AreSized size (without area ns)
 sized_without size area [] h = h
-sized_without size area (n ∷ ns) h = sized_without size (set area n None) ns (sized_set size area n None tt h)
+sized_without size area (n ∷ ns) h = sized_without size (set area n None) ns (sized-set size area n None tt h)
 
 -- ==== blocks that come back
 
 sized_where : (size : ℕ) (o : Option (Option (List ℕ))) (area : List (Option (List ℕ))) (n : ℕ) (part : List ℕ) → length part ≡ size → AreSized size area → AreSized size (put_where o area n part)
 sized_where size None area n part l h = h
-sized_where size (Some None) area n part l h = sized_set size area n (Some part) (l, tt) h
+sized_where size (Some None) area n part l h = sized-set size area n (Some part) (l, tt) h
 sized_where size (Some (Some block)) area n part l h = h
 
 sized_returned : (size : ℕ) (area : List (Option (List ℕ))) (ns : List ℕ) (parts : List (List ℕ)) → HaveSize size parts → AreSized size area → AreSized size (returned area ns parts)
@@ -125,27 +116,10 @@ given_move s rows lists (g ∷ gs) (u ∷ us) h = (λ p e. parked (has_state sta
 
 -- ==== bytes that are written
 
-length-overlaid : (place at : ℕ) (bytes x : List ℕ) → length (overlaid place at bytes x) ≡ length x
-unfolding overlaid
-length-overlaid place at bytes x =
-    let i : ℕ = at - place in
-    let ys : List ℕ = take (length x - i) (drop (place - at) bytes) in
-    ⊎_elim
-    (λ (k : i < length x). length-put x i ys (omega (arith, length-take (length x - i) (drop (place - at) bytes), k)))
-    (λ (k : length x ≤ i).
-    let z : length x - i ≡ 0 = omega (arith, k) in
-    ap (λ n. length (put x i (take n (drop (place - at) bytes)))) z ∙ ap length (put-nothing x i))
-    (cases_lt i (length x))
-
-sized_over_all : (size place wide at : ℕ) (bytes : List ℕ) (area : List (Option (List ℕ))) → AreSized size area → AreSized size (blocks_over place wide at bytes area)
-sized_over_all size place wide at bytes [] h = tt
-sized_over_all size place wide at bytes (None ∷ area) h = sized_over_all size (place + wide) wide at bytes area h
-sized_over_all size place wide at bytes (Some block ∷ area) h = (length-overlaid place at bytes block ∙ h.0, sized_over_all size (place + wide) wide at bytes area h.1)
-
 sized_copied : (size : ℕ) (r : RegionState) (iovs : List Iov) (bytes : List ℕ) → HasBlocks size r → HasBlocks size (copied_in r iovs bytes)
 sized_copied size r [] bytes h = h
 sized_copied size r (iov ∷ iovs) bytes h =
-    sized_copied size (wrote r iov.base (take iov.len bytes)) iovs (drop iov.len bytes) (h.0, sized_over_all size (length r.front) (size_of r) iov.base (take iov.len bytes) r.blocks h.1)
+    sized_copied size (wrote r iov.base (take iov.len bytes)) iovs (drop iov.len bytes) (h.0, sized-blocks_over size (length r.front) (size_of r) iov.base (take iov.len bytes) r.blocks h.1)
 
 -- ==== respond
 

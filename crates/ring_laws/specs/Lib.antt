@@ -13,4 +13,5 @@ pub mod CalledOn
 pub mod RingKept
 pub mod DatesKept
 pub mod SidesShow
+pub mod PictureRead
 pub mod UserKept

@@ -56,7 +56,7 @@ pub use refusing::refused_law;
 pub use resetting::reset_law;
 pub use responding::respond_law;
 pub use restarting::restart_law;
-pub use showing::{stat_law, todo_law};
+pub use showing::{picture_law, stat_law, todo_law};
 pub use sizes::sizes_law;
 pub use submitting::submit_law;
 pub use ticking::{block_law, tick_law};

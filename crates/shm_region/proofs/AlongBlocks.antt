@@ -1,6 +1,6 @@
 -- One block of what is written and read along blocks.
 use Rattle.std.proofs.Common.{◌≡◌, ℕ, zero, suc, ◌+◌, ◌-◌, ◌*◌, ◌<◌, ◌≤◌, min, List, [], ◌∷◌, ◌++◌, length, take, drop, replicate, set, get_or, Option, Some, None, refl, sym, ap, ◌∙◌, arith, append_assoc, length-drop}
-use Rattle.std.specs.Prelude.{slice_get, IfSome}
+use Rattle.std.specs.Prelude.{slice_get}
 use Rattle.std.specs.Option.{option_map}
 use Rattle.std.proofs.lemmas.List.{append-nil, drop-drop, drop_all, drop_more, take_min, take-replicate, drop-replicate}
 use Rattle.tcmu_types.specs.ByteFields.{put, zeros}
@@ -8,19 +8,13 @@ use Rattle.tcmu_types.proofs.ByteFields.{length-zeros}
 use Rattle.region_model.specs.Areas.{block_bytes, bytes_along, over, written_along}
 use Rattle.region_model.specs.Regions.{AreSized, RegionState, size_of, home, cleared}
 use Rattle.shm_region.proofs.Over.{change_is}
+use Rattle.region_model.proofs.Areas.{length-block, put-front}
 
 -- ==== written
 
 over-map : (bytes : List ℕ) (o : Option (List ℕ)) → option_map (λ (b : List ℕ). bytes ++ drop (length bytes) b) o ≡ over bytes o
 over-map bytes None = refl
 over-map bytes (Some b) = refl
-
-put-front : (xs bytes : List ℕ) → put xs 0 bytes ≡ bytes ++ drop (length bytes) xs
-unfolding put
-put-front xs bytes = ap (λ (n : ℕ). bytes ++ drop n xs) (none (length bytes))
-  where
-    none : (n : ℕ) → 0 + n ≡ n
-    none n = omega arith
 
 -- a block taken out, written over and put back
 pub write_is : (old mid new : RegionState) (k : ℕ) (b z bytes : List ℕ)
@@ -70,17 +64,10 @@ written_step self new list i d all done count bytes h within is_count is_bytes a
 
 -- ==== cleared
 
-cleared-over : (size : ℕ) (o : Option (List ℕ)) → IfSome o (λ b. length b ≡ size) → cleared size o ≡ over (zeros size) o
+cleared-over : (size : ℕ) (o : Option (List ℕ)) → length (block_bytes size o) ≡ size → cleared size o ≡ over (zeros size) o
 cleared-over size None h = refl
 cleared-over size (Some b) h =
     ap Some (sym (ap (λ (w : List ℕ). zeros size ++ w) (drop_all (length (zeros size)) b (omega (arith, length-zeros size, h))) ∙ append-nil (zeros size)))
-
-home-sized : (size : ℕ) (area : List (Option (List ℕ))) (n : ℕ) → AreSized size area → IfSome (home (slice_get area n)) (λ b. length b ≡ size)
-home-sized size [] n h = tt
-home-sized size (None ∷ area) zero h = tt
-home-sized size (Some b ∷ area) zero h = h.0
-home-sized size (None ∷ area) (suc n) h = home-sized size area n h
-home-sized size (Some b ∷ area) (suc n) h = home-sized size area n h.1
 
 pub clear_step : (self new : RegionState) (list : List ℕ) (i d : ℕ) → i < length list → AreSized (size_of self) self.blocks
     → new ≡ record self { blocks = set self.blocks (get_or list i d) (cleared (size_of self) (home (slice_get self.blocks (get_or list i d)))) }
@@ -97,7 +84,7 @@ clear_step self new list i d h sized after =
     let behind : zeros (size_of new * k) ≡ drop size (zeros (size * length (drop i list))) =
     ap (λ (m : ℕ). zeros (m * k)) same ∙ sym (ap (λ (m : ℕ). drop size (zeros m)) whole ∙ drop-replicate size (size + size * k) 0 ∙ ap zeros (less size (size * k))) in
     along_step self new list i d (zeros (size * length (drop i list))) (zeros size) (zeros (size_of new * k)) h
-    (after ∙ ap (λ (o : Option (List ℕ)). record self { blocks = set self.blocks n o }) (cleared-over size (home (slice_get self.blocks n)) (home-sized size self.blocks n sized)))
+    (after ∙ ap (λ (o : Option (List ℕ)). record self { blocks = set self.blocks n o }) (cleared-over size (home (slice_get self.blocks n)) (length-block size self.blocks n sized)))
     front behind
   where
     more : (s l i a b : ℕ) → a ≡ l - i → b ≡ l - (i + 1) → i < l → s * a ≡ s + s * b
@@ -107,10 +94,6 @@ clear_step self new list i d h sized after =
     less a b = omega arith
 
 -- ==== read
-
-block-sized : (size : ℕ) (o : Option (List ℕ)) → IfSome o (λ b. length b ≡ size) → length (block_bytes size o) ≡ size
-block-sized size None h = length-zeros size
-block-sized size (Some b) h = h
 
 -- the first bytes of a block that is not at home
 pub take_lent : (size left count : ℕ) (o : Option (List ℕ)) → None ≡ o → count ≡ min size left → replicate count 0 ≡ take left (block_bytes size o)
@@ -142,7 +125,7 @@ pub read_along_step : (size : ℕ) (area : List (Option (List ℕ))) (list : Lis
 read_along_step size area list i d left count into new h sized after is_count =
     let b : List ℕ = block_bytes size (home (slice_get area (get_or list i d))) in
     let rest : List ℕ = bytes_along size area (drop (i + 1) list) in
-    let len : length b ≡ size = block-sized size (home (slice_get area (get_or list i d))) (home-sized size area (get_or list i d) sized) in
+    let len : length b ≡ size = length-block size area (get_or list i d) sized in
     let less : left - count ≡ left - length b = omega arith in
     ap (λ (w : List ℕ). w ++ take (left - count) rest) after
     ∙ append_assoc into (take left b) (take (left - count) rest)

@@ -4,15 +4,16 @@ use lib.Dec.{T}
 use Rattle.std.specs.Prelude.{slice_get, option_map}
 use Rattle.std.proofs.lemmas.List.{length-take, length-drop}
 use Rattle.region_model.specs.Regions.{AreSized, fitted, home, is_home}
-use Rattle.shm_region.proofs.Sized.{sized-set-none, sized-set, sized-get}
+use Rattle.shm_region.proofs.Sized.{sized-get}
+use Rattle.region_model.proofs.Areas.{sized-set}
 
 length-fitted : (old new : List ℕ) → length (fitted old new) ≡ length old
 length-fitted old new = omega (arith, length-take (length old) (new ++ drop (length new) old), length-append new (drop (length new) old), length-drop (length new) old)
 
 pub sized-fitted : (size k : ℕ) (w : List ℕ) (xs : List (Option (List ℕ))) (o d : Option (List ℕ)) → AreSized size xs → k < length xs → get_or xs k d ≡ o
     → AreSized size (set xs k (option_map (λ old. fitted old w) o))
-sized-fitted size k w xs None d h inside is = sized-set-none size k xs h
-sized-fitted size k w xs (Some b) d h inside is = sized-set size k (fitted b w) xs (length-fitted b w ∙ sized-get size k b xs d h inside is) h
+sized-fitted size k w xs None d h inside is = sized-set size xs k None tt h
+sized-fitted size k w xs (Some b) d h inside is = sized-set size xs k (Some (fitted b w)) (length-fitted b w ∙ sized-get size k b xs d h inside is, tt) h
 
 pub home-got : (xs : List (Option (List ℕ))) (k : ℕ) (o d : Option (List ℕ)) → k < length xs → get_or xs k d ≡ o → home (slice_get xs k) ≡ o
 home-got [] k o d inside is = absurd (omega arith)

@@ -11,7 +11,8 @@ use Rattle.region_model.specs.Iovecs.{along, total_of}
 use Rattle.region_model.specs.Regions.{RegionState, AreSized, size_of, shown, bytes_of, overlaid, blocks_over, wrote, copied_in, LieInRegion}
 use Rattle.tcmu_types.proofs.ByteFields.{length-zeros, length-put, put-nothing, take-put, drop-put}
 use Rattle.shm_region.specs.Copies.{ShareNone, LeaveOut, AreDisjoint, NameNoLent}
-use Rattle.shm_region.proofs.Over.{over_past, over_before, length-overlaid}
+use Rattle.shm_region.proofs.Over.{over_past, over_before}
+use Rattle.region_model.proofs.Areas.{length-overlaid, sized-blocks_over}
 
 -- ==== a byte more in front
 
@@ -221,11 +222,6 @@ own_part x at c fits =
 
 -- ==== along iovecs
 
-sized-over : (size p at : ℕ) (c : List ℕ) (xs : List (Option (List ℕ))) → AreSized size xs → AreSized size (blocks_over p size at c xs)
-sized-over size p at c [] h = tt
-sized-over size p at c (None ∷ xs) h = sized-over size (p + size) at c xs h
-sized-over size p at c (Some b ∷ xs) h = (length-overlaid p at c b ∙ h.0, sized-over size (p + size) at c xs h.1)
-
 lent-over : (size p at : ℕ) (c : List ℕ) (xs : List (Option (List ℕ))) (k : ℕ) → slice_get (blocks_over p size at c xs) k ≡ Some None → slice_get xs k ≡ Some None
 lent-over size p at c [] k h = h
 lent-over size p at c (None ∷ xs) zero h = refl
@@ -259,7 +255,7 @@ can_rest : (r : RegionState) (iov : Iov) (iovs : List Iov) (bytes : List ℕ) �
 can_rest r iov iovs bytes can =
     let c : List ℕ = take iov.len bytes in
     record {
-      sized = sized-over (size_of r) (length r.front) iov.base c r.blocks can.sized;
+      sized = sized-blocks_over (size_of r) (length r.front) (size_of r) iov.base c r.blocks can.sized;
       lies = lies-same r (wrote r iov.base c) iovs (ap length (first_put r iov iovs bytes can) ∙ length-put (bytes_of r) iov.base c (first_fits r iov iovs bytes can)) can.lies.1;
       free = λ k lent.
           subst (λ (n : ℕ). LeaveOut iovs (n + size_of r * k) (size_of r)) (sym (length-overlaid 0 iov.base c r.front))

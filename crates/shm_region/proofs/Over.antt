@@ -1,15 +1,14 @@
 -- Bytes written over parts of a region.
-use Rattle.std.proofs.Common.{◌≡◌, ℕ, ◌+◌, ◌-◌, ◌*◌, ◌<◌, ◌≤◌, List, [], ◌∷◌, ◌++◌, length, drop, take, set, get_or, min, Option, Some, None, refl, ap, ◌∙◌, sym, arith, append_assoc, add-one, ⊎_elim}
+use Rattle.std.proofs.Common.{◌≡◌, ℕ, ◌+◌, ◌-◌, ◌*◌, ◌<◌, ◌≤◌, List, [], ◌∷◌, ◌++◌, length, drop, take, set, get_or, min, Option, Some, None, refl, ap, ◌∙◌, sym, arith, append_assoc, add-one}
 use Rattle.std.specs.Prelude.{slice_get}
 use Rattle.std.specs.Option.{option_map}
-use Rattle.std.proofs.lemmas.Bool.{cases_lt}
 use Rattle.std.proofs.Math.Nat.{mul-add}
 use Rattle.std.proofs.Math.Seq.{drop-cons}
 use Rattle.std.proofs.lemmas.Grind.{take-set_at}
 use Rattle.std.proofs.lemmas.Option.{slice_get-get_or}
-use Rattle.std.proofs.lemmas.List.{take_min, take_rest, drop_all, take_all, length-take, drop-set-lt}
+use Rattle.std.proofs.lemmas.List.{take_min, take_rest, drop_all, take_all, drop-set-lt}
 use Rattle.tcmu_types.specs.ByteFields.{put}
-use Rattle.tcmu_types.proofs.ByteFields.{put-nothing, length-put}
+use Rattle.tcmu_types.proofs.ByteFields.{put-nothing}
 use Rattle.region_model.specs.Regions.{RegionState, size_of, home, overlaid, blocks_over}
 use Rattle.shm_region.proofs.Sized.{set-set}
 
@@ -28,16 +27,6 @@ pub over_before : (place at : ℕ) (bytes x : List ℕ) → length bytes ≤ pla
 unfolding overlaid
 over_before place at bytes x h =
     ap (put x (at - place)) (ap (take (length x - (at - place))) (drop_all (place - at) bytes h) ∙ take_of_none (length x - (at - place))) ∙ put-nothing x (at - place)
-
-pub length-overlaid : (place at : ℕ) (bytes x : List ℕ) → length (overlaid place at bytes x) ≡ length x
-unfolding overlaid
-length-overlaid place at bytes x =
-    ⊎_elim
-    (λ (inside : at - place < length x).
-    length-put x (at - place) (take (length x - (at - place)) (drop (place - at) bytes)) (omega (arith, length-take (length x - (at - place)) (drop (place - at) bytes))))
-    (λ (past : length x ≤ at - place).
-    ap length (ap (put x (at - place)) (take_none (drop (place - at) bytes) (length x - (at - place)) (omega arith)) ∙ put-nothing x (at - place)))
-    (cases_lt (at - place) (length x))
 
 -- what the code writes is the part that falls inside
 pub over_is : (place at start skip count : ℕ) (bytes x new : List ℕ) → start ≡ at - place → skip ≡ place - at

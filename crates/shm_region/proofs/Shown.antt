@@ -10,26 +10,12 @@ use Rattle.std.proofs.lemmas.List.{drop-drop, drop_all, drop-append-le, take-app
 use Rattle.tcmu_types.specs.declared.iovec.Iov.{Iov}
 use Rattle.tcmu_types.specs.ByteFields.{put, zeros}
 use Rattle.region_model.specs.Iovecs.{EndBelow, along, total_of}
+use Rattle.region_model.specs.Areas.{block_bytes}
 use Rattle.region_model.specs.Regions.{RegionState, IsRegion, AreSized, size_of, home, shown, bytes_of, overlaid, blocks_over, wrote, LieInRegion}
 use Rattle.tcmu_types.proofs.ByteFields.{length-zeros, put-put, length-put, take-put}
 use Rattle.iovec_scatter.proofs.Steps.{rest_of, first_part}
-use Rattle.shm_region.proofs.Over.{over_past, over_before, length-overlaid}
-
--- what a place shows
-abbrev pub place_bytes : ℕ → Option (List ℕ) → List ℕ
-place_bytes size None = zeros size
-place_bytes size (Some block) = block
-
-pub length-shown : (size : ℕ) (xs : List (Option (List ℕ))) → AreSized size xs → length (shown size xs) ≡ size * length xs
-length-shown size [] h = omega arith
-length-shown size (None ∷ xs) h = length-append (zeros size) (shown size xs) ∙ more size (length xs) _ _ (length-zeros size) (length-shown size xs h)
-  where
-    more : (s n a b : ℕ) → a ≡ s → b ≡ s * n → a + b ≡ s * suc n
-    more s n a b e f = omega (arith, e, f, mul-suc s n)
-length-shown size (Some block ∷ xs) h = length-append block (shown size xs) ∙ more size (length xs) _ _ h.0 (length-shown size xs h.1)
-  where
-    more : (s n a b : ℕ) → a ≡ s → b ≡ s * n → a + b ≡ s * suc n
-    more s n a b e f = omega (arith, e, f, mul-suc s n)
+use Rattle.shm_region.proofs.Over.{over_past, over_before}
+use Rattle.region_model.proofs.Areas.{length-block, length-overlaid, length-shown, size-home}
 
 on : {X : Type 0} (k : ℕ) (x : X) (xs : List X) → drop (k + 1) xs ≡ drop (suc k + 1) (x ∷ xs)
 on k x xs = ap (λ (n : ℕ). drop n (x ∷ xs)) (next k)
@@ -39,7 +25,7 @@ on k x xs = ap (λ (n : ℕ). drop n (x ∷ xs)) (next k)
 
 -- from byte s of block k on
 pub drop-shown : (size k s : ℕ) (xs : List (Option (List ℕ))) → AreSized size xs → k < length xs → s ≤ size
-    → drop (size * k + s) (shown size xs) ≡ drop s (place_bytes size (home (slice_get xs k))) ++ shown size (drop (k + 1) xs)
+    → drop (size * k + s) (shown size xs) ≡ drop s (block_bytes size (home (slice_get xs k))) ++ shown size (drop (k + 1) xs)
 drop-shown size k s [] h inside most = absurd (omega (arith, inside))
 drop-shown size zero s (None ∷ xs) h inside most =
     ap (λ (n : ℕ). drop n (zeros size ++ shown size xs)) (none size s) ∙ drop-append-le s (zeros size) (shown size xs) (omega (arith, most, length-zeros size))
@@ -55,7 +41,7 @@ drop-shown size (suc k) s (None ∷ xs) h inside most =
     ap (λ (n : ℕ). drop n (zeros size ++ shown size xs)) (next size k s (length (zeros size)) (length-zeros size))
     ∙ drop-append-add (zeros size) (shown size xs) (size * k + s)
     ∙ drop-shown size k s xs h (omega (arith, inside)) most
-    ∙ ap (λ (w : List (Option (List ℕ))). drop s (place_bytes size (home (slice_get xs k))) ++ shown size w) (on k None xs)
+    ∙ ap (λ (w : List (Option (List ℕ))). drop s (block_bytes size (home (slice_get xs k))) ++ shown size w) (on k None xs)
   where
     next : (a k s n : ℕ) → n ≡ a → a * suc k + s ≡ n + (a * k + s)
     next a k s n e = omega (arith, e, mul-suc a k)
@@ -63,7 +49,7 @@ drop-shown size (suc k) s (Some b ∷ xs) h inside most =
     ap (λ (n : ℕ). drop n (b ++ shown size xs)) (next size k s (length b) h.0)
     ∙ drop-append-add b (shown size xs) (size * k + s)
     ∙ drop-shown size k s xs h.1 (omega (arith, inside)) most
-    ∙ ap (λ (w : List (Option (List ℕ))). drop s (place_bytes size (home (slice_get xs k))) ++ shown size w) (on k (Some b) xs)
+    ∙ ap (λ (w : List (Option (List ℕ))). drop s (block_bytes size (home (slice_get xs k))) ++ shown size w) (on k (Some b) xs)
   where
     next : (a k s n : ℕ) → n ≡ a → a * suc k + s ≡ n + (a * k + s)
     next a k s n e = omega (arith, e, mul-suc a k)
@@ -75,7 +61,7 @@ front_chunk front area at count inside most =
     ap (take count) (drop-append-le at front area inside) ∙ take-append-le count (drop at front) area (omega (arith, most, length-drop at front))
 
 pub area_chunk : (front : List ℕ) (size at k s count : ℕ) (xs : List (Option (List ℕ))) (b : List ℕ) → AreSized size xs → k < length xs → s ≤ size → count ≤ size - s
-    → at ≡ length front + (size * k + s) → b ≡ place_bytes size (home (slice_get xs k)) → length b ≡ size
+    → at ≡ length front + (size * k + s) → b ≡ block_bytes size (home (slice_get xs k)) → length b ≡ size
     → take count (drop at (front ++ shown size xs)) ≡ take count (drop s b)
 area_chunk front size at k s count xs b sized inside most fits place is len =
     ap (λ (n : ℕ). take count (drop n (front ++ shown size xs))) place
@@ -86,20 +72,10 @@ pub zero_chunk : (size s count : ℕ) → count ≤ size - s → take count (dro
 unfolding zeros
 zero_chunk size s count fits = ap (take count) (drop-replicate s size 0) ∙ take-replicate count (size - s) 0 fits
 
-pub length-place : (size k : ℕ) (xs : List (Option (List ℕ))) → AreSized size xs → length (place_bytes size (home (slice_get xs k))) ≡ size
-length-place size k [] h = length-zeros size
-length-place size zero (None ∷ xs) h = length-zeros size
-length-place size zero (Some b ∷ xs) h = h.0
-length-place size (suc k) (None ∷ xs) h = length-place size k xs h
-length-place size (suc k) (Some b ∷ xs) h = length-place size k xs h.1
-
-pub length-home : (size k : ℕ) (xs : List (Option (List ℕ))) (b : List ℕ) → AreSized size xs → home (slice_get xs k) ≡ Some b → length b ≡ size
-length-home size k xs b h is = ap (λ (o : Option (List ℕ)). length (place_bytes size o)) (sym is) ∙ length-place size k xs h
-
 pub if_sized : (r : RegionState) (k : ℕ) (o : Option (Bor (List ℕ))) → AreSized (size_of r) r.blocks → option_map (λ b. b.now) o ≡ home (slice_get r.blocks k)
     → IfSome o (λ b. length b.now ≡ size_of r)
 if_sized r k None h is = tt
-if_sized r k (Some b) h is = length-home (size_of r) k r.blocks b.now h (sym is)
+if_sized r k (Some b) h is = size-home (size_of r) r.blocks k b.now h (sym is)
 
 -- an offset is that of its block, and what is left
 pub offset_is : (front size at : ℕ) → 0 < size → front ≤ at → at ≡ front + (size * ((at - front) / size) + (at - front) % size)
@@ -251,7 +227,7 @@ past_end front size end count past i some is le =
 -- ==== one chunk of the area
 
 chunk_here : (r : RegionState) (at count room : ℕ) (b : List ℕ) → IsRegion r.front r.blocks r.pages → length r.front ≤ at → at + room ≤ length (bytes_of r) → 0 < room
-    → count ≡ min (size_of r - (at - length r.front) % size_of r) room → b ≡ place_bytes (size_of r) (home (slice_get r.blocks ((at - length r.front) / size_of r)))
+    → count ≡ min (size_of r - (at - length r.front) % size_of r) room → b ≡ block_bytes (size_of r) (home (slice_get r.blocks ((at - length r.front) / size_of r)))
     → take count (drop at (bytes_of r)) ≡ take count (drop ((at - length r.front) % size_of r) b)
 chunk_here r at count room b h area inside some is b_is =
     let size : ℕ = size_of r in
@@ -260,22 +236,22 @@ chunk_here r at count room b h area inside some is b_is =
     area_chunk r.front size at ((at - length r.front) / size) ((at - length r.front) % size) count r.blocks b h.sized
     (block_inside r.front size at r.blocks h.sized positive area (omega (arith, inside, some)))
     (omega (arith, less)) (omega (arith, is)) (offset_is (length r.front) size at positive area) b_is
-    (ap length b_is ∙ length-place size ((at - length r.front) / size) r.blocks h.sized)
+    (ap length b_is ∙ length-block size r.blocks ((at - length r.front) / size) h.sized)
 
 pub block_chunk : (r : RegionState) (at count room d z : ℕ) (b : List ℕ) → IsRegion r.front r.blocks r.pages → d ≡ length r.front → z ≡ size_of r
     → length r.front ≤ at → at + room ≤ length (bytes_of r) → 0 < room
-    → count ≡ min (z - (at - d) % z) room → b ≡ place_bytes (size_of r) (home (slice_get r.blocks ((at - d) / z)))
+    → count ≡ min (z - (at - d) % z) room → b ≡ block_bytes (size_of r) (home (slice_get r.blocks ((at - d) / z)))
     → take count (drop at (bytes_of r)) ≡ take count (drop ((at - d) % z) b)
 block_chunk r at count room d z b h d_is z_is area inside some =
-    subst (λ (y : ℕ). count ≡ min (y - (at - d) % y) room → b ≡ place_bytes (size_of r) (home (slice_get r.blocks ((at - d) / y))) → take count (drop at (bytes_of r)) ≡ take count (drop ((at - d) % y) b)) (sym z_is)
-    (subst (λ (e : ℕ). count ≡ min (size_of r - (at - e) % size_of r) room → b ≡ place_bytes (size_of r) (home (slice_get r.blocks ((at - e) / size_of r))) → take count (drop at (bytes_of r)) ≡ take count (drop ((at - e) % size_of r) b)) (sym d_is)
+    subst (λ (y : ℕ). count ≡ min (y - (at - d) % y) room → b ≡ block_bytes (size_of r) (home (slice_get r.blocks ((at - d) / y))) → take count (drop at (bytes_of r)) ≡ take count (drop ((at - d) % y) b)) (sym z_is)
+    (subst (λ (e : ℕ). count ≡ min (size_of r - (at - e) % size_of r) room → b ≡ block_bytes (size_of r) (home (slice_get r.blocks ((at - e) / size_of r))) → take count (drop at (bytes_of r)) ≡ take count (drop ((at - e) % size_of r) b)) (sym d_is)
     (chunk_here r at count room b h area inside some))
 
-pub bytes_same : (r : RegionState) (k : ℕ) (b : List ℕ) → Some b ≡ home (slice_get r.blocks k) → b ≡ place_bytes (size_of r) (home (slice_get r.blocks k))
-bytes_same r k b h = ap (place_bytes (size_of r)) h
+pub bytes_same : (r : RegionState) (k : ℕ) (b : List ℕ) → Some b ≡ home (slice_get r.blocks k) → b ≡ block_bytes (size_of r) (home (slice_get r.blocks k))
+bytes_same r k b h = ap (block_bytes (size_of r)) h
 
-pub zeros_same : (r : RegionState) (k : ℕ) → None ≡ home (slice_get r.blocks k) → zeros (size_of r) ≡ place_bytes (size_of r) (home (slice_get r.blocks k))
-zeros_same r k h = ap (place_bytes (size_of r)) h
+pub zeros_same : (r : RegionState) (k : ℕ) → None ≡ home (slice_get r.blocks k) → zeros (size_of r) ≡ block_bytes (size_of r) (home (slice_get r.blocks k))
+zeros_same r k h = ap (block_bytes (size_of r)) h
 
 pub length-chunk : (old new bytes : List ℕ) (done count place : ℕ) → done + count ≤ length old → new ≡ put old done (take count (drop place bytes)) → length new ≡ length old
 length-chunk old new bytes done count place room is = ap length is ∙ length-put old done (take count (drop place bytes)) (omega (arith, room, length-take count (drop place bytes)))

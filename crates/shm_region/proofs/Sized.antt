@@ -4,20 +4,6 @@ use Rattle.std.specs.Prelude.{slice_get}
 use Rattle.tcmu_types.specs.ByteFields.{zeros}
 use Rattle.region_model.specs.Regions.{AreSized, IsRegion, RegionState, size_of, cleared, home}
 
-pub sized-set-none : (size k : ℕ) (xs : List (Option (List ℕ))) → AreSized size xs → AreSized size (set xs k None)
-sized-set-none size k [] h = tt
-sized-set-none size zero (None ∷ xs) h = h
-sized-set-none size zero (Some b ∷ xs) h = h.1
-sized-set-none size (suc k) (None ∷ xs) h = sized-set-none size k xs h
-sized-set-none size (suc k) (Some b ∷ xs) h = (h.0, sized-set-none size k xs h.1)
-
-pub sized-set : (size k : ℕ) (b : List ℕ) (xs : List (Option (List ℕ))) → length b ≡ size → AreSized size xs → AreSized size (set xs k (Some b))
-sized-set size k b [] len h = tt
-sized-set size zero b (None ∷ xs) len h = (len, h)
-sized-set size zero b (Some a ∷ xs) len h = (len, h.1)
-sized-set size (suc k) b (None ∷ xs) len h = sized-set size k b xs len h
-sized-set size (suc k) b (Some a ∷ xs) len h = (h.0, sized-set size k b xs len h.1)
-
 pub sized-push : (size : ℕ) (b : List ℕ) (xs : List (Option (List ℕ))) → length b ≡ size → AreSized size xs → AreSized size (xs ++ Some b ∷ [])
 sized-push size b [] len h = (len, tt)
 sized-push size b (None ∷ xs) len h = sized-push size b xs len h

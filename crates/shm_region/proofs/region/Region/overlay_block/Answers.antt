@@ -1,7 +1,8 @@
 use Rattle.std.proofs.Common.{◌≡◌, ℕ, ◌∙◌, ap, sym, length, ◌*◌, ◌+◌}
 use Rattle.region_model.specs.Regions.{size_of, RegionState, overlaid}
-use Rattle.shm_region.proofs.Over.{change_is, length-overlaid}
+use Rattle.shm_region.proofs.Over.{change_is}
 use Rattle.shm_region.proofs.region.Region.overlay_block.Goals as goal
+use Rattle.region_model.proofs.Areas.{length-overlaid}
 
 pub put_block-requires-clause-size : goal.put_block-requires-clause-size
 put_block-requires-clause-size c =

@@ -1,9 +1,10 @@
 use Rattle.std.proofs.Common.{◌≡◌, ℕ, ◌+◌, ◌-◌, ◌*◌, ◌/◌, ◌%◌, ◌<◌, ◌≤◌, ◌⊎◌, length, min, ◌∙◌, ap, sym, subst, arith}
 use Rattle.std.proofs.Math.ListN.{length-set}
 use Rattle.region_model.specs.Regions.{RegionState, size_of}
-use Rattle.shm_region.proofs.Over.{write_step, length-overlaid}
+use Rattle.shm_region.proofs.Over.{write_step}
 use Rattle.shm_region.proofs.Shown.{write_begins, write_ends, past_end}
 use Rattle.shm_region.proofs.region.Region.write_range.Goals as goal
+use Rattle.region_model.proofs.Areas.{length-overlaid}
 
 pub loop-index-init : goal.loop-index-init
 loop-index-init c =
