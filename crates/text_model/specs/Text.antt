@@ -110,12 +110,13 @@ data_fields c =
     if takes_payload c.cdb then (if length c.sent == 0 then [] else (codes "out=" ++ runs_text c.sent) ∷ [])
     else (if c.in_len == 0 then [] else (codes "in=" ++ decimal c.in_len) ∷ [])
 
+-- the one spelling of a command's fields, each behind a space
 unfoldable pub command_text : List ℕ → CommandData → List ℕ
-command_text name c = spaced (codes "submit") (name ∷ c.init ∷ decimal c.tag ∷ flat_map hex_byte c.cdb ∷ data_fields c)
+command_text name c = spaced [] (name ∷ c.init ∷ decimal c.tag ∷ flat_map hex_byte c.cdb ∷ data_fields c)
 
 -- the one spelling of an event's line
 unfoldable pub event_text : List ℕ → EventData → List ℕ
-event_text name (ev.Submit c) = command_text name c
+event_text name (ev.Submit c) = codes "submit" ++ command_text name c
 event_text name ev.Dispatch = spaced (codes "dispatch") (name ∷ [])
 event_text name (ev.Handle s) = spaced (codes "handle") (name ∷ decimal s ∷ [])
 event_text name (ev.Respond s) = spaced (codes "respond") (name ∷ decimal s ∷ [])
