@@ -11,10 +11,11 @@ use std::alloc::Global;
 use std::fs::{self, File, OpenOptions};
 use std::io;
 use std::marker::Model;
-use std::os::unix::fs::FileExt;
+use std::os::unix::fs::{FileExt, MetadataExt};
 
 /// A file of the host as a store, which contracts see as its length, its calls and its count of faults. The calls are pread,
-/// pwrite and fsync of POSIX, the first two until the whole piece is done.
+/// pwrite and fsync of POSIX, the first two until the whole piece is done. A file that was cut short since it was opened stays so: a
+/// call beyond its end fails.
 #[derive(Drop)]
 pub struct HostStore {
     file: File,
@@ -33,6 +34,11 @@ impl Model for HostStore {
 }
 
 impl HostStore {
+    /// Whether the file still has so many bytes.
+    fn reaches(&self, end: u64) -> bool {
+        self.file.metadata().is_ok_and(|it| end <= it.len())
+    }
+
     /// Counts a call that came out so.
     fn count(&mut self, outcome: io::Result<()>) -> Result<(), Failed>
         ensures kept { self.new ≡ record self.old { calls = next_call self.old.calls; faults = self.new.faults } }
@@ -72,7 +78,11 @@ impl Store for HostStore {
     }
 
     fn write_at(&mut self, at: u64, piece: &[u8]) -> Result<(), Failed> {
-        let outcome = self.file.write_all_at(piece, at);
+        let outcome = if self.reaches(at.saturating_add(piece.len() as u64)) {
+            self.file.write_all_at(piece, at)
+        } else {
+            Err(io::Error::from(io::ErrorKind::UnexpectedEof))
+        };
         self.count(outcome)
     }
 
@@ -84,7 +94,8 @@ impl Store for HostStore {
 }
 
 /// The host's files by their names, which contracts see as the count of faults. A directory and a file without the right to read
-/// or to write are faults like a missing one. No names are kept, so a file that is out can be fetched once more.
+/// or to write are faults like a missing one, and so is the file that standard output goes to. A file that is out is locked, so it is
+/// out under its other names too, and for other runs.
 #[derive(Drop)]
 pub struct HostFiles<R: fs::Files<File = File> + Drop> {
     runtime: R,
@@ -99,20 +110,31 @@ impl<R: fs::Files<File = File> + Drop> Model for HostFiles<R> {
     ghost view = { λ f. f.faults };
 }
 
-/// Opens a file for reading and writing, and tells its length.
+/// Whether standard output goes to this file.
+fn takes_output<R: fs::Files<File = File>>(runtime: &R, file: &fs::Metadata) -> bool {
+    match fs::metadata(runtime, "/dev/stdout") {
+        Ok(output) => output.dev() == file.dev() && output.ino() == file.ino(),
+        Err(_) => false,
+    }
+}
+
+/// Opens a file for reading and writing, locks it until it is closed (flock of Linux), and tells its length. What is no file is not
+/// opened: the open of a device node may wait, or set off something.
 fn open<R: fs::Files<File = File>>(runtime: &R, name: &[u8]) -> Option<(File, u64)> {
     let path = str::from_utf8(name).ok()?;
+    if !fs::metadata(runtime, path).ok()?.is_file() {
+        return None;
+    }
     let file = OpenOptions::new()
         .read(true)
         .write(true)
         .open(runtime, path)
         .ok()?;
     let metadata = file.metadata().ok()?;
-    if metadata.is_file() {
-        Some((file, metadata.len()))
-    } else {
-        None
+    if takes_output(runtime, &metadata) || file.try_lock().is_err() {
+        return None;
     }
+    Some((file, metadata.len()))
 }
 
 impl<R: fs::Files<File = File> + Drop> HostFiles<R> {
