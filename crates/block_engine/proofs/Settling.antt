@@ -1,27 +1,39 @@
--- What each part of a request's meaning settles: it has an outcome; under a premise it has only one; and as much is told of the
--- medium after it as before.
-use Rattle.std.proofs.Common.{◌∙◌, ◌≡◌, ◌⊎◌, inl, inr, ℕ, zero, suc, ◌+◌, ◌*◌, ◌<◌, ◌≤◌, ◌==◌, min, Bool, true, false, List, [], ◌∷◌, length, take, drop, sym, ap, subst, refl, arith, Option, Some, None, IfSome, is_some, MatchOption, Result, Ok, Err, MatchResult, slice_index, nat_eq, nat_lt, not, if◌then◌else◌, ⊎_elim}
+-- What each part of a request's meaning settles: it has an outcome; under a premise it has only one; and it leaves the medium behind a run
+-- of calls.
+use Rattle.std.proofs.Common.{◌∙◌, ◌≡◌, ◌⊎◌, inl, inr, ℕ, zero, suc, ◌+◌, ◌*◌, ◌%◌, ◌<◌, ◌≤◌, ◌==◌, min, Bool, true, false, List, [], ◌∷◌, length, take, drop, sym, ap, subst, refl, arith, Option, Some, None, IfSome, is_some, MatchOption, Result, Ok, Err, MatchResult, slice_index, nat_eq, nat_lt, not, if◌then◌else◌, ⊎_elim}
 use Rattle.std.specs.Bool.{MatchBool}
-use Rattle.std.specs.List.{list_all}
-use Rattle.std.proofs.lemmas.List.{length-take}
+use Rattle.std.specs.List.{list_all, list_any}
+use Rattle.std.proofs.lemmas.List.{length-take, length-drop, length-replicate}
 use Rattle.std.specs.Cmp.Lexicographic.{pointwise}
-use Rattle.std.proofs.lemmas.Bool.{cases_lt, and_parts}
+use Rattle.std.proofs.lemmas.Bool.{cases_Bool, cases_lt, and_parts, or_parts, eqb-true}
 use Rattle.std.proofs.lemmas.Option.{slice_get_past}
 use Rattle.tcmu_types.specs.Data.{SenseData, ReplyData}
 use Rattle.tcmu_types.specs.Rules.{IsReply}
 use Rattle.tcmu_types.proofs.Places.{same_list, get_from_index}
-use Rattle.tcmu_model.specs.MediumState.{memory, file, Below, MediumState}
-use Rattle.scsi_model.specs.Medium.{lies_in, MatchesTold, Reads, Writes, Fills, Syncs, zeros, empty_span, memory_state}
+use Rattle.tcmu_model.specs.MediumState.{Span, memory, file, Below, MediumState}
+use Rattle.scsi_model.specs.Medium.{span_of, lies_in, MatchesTold, Reads, Writes, Fills, Syncs, zeros, empty_span, memory_state}
+use Rattle.scsi_model.specs.Runs.{read, write, fill, sync, IsRun, clean}
+use Rattle.scsi_model.specs.ReadsLost.{span_behind, span_looked_at, span_asked_for, overlap}
+use Rattle.scsi_model.proofs.Running.{run_none, run_then, runs_keep}
+use Rattle.scsi_model.proofs.Lossless.{runs_stay_lossless}
+use Rattle.scsi_model.proofs.Decided.{true_false}
 use Rattle.scsi_model.specs.Decoding.{decoded}
-use Rattle.tcmu_model.specs.Steps.{Asked}
-use Rattle.scsi_model.specs.Scsi.{Outcome, Answers, Either, Check, check, first_failed, Checked, Calls, range_checks, write_checks, list_checks, good, refused, unrecovered_read_error, write_error, miscompare, invalid_field_in_cdb, ReadsSome, ReadsBytes, WritesBytes, ComparesBytes, ComparesBlocks, Compared, UnmapsOne, Unmaps, UnmapsList, cut, extents_of, ServesOp, Serves, fault_sense}
+use Rattle.scsi_model.specs.Scsi.{Outcome, Answers, Either, Check, check, first_failed, Checked, Calls, range_checks, write_checks, list_checks, good, refused, ReadsSome, ReadsBytes, WritesBytes, ComparesBytes, ComparesBlocks, Compared, UnmapsOne, Unmaps, UnmapsList, cut, extents_of, is_beyond, is_bad_list, ServesOp, fault_sense}
+use Rattle.scsi_model.specs.Senses.{unrecovered_read_error, write_error, parameter_list_length_error, logical_block_address_out_of_range, invalid_field_in_cdb, invalid_field_in_parameter_list, write_protected, miscompare_during_verify_operation}
 use Rattle.scsi_model.specs.declared.op.Extent.{Extent}
 use Rattle.scsi_model.specs.declared.op.Op.{Op}
 use Rattle.scsi_model.specs.declared.op.Op.TheVariants as op
 use Rattle.scsi_model.specs.declared.op.CdbFault.{CdbFault}
 use Rattle.scsi_model.specs.declared.op.CdbFault.TheVariants as fault
-use Rattle.block_engine.specs.Determined.{IsTold, SeesRange, SeesOp, Sees, SomeReply, WholeReply, OneReply, StaysTold, OneReplyInMemory, StaysInMemory, LosesNothing, OneReplyWithoutLoss, StaysInFile}
-use Rattle.block_engine.proofs.Deciding.{true_false, SameTold, same_told, same_told_then, TellsFails, tells_after, IsSure, reads_sure, writes_sure, fills_sure, syncs_sure}
+use Rattle.block_engine.specs.Determined.{IsTold, SomeReply, WholeReply, OneReply, StaysTold, ReadsNothingLost, OneReplyInMemory, StaysInMemory, OneReplyWithoutLoss, RequestRuns}
+use Rattle.block_engine.proofs.Deciding.{TellsFails, IsSure, reads_sure, writes_sure, fills_sure, syncs_sure, call_runs}
+
+-- a run keeps the number of blocks, and the failing calls told
+blocks_after : (m a : MediumState) → IsRun m a → a.blocks ≡ m.blocks
+blocks_after m a r = (runs_keep m a r).blocks
+
+tells_after : (m a : MediumState) → IsRun m a → TellsFails m → TellsFails a
+tells_after m a r t = let s = runs_keep m a r in record { own = ap is_some s.own_fails ∙ t.own; store = ap is_some s.store_fails ∙ t.store }
 
 -- ==== UNMAP
 
@@ -29,22 +41,25 @@ unmaps_one_sure : (e : Extent) (m : MediumState) → IsSure m (UnmapsOne e m)
 unmaps_one_sure e m = by (e.count == 0)
   where
     by : (c : Bool) → IsSure m (λ failed after. MatchBool c ((failed ≡ false) × (after ≡ m)) (Fills (512 * e.lba) (zeros 512) e.count m failed after))
-    by true = record {
-      some = (false, m, (refl, refl));
-      one = λ f g a b t x y. (x.0 ∙ sym y.0, x.1 ∙ sym y.1);
-      same = λ f a x. subst (SameTold m) (sym x.1) (same_told m);
-    }
-    by false = let s = fills_sure (512 * e.lba) (zeros 512) e.count m in record { some = s.some; one = s.one; same = s.same }
+    by true = record { some = (false, m, (refl, refl)); one = λ f g a b t x y. (x.0 ∙ sym y.0, x.1 ∙ sym y.1) }
+    by false = let s = fills_sure (512 * e.lba) (zeros 512) e.count m in record { some = s.some; one = s.one }
+
+unmaps_one_runs : (e : Extent) (m : MediumState) (f : Bool) (a : MediumState) → e.lba + e.count ≤ m.blocks → UnmapsOne e m f a → IsRun m a
+unmaps_one_runs e m f a fits x = by (e.count == 0) x
+  where
+    by : (c : Bool) → MatchBool c ((f ≡ false) × (a ≡ m)) (Fills (512 * e.lba) (zeros 512) e.count m f a) → IsRun m a
+    by true x = subst (IsRun m) (sym x.1) (run_none m)
+    by false x = call_runs (fill (512 * e.lba) (zeros 512) e.count) m f a (omega (arith, fits), omega arith, length-replicate {A = ℕ} 512 0) x
 
 -- one descriptor, and those behind it
-unmaps_more : (e : Extent) (rest : List Extent) (m : MediumState) → ((k : MediumState) → IsSure k (Unmaps rest k)) → IsSure m (Unmaps (e ∷ rest) m)
-unmaps_more e rest m others = record { some = some; one = one; same = same }
+unmaps_more : (e : Extent) (rest : List Extent) (m : MediumState) → e.lba + e.count ≤ m.blocks → ((k : MediumState) → k.blocks ≡ m.blocks → IsSure k (Unmaps rest k)) → IsSure m (Unmaps (e ∷ rest) m)
+unmaps_more e rest m fits others = record { some = some; one = one }
   where
     first : IsSure m (UnmapsOne e m)
     first = unmaps_one_sure e m
 
     some : (f : Bool) × (a : MediumState) × Unmaps (e ∷ rest) m f a
-    some = let x = first.some in by x.0 x.1 x.2 ((others x.1).some)
+    some = let x = first.some in by x.0 x.1 x.2 ((others x.1 (blocks_after m x.1 (unmaps_one_runs e m x.0 x.1 fits x.2))).some)
       where
         by : (broke : Bool) (k : MediumState) → UnmapsOne e m broke k → ((f : Bool) × (a : MediumState) × Unmaps rest k f a) → (f : Bool) × (a : MediumState) × Unmaps (e ∷ rest) m f a
         by true k x more = (true, k, (true, k, x, (refl, refl)))
@@ -55,27 +70,34 @@ unmaps_more e rest m others = record { some = some; one = one; same = same }
         let h = first.one x.0 y.0 x.1 y.1 t x.2 y.2 in
         let P : Bool → MediumState → Type 0 = λ broke k. MatchBool broke ((g ≡ true) × (b ≡ k)) (Unmaps rest k g b) in
         let z : P x.0 x.1 = subst (P x.0) (sym h.1) (subst (λ broke. P broke y.1) (sym h.0) y.3) in
-        by x.0 x.1 ((others x.1).one f g a b (tells_after m x.1 (first.same x.0 x.1 x.2) t)) x.3 z
+        let run = unmaps_one_runs e m x.0 x.1 fits x.2 in
+        by x.0 x.1 ((others x.1 (blocks_after m x.1 run)).one f g a b (tells_after m x.1 run t)) x.3 z
       where
         by : (broke : Bool) (k : MediumState) → (Unmaps rest k f a → Unmaps rest k g b → (f ≡ g) × (a ≡ b)) → MatchBool broke ((f ≡ true) × (a ≡ k)) (Unmaps rest k f a)
             → MatchBool broke ((g ≡ true) × (b ≡ k)) (Unmaps rest k g b) → (f ≡ g) × (a ≡ b)
         by true k more u v = (u.0 ∙ sym v.0, u.1 ∙ sym v.1)
         by false k more u v = more u v
 
-    same : (f : Bool) (a : MediumState) → Unmaps (e ∷ rest) m f a → SameTold m a
-    same f a x = same_told_then m x.1 a (first.same x.0 x.1 x.2) (by x.0 x.1 ((others x.1).same f a) x.3)
-      where
-        by : (broke : Bool) (k : MediumState) → (Unmaps rest k f a → SameTold k a) → MatchBool broke ((f ≡ true) × (a ≡ k)) (Unmaps rest k f a) → SameTold k a
-        by true k more u = subst (SameTold k) (sym u.1) (same_told k)
-        by false k more u = more u
+-- the first of some ranges, and those behind it, that lie in so many blocks
+lie_in : (e : Extent) (rest : List Extent) (blocks : ℕ) → list_any (is_beyond blocks) (e ∷ rest) ≡ false → (e.lba + e.count ≤ blocks) × (list_any (is_beyond blocks) rest ≡ false)
+lie_in e rest blocks h = let x = or_parts (is_beyond blocks e) (list_any (is_beyond blocks) rest) h in (grind (arith, x.0), x.1)
 
-unmaps_sure : (es : List Extent) (m : MediumState) → IsSure m (Unmaps es m)
-unmaps_sure [] m = record {
-  some = (false, m, (refl, refl));
-  one = λ f g a b t x y. (x.0 ∙ sym y.0, x.1 ∙ sym y.1);
-  same = λ f a x. subst (SameTold m) (sym x.1) (same_told m);
-}
-unmaps_sure (e ∷ rest) m = unmaps_more e rest m (λ k. unmaps_sure rest k)
+unmaps_sure : (es : List Extent) (m : MediumState) → list_any (is_beyond m.blocks) es ≡ false → IsSure m (Unmaps es m)
+unmaps_sure [] m h = record { some = (false, m, (refl, refl)); one = λ f g a b t x y. (x.0 ∙ sym y.0, x.1 ∙ sym y.1) }
+unmaps_sure (e ∷ rest) m h =
+    let x = lie_in e rest m.blocks h in
+    unmaps_more e rest m x.0 (λ k same. unmaps_sure rest k (rw same (x.1)))
+
+unmaps_run : (es : List Extent) (m : MediumState) (f : Bool) (a : MediumState) → list_any (is_beyond m.blocks) es ≡ false → Unmaps es m f a → IsRun m a
+unmaps_run [] m f a h x = subst (IsRun m) (sym x.1) (run_none m)
+unmaps_run (e ∷ rest) m f a h x =
+    let in_range = lie_in e rest m.blocks h in
+    let first = unmaps_one_runs e m x.0 x.1 in_range.0 x.2 in
+    run_then m x.1 a first (by x.0 x.1 x.3 (λ y. unmaps_run rest x.1 f a (rw (blocks_after m x.1 first) (in_range.1)) y))
+  where
+    by : (broke : Bool) (k : MediumState) → MatchBool broke ((f ≡ true) × (a ≡ k)) (Unmaps rest k f a) → (Unmaps rest k f a → IsRun k a) → IsRun k a
+    by true k u more = subst (IsRun k) (sym u.1) (run_none k)
+    by false k u more = more u
 
 -- ==== outcomes
 
@@ -94,14 +116,14 @@ refused_fits n s h = record { reply = record { byte = omega arith; sense = refl;
 record Settles (P : Type 0) (n : ℕ) (m : MediumState) (E : Outcome) : Type 0 where
   pub some : (r : ReplyData) × (a : MediumState) × E r a
   pub one : P → (r s : ReplyData) (a b : MediumState) → E r a → E s b → (r ≡ s) × (a ≡ b)
-  pub same : (r : ReplyData) (a : MediumState) → E r a → SameTold m a
+  pub run : (r : ReplyData) (a : MediumState) → E r a → IsRun m a
   pub fits : (r : ReplyData) (a : MediumState) → E r a → Fits n r
 
 answers_settle : (P : Type 0) (n : ℕ) (m : MediumState) (given : ReplyData) → Fits n given → Settles P n m (Answers m given)
 answers_settle P n m given f = record {
   some = (given, m, (refl, refl));
   one = λ p r s a b x y. (x.0 ∙ sym y.0, x.1 ∙ sym y.1);
-  same = λ r a x. subst (SameTold m) (sym x.1) (same_told m);
+  run = λ r a x. subst (IsRun m) (sym x.1) (run_none m);
   fits = λ r a x. subst (Fits n) (sym x.0) f;
 }
 
@@ -112,9 +134,10 @@ empty_settles P n m = answers_settle P n m (good []) (good_fits n [] (omega arit
 refused_settles : (P : Type 0) (n : ℕ) (m : MediumState) (s : SenseData) → s.key < 16 → Settles P n m (Answers m (refused s))
 refused_settles P n m s h = answers_settle P n m (refused s) (refused_fits n s h)
 
-either_settles : (P : Type 0) (n : ℕ) (m : MediumState) (test : Bool) (E F : Outcome) → Settles P n m E → Settles P n m F → Settles P n m (Either test E F)
-either_settles P n m true E F e f = record { some = e.some; one = e.one; same = e.same; fits = e.fits }
-either_settles P n m false E F e f = record { some = f.some; one = f.one; same = f.same; fits = f.fits }
+either_settles : (P : Type 0) (n : ℕ) (m : MediumState) (test : Bool) (E F : Outcome) → (test ≡ true → Settles P n m E) → (test ≡ false → Settles P n m F)
+    → Settles P n m (Either test E F)
+either_settles P n m true E F e f = let x = e refl in record { some = x.some; one = x.one; run = x.run; fits = x.fits }
+either_settles P n m false E F e f = let x = f refl in record { some = x.some; one = x.one; run = x.run; fits = x.fits }
 
 -- the keys of these checks
 abbrev has_keys : List Check → Bool
@@ -128,13 +151,35 @@ failed_key (c ∷ rest) h = by c.fails (and_parts _ _ h).0 (failed_key rest (and
     by true k more = grind (arith, k)
     by false k more = more
 
-checked_settles : (P : Type 0) (n : ℕ) (m : MediumState) (checks : List Check) (Rest : Outcome) → has_keys checks ≡ true → Settles P n m Rest
-    → Settles P n m (Checked m checks Rest)
-checked_settles P n m checks Rest keys rest = by (first_failed checks) (failed_key checks keys)
+checked_settles : (P : Type 0) (n : ℕ) (m : MediumState) (checks : List Check) (Rest : Outcome) → has_keys checks ≡ true
+    → (first_failed checks ≡ None → Settles P n m Rest) → Settles P n m (Checked m checks Rest)
+checked_settles P n m checks Rest keys rest = by (first_failed checks) refl (failed_key checks keys)
   where
-    by : (o : Option SenseData) → IfSome o (λ s. s.key < 16) → Settles P n m (λ r a. MatchOption o (Rest r a) (λ s. Answers m (refused s) r a))
-    by None k = record { some = rest.some; one = rest.one; same = rest.same; fits = rest.fits }
-    by (Some s) k = let x = refused_settles P n m s k in record { some = x.some; one = x.one; same = x.same; fits = x.fits }
+    by : (o : Option SenseData) → first_failed checks ≡ o → IfSome o (λ s. s.key < 16) → Settles P n m (λ r a. MatchOption o (Rest r a) (λ s. Answers m (refused s) r a))
+    by None e k = let x = rest e in record { some = x.some; one = x.one; run = x.run; fits = x.fits }
+    by (Some s) e k = let x = refused_settles P n m s k in record { some = x.some; one = x.one; run = x.run; fits = x.fits }
+
+-- the first check does not fail, and those behind it do not
+passes : (c : Check) (rest : List Check) → first_failed (c ∷ rest) ≡ None → (c.fails ≡ false) × (first_failed rest ≡ None)
+passes c rest h = by c.fails h
+  where
+    by : (b : Bool) → (if b then Some c.sense else first_failed rest) ≡ None → (b ≡ false) × (first_failed rest ≡ None)
+    by true e = absurd (cc)
+    by false e = (refl, e)
+
+range_passes : (blocks lba count : ℕ) → first_failed (range_checks blocks lba count) ≡ None → lba + count ≤ blocks
+range_passes blocks lba count h =
+    let x = (passes (check (nat_lt blocks (lba + count)) logical_block_address_out_of_range) [] h).0 in grind (arith, x)
+
+write_passes : (m : MediumState) (sent : List ℕ) (bytes lba count : ℕ) → first_failed (write_checks m sent bytes lba count) ≡ None → (length sent ≡ bytes) × (lba + count ≤ m.blocks)
+write_passes m sent bytes lba count h =
+    let long = passes (check (not (length sent == bytes)) invalid_field_in_cdb) (check m.protected write_protected ∷ range_checks m.blocks lba count) h in
+    let writable = passes (check m.protected write_protected) (range_checks m.blocks lba count) long.1 in
+    (eqb-true (length sent) bytes (of_not (length sent == bytes) long.0), range_passes m.blocks lba count writable.1)
+  where
+    of_not : (b : Bool) → not b ≡ false → b ≡ true
+    of_not true e = refl
+    of_not false e = absurd (cc)
 
 -- a reply behind a call
 call_fits : (n : ℕ) (t : SenseData) (payload : List ℕ) (failed : Bool) → t.key < 16 → length payload ≤ n → Fits n (if failed then refused t else good payload)
@@ -142,12 +187,12 @@ call_fits n t payload true k h = refused_fits n t k
 call_fits n t payload false k h = good_fits n payload h
 
 calls_settle : (P : Type 0) (n : ℕ) (m : MediumState) (C : Bool → MediumState → Type 0) → (P → TellsFails m) → IsSure m C
-    → Settles P n m (Calls C write_error [])
-calls_settle P n m C tells c = record {
+    → ((f : Bool) (a : MediumState) → C f a → IsRun m a) → Settles P n m (Calls C write_error [])
+calls_settle P n m C tells c run = record {
   some = let x = c.some in ((if x.0 then refused write_error else good []), x.1, (x.0, x.2, refl));
   one = λ p r s a b x y.
       let e = c.one x.0 y.0 a b (tells p) x.1 y.1 in (x.2 ∙ ap (λ f. if f then refused write_error else good []) e.0 ∙ sym y.2, e.1);
-  same = λ r a x. c.same x.0 a x.1;
+  run = λ r a x. run x.0 a x.1;
   fits = λ r a x. subst (Fits n) (sym x.2) (call_fits n write_error [] x.0 (omega arith) (omega arith));
 }
 
@@ -172,6 +217,10 @@ told_some b at n = by b.bytes
     by : (o : Option (List ℕ)) → (out : List ℕ) × (length out ≡ n) × IfSome o (λ bytes. (i : ℕ) → i < length out → lies_in b.lost (at + i) ≡ false → slice_index out i ≡ slice_index bytes (at + i))
     by None = (numbers at n [], length_numbers at n [], tt)
     by (Some xs) = (numbers at n xs, length_numbers at n xs, λ i h _. numbers_at at n i xs (rw (← length_numbers at n xs) h))
+
+-- no byte of the range is lost
+abbrev SeesRange : MediumState → ℕ → ℕ → Type 0
+SeesRange m at n = (i : ℕ) → i < n → lies_in m.below.lost (at + i) ≡ false
 
 -- the bytes that are read are determined, where none is lost
 told_one : (m : MediumState) (at n : ℕ) (out ys : List ℕ) → is_some m.below.bytes ≡ true → length out ≡ n → length ys ≡ n → SeesRange m at n
@@ -199,11 +248,11 @@ record IsSeen (m : MediumState) (at n : ℕ) : Type 0 where
 tells_fails : (m : MediumState) → IsTold m → TellsFails m
 tells_fails m t = record { own = t.own; store = t.store }
 
-read_calls : (m : MediumState) (at n in_len : ℕ) → n ≤ in_len → Settles (IsSeen m at n) in_len m (ReadsSome m at n)
-read_calls m at n in_len h = record {
+read_calls : (m : MediumState) (at n in_len : ℕ) → n ≤ in_len → at + n ≤ 512 * m.blocks → Settles (IsSeen m at n) in_len m (ReadsSome m at n)
+read_calls m at n in_len h fits = record {
   some = some;
   one = one;
-  same = λ r a x. (reads_sure m).same x.2.0 a x.2.1.made;
+  run = λ r a x. call_runs (read at x.0) m x.2.0 a (rw x.1 fits) x.2.1;
   fits = λ r a x. subst (Fits in_len) (sym x.2.2) (call_fits in_len unrecovered_read_error x.0 x.2.0 (omega arith) (rw x.1 h));
 }
   where
@@ -225,69 +274,94 @@ read_calls m at n in_len h = record {
         let z : Reads at y.0 m x.2.0 b = subst (λ f. Reads at y.0 m f b) (sym e.0) y.2.1 in
         (x.2.2 ∙ good_one x.2.0 x.0 y.0 a b p x.1 y.1 x.2.1 z ∙ ap (λ f. if f then refused unrecovered_read_error else good y.0) e.0 ∙ sym y.2.2, e.1)
 
-reads_settle : (m : MediumState) (at n in_len : ℕ) → n ≤ in_len → Settles (IsSeen m at n) in_len m (ReadsBytes m at n)
-reads_settle m at n in_len h =
+reads_settle : (m : MediumState) (at n in_len : ℕ) → n ≤ in_len → at + n ≤ 512 * m.blocks → Settles (IsSeen m at n) in_len m (ReadsBytes m at n)
+reads_settle m at n in_len h fits =
     let P = IsSeen m at n in
-    either_settles P in_len m (n == 0) (Answers m (good [])) (ReadsSome m at n) (empty_settles P in_len m) (read_calls m at n in_len h)
+    either_settles P in_len m (n == 0) (Answers m (good [])) (ReadsSome m at n) (λ e. empty_settles P in_len m) (λ e. read_calls m at n in_len h fits)
 
-compared_settles : (m : MediumState) (at n in_len : ℕ) (sent out : List ℕ) → Settles (TellsFails m) in_len m (Compared m at n sent out)
-compared_settles m at n in_len sent out =
+compared_settles : (m : MediumState) (at n in_len : ℕ) (sent out : List ℕ) → at % 512 ≡ 0 → n % 512 ≡ 0 → at + n ≤ 512 * m.blocks → length sent ≡ 2 * n
+    → Settles (TellsFails m) in_len m (Compared m at n sent out)
+compared_settles m at n in_len sent out start whole fits long =
     let P = TellsFails m in
-    either_settles P in_len m (pointwise nat_eq out (take n sent)) (Calls (Writes at (drop n sent) m) write_error []) (Answers m (refused miscompare))
-    (calls_settle P in_len m (Writes at (drop n sent) m) (λ p. p) (writes_sure at (drop n sent) m)) (refused_settles P in_len m miscompare (omega arith))
+    let half : length (drop n sent) ≡ n = grind (arith, length-drop, long) in
+    either_settles P in_len m (pointwise nat_eq out (take n sent)) (Calls (Writes at (drop n sent) m) write_error []) (Answers m (refused miscompare_during_verify_operation))
+    (λ e. calls_settle P in_len m (Writes at (drop n sent) m) (λ p. p) (writes_sure at (drop n sent) m)
+    (λ f a x. call_runs (write at (drop n sent)) m f a (rw half fits, start, rw half whole) x))
+    (λ e. refused_settles P in_len m miscompare_during_verify_operation (omega arith))
 
 -- what stands behind the read of a comparison
 abbrev Behind : MediumState → ℕ → ℕ → List ℕ → List ℕ → Bool → Outcome
 Behind k at n sent out failed = Either failed (Answers k (refused unrecovered_read_error)) (Compared k at n sent out)
 
-behind_settles : (k : MediumState) (at n in_len : ℕ) (sent out : List ℕ) (failed : Bool) → Settles (TellsFails k) in_len k (Behind k at n sent out failed)
-behind_settles k at n in_len sent out failed =
+behind_settles : (k : MediumState) (at n in_len : ℕ) (sent out : List ℕ) (failed : Bool) → at % 512 ≡ 0 → n % 512 ≡ 0 → at + n ≤ 512 * k.blocks → length sent ≡ 2 * n
+    → Settles (TellsFails k) in_len k (Behind k at n sent out failed)
+behind_settles k at n in_len sent out failed start whole fits long =
     either_settles (TellsFails k) in_len k failed (Answers k (refused unrecovered_read_error)) (Compared k at n sent out)
-    (refused_settles (TellsFails k) in_len k unrecovered_read_error (omega arith)) (compared_settles k at n in_len sent out)
+    (λ e. refused_settles (TellsFails k) in_len k unrecovered_read_error (omega arith)) (λ e. compared_settles k at n in_len sent out start whole fits long)
 
-compares_settle : (m : MediumState) (at n in_len : ℕ) (sent : List ℕ) → Settles (IsSeen m at n) in_len m (ComparesBytes m at n sent)
-compares_settle m at n in_len sent = record {
+compares_settle : (m : MediumState) (at n in_len : ℕ) (sent : List ℕ) → at % 512 ≡ 0 → n % 512 ≡ 0 → at + n ≤ 512 * m.blocks → length sent ≡ 2 * n
+    → Settles (IsSeen m at n) in_len m (ComparesBytes m at n sent)
+compares_settle m at n in_len sent start whole fits long = record {
   some = some;
   one = one;
-  same = same;
-  fits = λ r a x. (behind_settles x.3 at n in_len sent x.0 x.2).fits r a x.5;
+  run = run;
+  fits = λ r a x. (behind x.3 (read_run x.0 x.2 x.3 x.1 x.4) x.0 x.2).fits r a x.5;
 }
   where
+    read_run : (out : List ℕ) (f : Bool) (k : MediumState) → length out ≡ n → Reads at out m f k → IsRun m k
+    read_run out f k l x = call_runs (read at out) m f k (rw l fits) x
+
+    behind : (k : MediumState) → IsRun m k → (out : List ℕ) (f : Bool) → Settles (TellsFails k) in_len k (Behind k at n sent out f)
+    behind k r out f = behind_settles k at n in_len sent out f start whole (rw (blocks_after m k r) fits) long
+
     some : (r : ReplyData) × (a : MediumState) × ComparesBytes m at n sent r a
     some =
         let g = told_some m.below at n in
         let x = (reads_sure m).some in
-        let e = (behind_settles x.1 at n in_len sent g.0 x.0).some in
-        (e.0, e.1, (g.0, g.1, x.0, x.1, record { made = x.2; told = λ _. g.2 }, e.2))
+        let reads : Reads at g.0 m x.0 x.1 = record { made = x.2; told = λ _. g.2 } in
+        let e = (behind x.1 (read_run g.0 x.0 x.1 g.1 reads) g.0 x.0).some in
+        (e.0, e.1, (g.0, g.1, x.0, x.1, reads, e.2))
 
-    same : (r : ReplyData) (a : MediumState) → ComparesBytes m at n sent r a → SameTold m a
-    same r a x = same_told_then m x.3 a ((reads_sure m).same x.2 x.3 x.4.made) ((behind_settles x.3 at n in_len sent x.0 x.2).same r a x.5)
+    run : (r : ReplyData) (a : MediumState) → ComparesBytes m at n sent r a → IsRun m a
+    run r a x = let first = read_run x.0 x.2 x.3 x.1 x.4 in run_then m x.3 a first ((behind x.3 first x.0 x.2).run r a x.5)
 
     one : IsSeen m at n → (r s : ReplyData) (a b : MediumState) → ComparesBytes m at n sent r a → ComparesBytes m at n sent s b → (r ≡ s) × (a ≡ b)
     one p r s a b x y =
         let e = (reads_sure m).one x.2 y.2 x.3 y.3 (tells_fails m p.told) x.4.made y.4.made in
         let P : Bool → MediumState → Type 0 = λ f k. Reads at y.0 m f k × Behind k at n sent y.0 f s b in
         let z : P x.2 x.3 = subst (P x.2) (sym e.1) (subst (λ f. P f y.3) (sym e.0) (y.4, y.5)) in
-        by x.2 x.3 (tells_after m x.3 ((reads_sure m).same x.2 x.3 x.4.made) (tells_fails m p.told)) x.4 z.0 x.5 z.1
+        let first = read_run x.0 x.2 x.3 x.1 x.4 in
+        by x.2 x.3 first (tells_after m x.3 first (tells_fails m p.told)) x.4 z.0 x.5 z.1
       where
-        by : (f : Bool) (k : MediumState) → TellsFails k → Reads at x.0 m f k → Reads at y.0 m f k → Behind k at n sent x.0 f r a → Behind k at n sent y.0 f s b
+        by : (f : Bool) (k : MediumState) → IsRun m k → TellsFails k → Reads at x.0 m f k → Reads at y.0 m f k → Behind k at n sent x.0 f r a → Behind k at n sent y.0 f s b
             → (r ≡ s) × (a ≡ b)
-        by true k t u v d h = (d.0 ∙ sym h.0, d.1 ∙ sym h.1)
-        by false k t u v d h =
+        by true k q t u v d h = (d.0 ∙ sym h.0, d.1 ∙ sym h.1)
+        by false k q t u v d h =
             let o : x.0 ≡ y.0 = told_one m at n x.0 y.0 p.told.bytes x.1 y.1 p.sees (u.told refl) (v.told refl) in
-            (compared_settles k at n in_len sent y.0).one t r s a b (subst (λ ys. Compared k at n sent ys r a) o d) h
+            (compared_settles k at n in_len sent y.0 start whole (rw (blocks_after m k q) fits) long).one t r s a b (subst (λ ys. Compared k at n sent ys r a) o d) h
 
 -- ==== each operation
 
-record IsKnown (m : MediumState) (in_len : ℕ) (o : Op) : Type 0 where
+record IsKnown (m : MediumState) (sent : List ℕ) (in_len : ℕ) (o : Op) : Type 0 where
   pub told : IsTold m
-  pub sees : SeesOp m in_len o
+  pub sees : overlap (span_looked_at m sent in_len o) m.below.lost ≡ false
 
-known_fails : (m : MediumState) (in_len : ℕ) (o : Op) → IsKnown m in_len o → TellsFails m
-known_fails m in_len o k = tells_fails m k.told
+known_fails : (m : MediumState) (sent : List ℕ) (in_len : ℕ) (o : Op) → IsKnown m sent in_len o → TellsFails m
+known_fails m sent in_len o k = tells_fails m k.told
+
+-- a range that has no place with the lost one, behind checks that do not fail
+sees_range : (m : MediumState) (at n : ℕ) → overlap (span_of at n) m.below.lost ≡ false → SeesRange m at n
+sees_range m at n h i less = ⊎_elim
+    (λ (e : lies_in m.below.lost (at + i) ≡ true). absurd (let t : overlap (span_of at n) m.below.lost ≡ true = grind (arith, e, less) in let f : true ≡ false = sym t ∙ h in cc))
+    (λ (e : lies_in m.below.lost (at + i) ≡ false). e)
+    (cases_Bool (lies_in m.below.lost (at + i)))
+
+seen_behind : (m : MediumState) (checks : List Check) (at n : ℕ) → IsTold m → overlap (span_behind checks at n) m.below.lost ≡ false → first_failed checks ≡ None → IsSeen m at n
+seen_behind m checks at n told h e =
+    record { told = told; sees = sees_range m at n (subst (λ (o : Option SenseData). overlap (if is_some o then empty_span else span_of at n) m.below.lost ≡ false) e h) }
 
 under : (P Q : Type 0) (n : ℕ) (m : MediumState) (E : Outcome) → (Q → P) → Settles P n m E → Settles Q n m E
-under P Q n m E f s = record { some = s.some; one = λ q. s.one (f q); same = s.same; fits = s.fits }
+under P Q n m E f s = record { some = s.some; one = λ q. s.one (f q); run = s.run; fits = s.fits }
 
 -- an answer that is cut
 cut_fits : (limit n : ℕ) (bytes : List ℕ) → Fits n (good (cut limit n bytes))
@@ -296,39 +370,62 @@ cut_fits limit n bytes = good_fits n (take n (take limit bytes)) (grind (arith, 
 take_fits : (n : ℕ) (bytes : List ℕ) → Fits n (good (take n bytes))
 take_fits n bytes = good_fits n (take n bytes) (grind (arith, length-take))
 
-op_settles : (name : List ℕ) (m : MediumState) (sent : List ℕ) (in_len : ℕ) (o : Op) → Settles (IsKnown m in_len o) in_len m (ServesOp name m sent in_len o)
+-- the list of UNMAP lies in the medium, where no check fails
+list_passes : (m : MediumState) (sent : List ℕ) → first_failed (list_checks m sent) ≡ None → list_any (is_beyond m.blocks) (extents_of sent) ≡ false
+list_passes m sent h =
+    let es = extents_of sent in
+    let range = check (list_any (is_beyond m.blocks) es) logical_block_address_out_of_range in
+    let long = passes (check (nat_lt (length sent) 8) parameter_list_length_error) (check (is_bad_list sent es) invalid_field_in_parameter_list ∷ check m.protected write_protected ∷ range ∷ []) h in
+    let good_list = passes (check (is_bad_list sent es) invalid_field_in_parameter_list) (check m.protected write_protected ∷ range ∷ []) long.1 in
+    let writable = passes (check m.protected write_protected) (range ∷ []) good_list.1 in
+    (passes range [] writable.1).0
+
+op_settles : (name : List ℕ) (m : MediumState) (sent : List ℕ) (in_len : ℕ) (o : Op) → Settles (IsKnown m sent in_len o) in_len m (ServesOp name m sent in_len o)
 op_settles name m sent in_len (op.Read lba count) =
     let n = min (512 * count) in_len in
-    let P = IsKnown m in_len (op.Read lba count) in
-    checked_settles P in_len m (range_checks m.blocks lba count) (ReadsBytes m (512 * lba) n) refl
-    (under (IsSeen m (512 * lba) n) P in_len m (ReadsBytes m (512 * lba) n) (λ k. record { told = k.told; sees = k.sees })
-    (reads_settle m (512 * lba) n in_len (omega arith)))
+    let checks = range_checks m.blocks lba count in
+    let P = IsKnown m sent in_len (op.Read lba count) in
+    checked_settles P in_len m checks (ReadsBytes m (512 * lba) n) refl
+    (λ e. under (IsSeen m (512 * lba) n) P in_len m (ReadsBytes m (512 * lba) n) (λ k. seen_behind m checks (512 * lba) n k.told k.sees e)
+    (reads_settle m (512 * lba) n in_len (omega arith) (omega (arith, range_passes m.blocks lba count e))))
 op_settles name m sent in_len (op.Write lba count) =
-    let P = IsKnown m in_len (op.Write lba count) in
+    let o = op.Write lba count in
+    let P = IsKnown m sent in_len o in
     checked_settles P in_len m (write_checks m sent (512 * count) lba count) (WritesBytes m (512 * lba) sent) refl
-    (either_settles P in_len m (length sent == 0) (Answers m (good [])) (Calls (Writes (512 * lba) sent m) write_error []) (empty_settles P in_len m)
-    (calls_settle P in_len m (Writes (512 * lba) sent m) (known_fails m in_len (op.Write lba count)) (writes_sure (512 * lba) sent m)))
+    (λ e. let x = write_passes m sent (512 * count) lba count e in
+    either_settles P in_len m (length sent == 0) (Answers m (good [])) (Calls (Writes (512 * lba) sent m) write_error []) (λ z. empty_settles P in_len m)
+    (λ z. calls_settle P in_len m (Writes (512 * lba) sent m) (known_fails m sent in_len o) (writes_sure (512 * lba) sent m)
+    (λ f a y. call_runs (write (512 * lba) sent) m f a (omega (arith, x.0, x.1), omega arith, omega (arith, x.0)) y)))
 op_settles name m sent in_len (op.Sync lba count) =
-    let P = IsKnown m in_len (op.Sync lba count) in
+    let o = op.Sync lba count in
+    let P = IsKnown m sent in_len o in
     checked_settles P in_len m (range_checks m.blocks lba count) (Calls (Syncs m) write_error []) refl
-    (calls_settle P in_len m (Syncs m) (known_fails m in_len (op.Sync lba count)) (syncs_sure m))
+    (λ e. calls_settle P in_len m (Syncs m) (known_fails m sent in_len o) (syncs_sure m) (λ f a y. call_runs sync m f a tt y))
 op_settles name m sent in_len (op.WriteSame lba count) =
-    let P = IsKnown m in_len (op.WriteSame lba count) in
+    let o = op.WriteSame lba count in
+    let P = IsKnown m sent in_len o in
     checked_settles P in_len m (write_checks m sent 512 lba count) (Calls (Fills (512 * lba) sent count m) write_error []) refl
-    (calls_settle P in_len m (Fills (512 * lba) sent count m) (known_fails m in_len (op.WriteSame lba count)) (fills_sure (512 * lba) sent count m))
+    (λ e. let x = write_passes m sent 512 lba count e in
+    calls_settle P in_len m (Fills (512 * lba) sent count m) (known_fails m sent in_len o) (fills_sure (512 * lba) sent count m)
+    (λ f a y. call_runs (fill (512 * lba) sent count) m f a (omega (arith, x.1), omega arith, x.0) y))
 op_settles name m sent in_len (op.Unmap bytes) =
-    let P = IsKnown m in_len (op.Unmap bytes) in
+    let o = op.Unmap bytes in
+    let P = IsKnown m sent in_len o in
     let es = extents_of sent in
     checked_settles P in_len m (check (not (length sent == bytes)) invalid_field_in_cdb ∷ []) (Either (bytes == 0) (Answers m (good [])) (UnmapsList m sent)) refl
-    (either_settles P in_len m (bytes == 0) (Answers m (good [])) (UnmapsList m sent) (empty_settles P in_len m)
-    (checked_settles P in_len m (list_checks m sent) (Calls (Unmaps es m) write_error []) refl
-    (calls_settle P in_len m (Unmaps es m) (known_fails m in_len (op.Unmap bytes)) (unmaps_sure es m))))
+    (λ e. either_settles P in_len m (bytes == 0) (Answers m (good [])) (UnmapsList m sent) (λ z. empty_settles P in_len m)
+    (λ z. checked_settles P in_len m (list_checks m sent) (Calls (Unmaps es m) write_error []) refl
+    (λ k. calls_settle P in_len m (Unmaps es m) (known_fails m sent in_len o) (unmaps_sure es m (list_passes m sent k))
+    (λ f a y. unmaps_run es m f a (list_passes m sent k) y))))
 op_settles name m sent in_len (op.CompareWrite lba count) =
-    let P = IsKnown m in_len (op.CompareWrite lba count) in
-    checked_settles P in_len m (write_checks m sent (2 * (512 * count)) lba count) (ComparesBlocks m (512 * lba) count sent) refl
-    (either_settles P in_len m (count == 0) (Answers m (good [])) (ComparesBytes m (512 * lba) (512 * count) sent) (empty_settles P in_len m)
-    (under (IsSeen m (512 * lba) (512 * count)) P in_len m (ComparesBytes m (512 * lba) (512 * count) sent) (λ k. record { told = k.told; sees = k.sees })
-    (compares_settle m (512 * lba) (512 * count) in_len sent)))
+    let n = 512 * count in
+    let checks = write_checks m sent (2 * (512 * count)) lba count in
+    let P = IsKnown m sent in_len (op.CompareWrite lba count) in
+    checked_settles P in_len m checks (ComparesBlocks m (512 * lba) count sent) refl
+    (λ e. let x = write_passes m sent (2 * (512 * count)) lba count e in
+    either_settles P in_len m (count == 0) (Answers m (good [])) (ComparesBytes m (512 * lba) n sent) (λ z. empty_settles P in_len m)
+    (λ z. under (IsSeen m (512 * lba) n) P in_len m (ComparesBytes m (512 * lba) n sent) (λ k. seen_behind m checks (512 * lba) n k.told k.sees e)
+    (compares_settle m (512 * lba) n in_len sent (omega arith) (omega arith) (omega (arith, x.1)) x.0)))
 op_settles name m sent in_len op.TestUnitReady = empty_settles _ in_len m
 op_settles name m sent in_len (op.RequestSense limit) = answers_settle _ in_len m _ (cut_fits limit in_len _)
 op_settles name m sent in_len (op.Inquiry page limit) = answers_settle _ in_len m _ (cut_fits limit in_len _)
@@ -360,70 +457,46 @@ some_reply name m r = by (decoded r.cdb)
 pub one_reply : OneReply
 one_reply name m r first second one other told sees x y = by (decoded r.cdb) sees x y
   where
-    by : (d : Result Op CdbFault) → MatchResult d (SeesOp m r.in_len) (λ _. Unit {0})
+    by : (d : Result Op CdbFault) → overlap (span_asked_for m r d) m.below.lost ≡ false
         → MatchResult d (λ o. ServesOp name m r.sent r.in_len o first one) (λ f. Answers m (refused (fault_sense f)) first one)
         → MatchResult d (λ o. ServesOp name m r.sent r.in_len o second other) (λ f. Answers m (refused (fault_sense f)) second other) → (first ≡ second) × (one ≡ other)
     by (Ok o) s x y = (op_settles name m r.sent r.in_len o).one (record { told = told; sees = s }) first second one other x y
     by (Err f) s x y = (x.0 ∙ sym y.0, x.1 ∙ sym y.1)
 
-same_after : (name : List ℕ) (m : MediumState) (r : Asked) (reply : ReplyData) (after : MediumState) → Serves name m r reply after → SameTold m after
-same_after name m r reply after x = by (decoded r.cdb) x
+pub request_runs : RequestRuns
+request_runs name m r reply after x = by (decoded r.cdb) x
   where
-    by : (d : Result Op CdbFault) → MatchResult d (λ o. ServesOp name m r.sent r.in_len o reply after) (λ f. Answers m (refused (fault_sense f)) reply after) → SameTold m after
-    by (Ok o) x = (op_settles name m r.sent r.in_len o).same reply after x
-    by (Err f) x = subst (SameTold m) (sym x.1) (same_told m)
+    by : (d : Result Op CdbFault) → MatchResult d (λ o. ServesOp name m r.sent r.in_len o reply after) (λ f. Answers m (refused (fault_sense f)) reply after) → IsRun m after
+    by (Ok o) x = (op_settles name m r.sent r.in_len o).run reply after x
+    by (Err f) x = subst (IsRun m) (sym x.1) (run_none m)
 
 pub stays_told : StaysTold
 stays_told name m r reply after told x =
-    let s = same_after name m r reply after x in record { own = s.own ∙ told.own; store = s.below.store ∙ told.store; bytes = s.below.bytes ∙ told.bytes }
+    let s = runs_keep m after (request_runs name m r reply after x) in
+    record { own = ap is_some s.own_fails ∙ told.own; store = ap is_some s.store_fails ∙ told.store; bytes = s.bytes ∙ told.bytes }
 
-nothing_lost : (i : ℕ) → lies_in empty_span i ≡ false
-nothing_lost i = grind arith
-
-sees_whole : (m : MediumState) (in_len : ℕ) → m.below.lost ≡ empty_span → (o : Op) → SeesOp m in_len o
-sees_whole m in_len e (op.Read lba count) = λ i h. rw e (nothing_lost (512 * lba + i))
-sees_whole m in_len e (op.CompareWrite lba count) = λ i h. rw e (nothing_lost (512 * lba + i))
-sees_whole m in_len e (op.Write lba count) = tt
-sees_whole m in_len e (op.Sync lba count) = tt
-sees_whole m in_len e (op.WriteSame lba count) = tt
-sees_whole m in_len e (op.Unmap count) = tt
-sees_whole m in_len e op.TestUnitReady = tt
-sees_whole m in_len e (op.RequestSense limit) = tt
-sees_whole m in_len e (op.Inquiry page limit) = tt
-sees_whole m in_len e (op.ModeSense page limit) = tt
-sees_whole m in_len e op.Capacity10 = tt
-sees_whole m in_len e (op.Capacity16 limit) = tt
-sees_whole m in_len e (op.ReportLuns select limit) = tt
-
-sees_request : (m : MediumState) (r : Asked) → m.below.lost ≡ empty_span → Sees m r
-sees_request m r e = by (decoded r.cdb)
+pub reads_nothing_lost : ReadsNothingLost
+reads_nothing_lost m r e = rw e (nowhere (span_asked_for m r (decoded r.cdb)))
   where
-    by : (d : Result Op CdbFault) → MatchResult d (SeesOp m r.in_len) (λ _. Unit {0})
-    by (Ok o) = sees_whole m r.in_len e o
-    by (Err f) = tt
+    nowhere : (s : Span) → overlap s empty_span ≡ false
+    nowhere s = grind arith
 
 pub one_reply_in_memory : OneReplyInMemory
 one_reply_in_memory name blocks bytes calls r first second one other x y =
-    one_reply name (memory_state blocks bytes calls) r first second one other (record { own = refl; store = refl; bytes = refl }) (sees_request (memory_state blocks bytes calls) r refl) x y
-
-pub stays_in_memory : StaysInMemory
-stays_in_memory name m r first second one other k x y =
-    let same = one_reply name m r first second one other k.told (sees_request m r k.lost) x y in
-    let whole = (same_after name m r first one x).whole (record { layer = k.layer; lost = k.lost }) in
-    (same.0, same.1, record { told = stays_told name m r first one k.told x; layer = whole.layer; lost = whole.lost })
+    let m = memory_state blocks bytes calls in
+    one_reply name m r first second one other (record { own = refl; store = refl; bytes = refl }) (reads_nothing_lost m r refl) x y
 
 pub one_reply_without_loss : OneReplyWithoutLoss
 one_reply_without_loss name m r first second one other k x y =
-    let same = one_reply name m r first second one other k.told (sees_request m r k.lost) x y in
-    (same.0, same.1, by k.place)
-  where
-    by : (m.below.layer ≡ memory) ⊎ ((m.below.layer ≡ file) × (m.below.store.fails ≡ Some [])) → LosesNothing one
-    by (inl in_memory) =
-        let whole = (same_after name m r first one x).whole (record { layer = in_memory; lost = k.lost }) in
-        record { told = stays_told name m r first one k.told x; place = inl whole.layer; lost = whole.lost }
-    by (inr in_file) =
-        let safe = (same_after name m r first one x).safe (record { layer = in_file.0; fails = in_file.1; lost = k.lost }) in
-        record { told = stays_told name m r first one k.told x; place = inr (safe.layer, safe.fails); lost = safe.lost }
+    let same = one_reply name m r first second one other k.told (reads_nothing_lost m r k.lost) x y in
+    let stays = runs_stay_lossless m one (request_runs name m r first one x) (record { place = k.place; lost = k.lost }) in
+    (same.0, same.1, record { told = stays_told name m r first one k.told x; place = stays.place; lost = stays.lost })
 
-pub stays_in_file : StaysInFile
-stays_in_file name m r reply after x filed = let s = same_after name m r reply after x in (s.filed filed, s.below.bytes)
+pub stays_in_memory : StaysInMemory
+stays_in_memory name m r first second one other k x y =
+    let all = one_reply_without_loss name m r first second one other (record { told = k.told; place = inl k.layer; lost = k.lost }) x y in
+    (all.0, all.1, record { told = all.2.told; layer = in_memory one all.2.place (runs_keep m one (request_runs name m r first one x)).layer; lost = all.2.lost })
+  where
+    in_memory : (a : MediumState) → (a.below.layer ≡ memory) ⊎ ((a.below.layer ≡ file) × (a.below.store.calls.fails ≡ Some [])) → clean a.below.layer ≡ clean m.below.layer → a.below.layer ≡ memory
+    in_memory a (inl e) same = e
+    in_memory a (inr e) same = absurd (let f : file ≡ memory = ap clean (sym e.0) ∙ same ∙ ap clean k.layer in cc)

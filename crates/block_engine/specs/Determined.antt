@@ -1,44 +1,33 @@
 -- What is determined: by a request, and the medium before it.
-use Rattle.std.specs.Prelude.{◌≡◌, ◌⊎◌, ℕ, ◌+◌, ◌*◌, ◌<◌, ◌≤◌, min, length, true, false, List, [], Some, is_some, MatchResult}
+use Rattle.std.specs.Prelude.{◌≡◌, ◌⊎◌, ℕ, ◌≤◌, length, true, false, List, [], Some, is_some}
 use Rattle.tcmu_types.specs.Data.{ReplyData}
 use Rattle.tcmu_types.specs.Rules.{IsReply}
 use Rattle.tcmu_model.specs.MediumState.{MediumState, memory, file}
-use Rattle.scsi_model.specs.Medium.{lies_in, empty_span, memory_state}
+use Rattle.scsi_model.specs.Medium.{empty_span, memory_state}
+use Rattle.scsi_model.specs.Runs.{IsRun}
+use Rattle.scsi_model.specs.ReadsLost.{reads_lost}
 use Rattle.tcmu_model.specs.Steps.{Asked}
-use Rattle.scsi_model.specs.Decoding.{decoded}
 use Rattle.scsi_model.specs.Scsi.{Serves}
-use Rattle.scsi_model.specs.declared.op.Op.{Op}
-use Rattle.scsi_model.specs.declared.op.Op.TheVariants as op
 
 -- the medium tells its bytes, and which of its own calls and of its store's fail
 pub record IsTold (m : MediumState) : Type 0 where
   pub own : is_some m.own.fails ≡ true
-  pub store : is_some m.below.store.fails ≡ true
+  pub store : is_some m.below.store.calls.fails ≡ true
   pub bytes : is_some m.below.bytes ≡ true
 
--- no byte of the range is lost
-abbrev pub SeesRange : MediumState → ℕ → ℕ → Type 0
-SeesRange m at n = (i : ℕ) → i < n → lies_in m.below.lost (at + i) ≡ false
-
--- what an operation reads or compares is not lost
-abbrev pub SeesOp : MediumState → ℕ → Op → Type 0
-SeesOp m in_len (op.Read lba count) = SeesRange m (512 * lba) (min (512 * count) in_len)
-SeesOp m in_len (op.CompareWrite lba count) = SeesRange m (512 * lba) (512 * count)
-SeesOp m in_len _ = Unit {0}
-
--- what a request reads or compares is not lost
-abbrev pub Sees : MediumState → Asked → Type 0
-Sees m r = MatchResult (decoded r.cdb) (SeesOp m r.in_len) (λ _. Unit {0})
-
--- a request of a told medium has one reply, and leaves one medium
+-- a request of a told medium that reads nothing that is lost has one reply, and leaves one medium, its failing calls included
 abbrev pub OneReply : Type 0
 OneReply =
-    (name : List ℕ) (m : MediumState) (r : Asked) (first second : ReplyData) (one other : MediumState) → IsTold m → Sees m r
+    (name : List ℕ) (m : MediumState) (r : Asked) (first second : ReplyData) (one other : MediumState) → IsTold m → reads_lost m r ≡ false
     → Serves name m r first one → Serves name m r second other → (first ≡ second) × (one ≡ other)
 
 -- a told medium stays told
 abbrev pub StaysTold : Type 0
 StaysTold = (name : List ℕ) (m : MediumState) (r : Asked) (reply : ReplyData) (after : MediumState) → IsTold m → Serves name m r reply after → IsTold after
+
+-- where nothing is lost, no request reads what is
+abbrev pub ReadsNothingLost : Type 0
+ReadsNothingLost = (m : MediumState) (r : Asked) → m.below.lost ≡ empty_span → reads_lost m r ≡ false
 
 -- a request of a medium in memory has one reply, and leaves one medium
 abbrev pub OneReplyInMemory : Type 0
@@ -63,7 +52,7 @@ StaysInMemory =
 -- whose store lists no failing call; which of its own calls fail may be listed.
 pub record LosesNothing (m : MediumState) : Type 0 where
   pub told : IsTold m
-  pub place : (m.below.layer ≡ memory) ⊎ ((m.below.layer ≡ file) × (m.below.store.fails ≡ Some []))
+  pub place : (m.below.layer ≡ memory) ⊎ ((m.below.layer ≡ file) × (m.below.store.calls.fails ≡ Some []))
   pub lost : m.below.lost ≡ empty_span
 
 -- a request of such a medium has one reply, and leaves one medium, which is such a medium again
@@ -72,11 +61,9 @@ OneReplyWithoutLoss =
     (name : List ℕ) (m : MediumState) (r : Asked) (first second : ReplyData) (one other : MediumState) → LosesNothing m
     → Serves name m r first one → Serves name m r second other → (first ≡ second) × (one ≡ other) × LosesNothing one
 
--- a medium in a file stays one, and tells its bytes behind a request exactly where it told them before
-abbrev pub StaysInFile : Type 0
-StaysInFile =
-    (name : List ℕ) (m : MediumState) (r : Asked) (reply : ReplyData) (after : MediumState) → Serves name m r reply after → m.below.layer ≡ file
-    → (after.below.layer ≡ file) × (is_some after.below.bytes ≡ is_some m.below.bytes)
+-- what a request leaves of a medium is behind a run of the medium's calls
+abbrev pub RequestRuns : Type 0
+RequestRuns = (name : List ℕ) (m : MediumState) (r : Asked) (reply : ReplyData) (after : MediumState) → Serves name m r reply after → IsRun m after
 
 -- every request has a reply, over every medium
 abbrev pub SomeReply : Type 0

@@ -3,14 +3,15 @@ ghost use Rattle.std.specs.Prelude.{◌≡◌, ◌+◌, ◌*◌, ◌%◌, ◌≤
 ghost use Rattle.tcmu_types.specs.Numbered.{HasCause};
 ghost use Rattle.edge.specs.Outside.{CountsFailed};
 ghost use Rattle.scsi_model.specs.Medium.{Reads, Fills};
-ghost use Rattle.scsi_model.specs.Scsi.{ReadsBytes, ServesRead, WritesBytes, ServesWrite, ServesSync, ServesWriteSame, Calls, write_error};
+ghost use Rattle.scsi_model.specs.Scsi.{ReadsBytes, ServesRead, WritesBytes, ServesWrite, ServesSync, ServesWriteSame, Calls};
+ghost use Rattle.scsi_model.specs.Senses.{write_error};
 ghost use Rattle.block_engine.specs.Serving.{Served};
 
 use crate::checks::{range_fault, write_fault};
 use crate::replies::{after_call, after_write, done, refused};
-use crate::senses::UNRECOVERED_READ_ERROR;
 use edge::Failed;
 use handler_trait::Medium;
+use scsi_model::senses::UNRECOVERED_READ_ERROR;
 use std::alloc::Global;
 use tcmu_types::{Bytes, NoMemory, Reply};
 

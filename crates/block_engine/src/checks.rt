@@ -2,8 +2,10 @@
 ghost use Rattle.std.specs.Prelude.{◌≡◌, ◌≢◌, ◌+◌, ◌^◌, ◌≤◌, nat_lt, length, None, IfSome};
 ghost use Rattle.scsi_model.specs.Scsi.{first_failed, range_checks, write_checks};
 
-use crate::senses::{INVALID_FIELD_IN_CDB, LOGICAL_BLOCK_ADDRESS_OUT_OF_RANGE, WRITE_PROTECTED};
 use handler_trait::Medium;
+use scsi_model::senses::{
+    INVALID_FIELD_IN_CDB, LOGICAL_BLOCK_ADDRESS_OUT_OF_RANGE, WRITE_PROTECTED,
+};
 use tcmu_types::Sense;
 
 /// Whether a range does not lie in so many blocks.

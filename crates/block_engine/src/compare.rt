@@ -8,8 +8,8 @@ ghost use Rattle.block_engine.specs.Serving.{Served};
 use crate::blocks::{read_into, zeros};
 use crate::checks::write_fault;
 use crate::replies::{after_write, done, refused};
-use crate::senses::{MISCOMPARE_DURING_VERIFY_OPERATION, UNRECOVERED_READ_ERROR};
 use handler_trait::Medium;
+use scsi_model::senses::{MISCOMPARE_DURING_VERIFY_OPERATION, UNRECOVERED_READ_ERROR};
 use std::alloc::Global;
 use tcmu_types::{NoMemory, Reply};
 

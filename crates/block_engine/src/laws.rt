@@ -1,5 +1,5 @@
 //! What follows from the engine's relation.
-ghost use Rattle.block_engine.specs.Determined.{SomeReply, WholeReply, OneReply, StaysTold, OneReplyInMemory, StaysInMemory, OneReplyWithoutLoss, StaysInFile};
+ghost use Rattle.block_engine.specs.Determined.{SomeReply, WholeReply, OneReply, StaysTold, ReadsNothingLost, OneReplyInMemory, StaysInMemory, OneReplyWithoutLoss, RequestRuns};
 
 /// Every request has a reply, over every medium.
 pub fn some_reply()
@@ -13,7 +13,7 @@ pub fn whole_reply()
 {}
 
 /// Over a medium that tells its bytes and its failing calls a request has one reply and leaves one medium, as long as it reads
-/// and compares nothing that is lost.
+/// and compares nothing that is lost. Calls of the medium that fail change nothing of that.
 pub fn one_reply()
     ensures { OneReply }
 {}
@@ -21,6 +21,11 @@ pub fn one_reply()
 /// Such a medium tells its bytes and its failing calls after each request.
 pub fn stays_told()
     ensures { StaysTold }
+{}
+
+/// Where nothing is lost, no request reads what is lost.
+pub fn reads_nothing_lost()
+    ensures { ReadsNothingLost }
 {}
 
 /// Over a medium in memory the meaning of a request is a function: nothing of it is ever lost.
@@ -39,7 +44,8 @@ pub fn one_reply_without_loss()
     ensures { OneReplyWithoutLoss }
 {}
 
-/// A medium in a file stays one after each request, and tells its bytes as it did before.
-pub fn stays_in_file()
-    ensures { StaysInFile }
+/// What a request leaves of a medium is what some calls of it leave, each within the medium: so all that holds of runs of calls holds of
+/// requests.
+pub fn request_runs()
+    ensures { RequestRuns }
 {}

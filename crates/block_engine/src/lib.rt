@@ -13,6 +13,6 @@ mod unmap;
 
 pub use engine::Engine;
 pub use laws::{
-    one_reply, one_reply_in_memory, one_reply_without_loss, some_reply, stays_in_file,
-    stays_in_memory, stays_told, whole_reply,
+    one_reply, one_reply_in_memory, one_reply_without_loss, reads_nothing_lost, request_runs,
+    some_reply, stays_in_memory, stays_told, whole_reply,
 };

@@ -1,9 +1,10 @@
 //! The replies that an engine gives: GOOD with a payload, and CHECK CONDITION with sense data.
 ghost use Rattle.std.specs.Prelude.{◌≡◌, is_err, if◌then◌else◌, IfOk, take, []};
-ghost use Rattle.scsi_model.specs.Scsi.{good, refused, cut, write_error};
+ghost use Rattle.scsi_model.specs.Scsi.{good, refused, cut};
+ghost use Rattle.scsi_model.specs.Senses.{write_error};
 
-use crate::senses::WRITE_ERROR;
 use edge::Failed;
+use scsi_model::senses::WRITE_ERROR;
 use std::alloc::Global;
 use tcmu_types::{Bytes, NoMemory, Reply, ScsiStatus, Sense};
 

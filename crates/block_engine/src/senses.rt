@@ -1,79 +1,10 @@
-//! Sense data (SPC-4, 4.5.6).
+//! The sense data of a command descriptor block that asks nothing.
 ghost use Rattle.std.specs.Prelude.{◌≡◌, ◌≢◌};
 ghost use Rattle.scsi_model.specs.Scsi.{fault_sense};
 
 use scsi_model::CdbFault;
+use scsi_model::senses::{INVALID_COMMAND_OPERATION_CODE, INVALID_FIELD_IN_CDB};
 use tcmu_types::Sense;
-
-/// NO SENSE, NO ADDITIONAL SENSE INFORMATION.
-pub const NO_SENSE: Sense = Sense {
-    key: 0x0,
-    asc: 0x00,
-    ascq: 0,
-};
-
-/// MEDIUM ERROR, UNRECOVERED READ ERROR: a read of the medium failed.
-pub const UNRECOVERED_READ_ERROR: Sense = Sense {
-    key: 0x3,
-    asc: 0x11,
-    ascq: 0,
-};
-
-/// MEDIUM ERROR, WRITE ERROR: a write, a fill or a sync of the medium failed.
-pub const WRITE_ERROR: Sense = Sense {
-    key: 0x3,
-    asc: 0x0c,
-    ascq: 0,
-};
-
-/// ILLEGAL REQUEST, PARAMETER LIST LENGTH ERROR.
-pub const PARAMETER_LIST_LENGTH_ERROR: Sense = Sense {
-    key: 0x5,
-    asc: 0x1a,
-    ascq: 0,
-};
-
-/// ILLEGAL REQUEST, INVALID COMMAND OPERATION CODE.
-pub const INVALID_COMMAND_OPERATION_CODE: Sense = Sense {
-    key: 0x5,
-    asc: 0x20,
-    ascq: 0,
-};
-
-/// ILLEGAL REQUEST, LOGICAL BLOCK ADDRESS OUT OF RANGE.
-pub const LOGICAL_BLOCK_ADDRESS_OUT_OF_RANGE: Sense = Sense {
-    key: 0x5,
-    asc: 0x21,
-    ascq: 0,
-};
-
-/// ILLEGAL REQUEST, INVALID FIELD IN CDB.
-pub const INVALID_FIELD_IN_CDB: Sense = Sense {
-    key: 0x5,
-    asc: 0x24,
-    ascq: 0,
-};
-
-/// ILLEGAL REQUEST, INVALID FIELD IN PARAMETER LIST.
-pub const INVALID_FIELD_IN_PARAMETER_LIST: Sense = Sense {
-    key: 0x5,
-    asc: 0x26,
-    ascq: 0,
-};
-
-/// DATA PROTECT, WRITE PROTECTED.
-pub const WRITE_PROTECTED: Sense = Sense {
-    key: 0x7,
-    asc: 0x27,
-    ascq: 0,
-};
-
-/// MISCOMPARE, MISCOMPARE DURING VERIFY OPERATION.
-pub const MISCOMPARE_DURING_VERIFY_OPERATION: Sense = Sense {
-    key: 0xe,
-    asc: 0x1d,
-    ascq: 0,
-};
 
 /// The sense data that tell why a command descriptor block asks nothing.
 pub fn fault_sense(fault: CdbFault) -> Sense

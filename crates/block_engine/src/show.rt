@@ -5,10 +5,10 @@ ghost use Rattle.scsi_model.specs.Pages.{inquiry_data};
 ghost use Rattle.scsi_model.specs.Scsi.{good, cut, shown};
 
 use crate::replies::{cut, done, front};
-use crate::senses::NO_SENSE;
 use cdb_decode::Op;
 use handler_trait::Medium;
 use inquiry_pages::{capacity10, capacity16, mode_sense, report_luns, standard_inquiry, vpd_page};
+use scsi_model::senses::NO_ADDITIONAL_SENSE_INFORMATION;
 use std::alloc::Global;
 use tcmu_types::{Name, NoMemory, Reply, sense_bytes};
 
@@ -44,7 +44,12 @@ pub fn show<M: Medium>(
     ensures { IfOk result (λ r. r ≡ good (shown name.now (M.state medium.now) in_len op)) }
 {
     match op {
-        Op::RequestSense { limit } => cut(alloc, &sense_bytes(NO_SENSE), limit, in_len),
+        Op::RequestSense { limit } => cut(
+            alloc,
+            &sense_bytes(NO_ADDITIONAL_SENSE_INFORMATION),
+            limit,
+            in_len,
+        ),
         Op::Inquiry { page, limit } => inquiry(alloc, name, page, limit, in_len),
         Op::ModeSense { page, limit } => {
             let data = mode_sense(alloc, page, medium.protected())?;

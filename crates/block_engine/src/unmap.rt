@@ -8,15 +8,15 @@ ghost use Rattle.block_engine.specs.Serving.{Served};
 
 use crate::checks::is_outside;
 use crate::replies::{after_write, done, refused};
-use crate::senses::{
-    INVALID_FIELD_IN_CDB, INVALID_FIELD_IN_PARAMETER_LIST, LOGICAL_BLOCK_ADDRESS_OUT_OF_RANGE,
-    PARAMETER_LIST_LENGTH_ERROR, WRITE_PROTECTED,
-};
 use cdb_decode::{be_u16_at, be_u32_at, be_u64_at};
 use edge::Failed;
 use handler_trait::Medium;
-use std::alloc::Global;
+use scsi_model::senses::{
+    INVALID_FIELD_IN_CDB, INVALID_FIELD_IN_PARAMETER_LIST, LOGICAL_BLOCK_ADDRESS_OUT_OF_RANGE,
+    PARAMETER_LIST_LENGTH_ERROR, WRITE_PROTECTED,
+};
 use scsi_model::{Extent, MAXIMUM_UNMAP_DESCRIPTOR_COUNT, MAXIMUM_UNMAP_LBA_COUNT};
+use std::alloc::Global;
 use tcmu_types::{NoMemory, Reply, Sense};
 
 /// The bytes of a parameter list before its first block descriptor (SBC-3, UNMAP).

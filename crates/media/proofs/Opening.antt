@@ -1,18 +1,29 @@
 -- How a medium opens.
-use Rattle.std.proofs.Common.{◌∙◌, ◌≡◌, ℕ, ◌*◌, ◌/◌, Bool, List, replicate, Option, Some, None, subst, sym, ap, refl}
+use Rattle.std.proofs.Common.{◌∙◌, ◌≡◌, ℕ, ◌*◌, ◌/◌, Bool, List, [], replicate, Option, Some, None, subst, sym, ap, refl}
 use Rattle.std.specs.Option.{option_map}
 use Rattle.text_model.specs.Config.{ConfigData, InMemory, InFile}
 use Rattle.tcmu_model.specs.MediumState.{MediumState}
+use Rattle.scsi_model.specs.Base.{cleared, opened_store}
 use Rattle.scsi_model.specs.Medium.{blanked, empty_span, memory_state, opened_medium, memory_below, file_below}
+use Rattle.scsi_model.proofs.Cleared.{cleared_none}
 use Rattle.edge.specs.Stores.{StoreState, FilesState, FetchGives}
-use Rattle.medium_file.specs.FileState.{file_state}
+use Rattle.medium_file.specs.FileState.{below_file, file_state}
 use Rattle.media.specs.Configured.{configured}
 use Rattle.media.specs.Opening.{MakesKind, MakesMedium}
 
--- nothing is blanked where nothing is lost
+-- nothing is hidden where nothing is lost, and no block is free
 blanked_none : (bytes : Option (List ℕ)) → option_map (blanked empty_span) bytes ≡ bytes
 blanked_none None = refl
 blanked_none (Some xs) = refl
+
+cleared_of_none : (bytes : Option (List ℕ)) → option_map (cleared []) bytes ≡ bytes
+cleared_of_none None = refl
+cleared_of_none (Some xs) = ap (λ (ys : List ℕ). Some ys) (cleared_none xs)
+
+below_opened : (s : StoreState) → below_file s empty_span [] ≡ file_below s.size s.bytes s.calls
+below_opened s =
+    ap (λ (bytes : Option (List ℕ)). record (below_file s empty_span []) { bytes = bytes }) (blanked_none s.bytes)
+    ∙ ap (λ (bytes : Option (List ℕ)). record (file_below s.size s.bytes s.calls) { store = opened_store s.size bytes s.calls }) (cleared_of_none s.bytes)
 
 pub opens_memory : (c : ConfigData) (blocks : ℕ) (protected : Bool) (fails : List ℕ) (below m : MediumState) (old : Option FilesState)
     → c.kind ≡ InMemory blocks → protected ≡ c.protected → fails ≡ c.fails → below ≡ memory_state blocks (replicate (512 * blocks) 0) 0
@@ -24,14 +35,14 @@ opens_memory c blocks protected fails below m old k p f b e =
     })
 
 pub opens_file : (c : ConfigData) (name : List ℕ) (s : StoreState) (protected : Bool) (fails : List ℕ) (below m : MediumState) (old new : Option FilesState)
-    → c.kind ≡ InFile name → protected ≡ c.protected → fails ≡ c.fails → below ≡ file_state (s.size / 512) s empty_span 0
+    → c.kind ≡ InFile name → protected ≡ c.protected → fails ≡ c.fails → below ≡ file_state (s.size / 512) s empty_span [] 0
     → m ≡ configured protected fails 0 below → FetchGives name s old new → MakesMedium c old new m
 opens_file c name s protected fails below m old new k p f b e o =
     subst (λ kind. MakesKind kind c old new m) (sym k) (record {
       store = s;
       medium = e ∙ ap (configured protected fails 0) b
-          ∙ ap (λ q. opened_medium (s.size / 512) q fails (file_below (option_map (blanked empty_span) s.bytes) s.calls)) p
-          ∙ ap (λ ns. opened_medium (s.size / 512) c.protected ns (file_below (option_map (blanked empty_span) s.bytes) s.calls)) f
-          ∙ ap (λ bytes. opened_medium (s.size / 512) c.protected c.fails (file_below bytes s.calls)) (blanked_none s.bytes);
+          ∙ ap (λ q. opened_medium (s.size / 512) q fails (below_file s empty_span [])) p
+          ∙ ap (λ ns. opened_medium (s.size / 512) c.protected ns (below_file s empty_span [])) f
+          ∙ ap (opened_medium (s.size / 512) c.protected c.fails) (below_opened s);
       fetched = o;
     })

@@ -17,7 +17,7 @@ pub record MakesMemory (blocks : ℕ) (c : ConfigData) (old new : Option FilesSt
 -- the file of this name, as its store tells it; the file is out from then on
 pub record MakesFile (name : List ℕ) (c : ConfigData) (old new : Option FilesState) (m : MediumState) : Type 0 where
   pub store : StoreState
-  pub medium : m ≡ opened_medium (store.size / 512) c.protected c.fails (file_below store.bytes store.calls)
+  pub medium : m ≡ opened_medium (store.size / 512) c.protected c.fails (file_below store.size store.bytes store.calls)
   pub fetched : FetchGives name store old new
 
 -- as it opens by what bears it: memory, or a file

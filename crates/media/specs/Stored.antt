@@ -1,13 +1,14 @@
 -- What the store of a medium holds behind the medium's calls.
-use Rattle.std.specs.Prelude.{◌≡◌, ◌*◌}
+use Rattle.std.specs.Prelude.{◌≡◌, true}
 use Rattle.std.specs.Option.{option_map}
-use Rattle.tcmu_model.specs.MediumState.{MediumState, file}
-use Rattle.scsi_model.specs.Medium.{blanked}
+use Rattle.tcmu_model.specs.MediumState.{MediumState}
+use Rattle.scsi_model.specs.Base.{cleared}
+use Rattle.scsi_model.specs.Medium.{has_store}
 use Rattle.edge.specs.Stores.{StoreState}
 
--- The medium is a file in this store: the store holds the medium's bytes, but for the lost range, and has made its calls.
+-- This is the store below a medium: it has its length and its bytes, but for the free blocks, and has made its calls.
 pub record IsStoredIn (s : StoreState) (m : MediumState) : Type 0 where
-  pub layer : m.below.layer ≡ file
-  pub size : s.size ≡ 512 * m.blocks
-  pub bytes : m.below.bytes ≡ option_map (blanked m.below.lost) s.bytes
-  pub calls : m.below.store ≡ s.calls
+  pub layer : has_store m.below.layer ≡ true
+  pub size : s.size ≡ m.below.store.size
+  pub bytes : m.below.store.bytes ≡ option_map (cleared m.below.store.free) s.bytes
+  pub calls : s.calls ≡ m.below.store.calls

@@ -1,6 +1,6 @@
 //! A medium in memory or over a file.
-ghost use Rattle.std.specs.Prelude.{◌≡◌, ◌+◌, ◌*◌, ◌%◌, ◌<◌, ◌≤◌, length, is_err, MatchOption};
-ghost use Rattle.tcmu_model.specs.MediumState.{memory};
+ghost use Rattle.std.specs.Prelude.{◌≡◌, ◌+◌, ◌*◌, ◌%◌, ◌<◌, ◌≤◌, length, is_err, false, MatchOption};
+ghost use Rattle.scsi_model.specs.Medium.{has_store};
 ghost use Rattle.media.specs.Stored.{IsStoredIn};
 ghost use Rattle.media.specs.declared.medium.Media.TheVariants.{Memory, File};
 
@@ -21,7 +21,7 @@ pub enum Media<S: Store + Drop> {
 impl<S: Store + Drop> Media<S> {
     /// The store of a file, as the calls left it, to be given back to the files; none of a medium in memory, whose bytes are gone then.
     pub fn into_file(self) -> Option<S>
-        ensures { let m = ⟦<Media<S> as Medium>⟧.state self in MatchOption result (m.below.layer ≡ memory) (λ s. IsStoredIn (S.state s) m) }
+        ensures { let m = ⟦<Media<S> as Medium>⟧.state self in MatchOption result (has_store m.below.layer ≡ false) (λ s. IsStoredIn (S.state s) m) }
     {
         match self {
             Media::Memory(medium) => {

@@ -1,3 +1,2 @@
 pub mod StoreCalls
-pub mod LostRange
 pub mod FileCalls

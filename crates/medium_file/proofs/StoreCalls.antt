@@ -1,39 +1,47 @@
--- Numbered calls, one after the other, and what they put.
-use Rattle.std.proofs.Common.{◌∙◌, ◌≡◌, ℕ, suc, ◌+◌, ◌-◌, ◌*◌, ◌≤◌, ◌<◌, Bool, true, false, List, ◌++◌, length, take, drop, sym, ap, subst, refl, arith, Option, Some, None, inl, inr, IfSome, append-nil, replicate, add-zero}
+-- Blocks that are written to a store one after the other, and what they put.
+use Rattle.std.proofs.Common.{◌∙◌, ◌≡◌, ℕ, suc, ◌+◌, ◌-◌, ◌*◌, ◌≤◌, ◌<◌, Bool, true, false, List, ◌++◌, length, take, drop, sym, ap, subst, refl, arith, Option, Some, None, IfSome, append-nil, replicate, add-zero}
 use Rattle.std.specs.Option.{option_map}
 use Rattle.std.proofs.lemmas.List.{length-append, take-append-drop, length-replicate}
 use Rattle.tcmu_types.specs.Overwriting.{overwritten}
-use Rattle.tcmu_types.specs.Numbered.{Numbered, Tries, ComesOut, one_more}
+use Rattle.tcmu_model.specs.MediumState.{Base}
+use Rattle.scsi_model.specs.Base.{WritesStore, FillsStore}
 use Rattle.scsi_model.specs.Medium.{repeated}
 use Rattle.edge.specs.Stores.{Puts, Spoils}
 use Rattle.tcmu_types.proofs.Overwriting.{length_piece, overwritten_same, overwritten_more, length_overwritten}
 use Rattle.handler_trait.proofs.Repeating.{length_repeated, fill_more}
 
+-- what is known of the first copies, and goes on for all of them
+abbrev pub FillsOn : ℕ → List ℕ → ℕ → Base → Base → Type 0
+FillsOn at block k start here =
+    (rest : ℕ) (failed : Bool) (end : Base) → FillsStore (at + 512 * k) block rest here failed end → FillsStore at block (k + rest) start failed end
+
 -- before any call
-pub tries_none : (start : Numbered) (rest : ℕ) (failed : Bool) (end : Numbered) → Tries rest start failed end → Tries (0 + rest) start failed end
-tries_none start rest failed end t = let e : 0 + rest ≡ rest = omega arith in subst (λ n. Tries n start failed end) (sym e) t
+pub fills_none : (at : ℕ) (block : List ℕ) (start : Base) → FillsOn at block 0 start start
+fills_none at block start rest failed end t =
+    let e : 0 + rest ≡ rest = omega arith in
+    let z : at + 512 * 0 ≡ at = omega arith in
+    subst (λ n. FillsStore at block n start failed end) (sym e) (subst (λ a. FillsStore a block rest start failed end) z t)
 
 -- one call more that did not fail
-pub tries_more : (start c next : Numbered) (k : ℕ) → ((rest : ℕ) (failed : Bool) (end : Numbered) → Tries rest c failed end → Tries (k + rest) start failed end)
-    → ComesOut c false → next ≡ one_more c
-    → (rest : ℕ) (failed : Bool) (end : Numbered) → Tries rest next failed end → Tries ((k + 1) + rest) start failed end
-tries_more start c next k goes out e rest failed end t =
-    let here : Tries (suc rest) c failed end = inr (out, subst (λ n. Tries rest n failed end) e t) in
+pub fills_more : (at k : ℕ) (block : List ℕ) (start here next : Base) → FillsOn at block k start here → WritesStore (at + 512 * k) block here false next
+    → FillsOn at block (k + 1) start next
+fills_more at k block start here next goes w rest failed end t =
+    let place : at + 512 * (k + 1) ≡ at + 512 * k + 512 = omega arith in
+    let more : FillsStore (at + 512 * k) block (suc rest) here failed end = (false, next, w, subst (λ a. FillsStore a block rest next failed end) place t) in
     let n : k + suc rest ≡ (k + 1) + rest = omega arith in
-    subst (λ n. Tries n start failed end) n (goes (suc rest) failed end here)
+    subst (λ n. FillsStore at block n start failed end) n (goes (suc rest) failed end more)
 
 -- a call that failed ends them
-pub tries_stop : (start c next : Numbered) (k count : ℕ) → ((rest : ℕ) (failed : Bool) (end : Numbered) → Tries rest c failed end → Tries (k + rest) start failed end)
-    → k < count → ComesOut c true → next ≡ one_more c → Tries count start true next
-tries_stop start c next k count goes less out e =
-    let here : Tries (suc (count - k - 1)) c true next = inl (out, refl, e) in
+pub fills_stop : (at k count : ℕ) (block : List ℕ) (start here next : Base) → FillsOn at block k start here → k < count → WritesStore (at + 512 * k) block here true next
+    → FillsStore at block count start true next
+fills_stop at k count block start here next goes less w =
+    let last : FillsStore (at + 512 * k) block (suc (count - k - 1)) here true next = (true, next, w, (refl, refl)) in
     let n : k + suc (count - k - 1) ≡ count = omega arith in
-    subst (λ n. Tries n start true next) n (goes (suc (count - k - 1)) true next here)
+    subst (λ n. FillsStore at block n start true next) n (goes (suc (count - k - 1)) true next last)
 
-pub tries_all : (start c : Numbered) (k count : ℕ) → ((rest : ℕ) (failed : Bool) (end : Numbered) → Tries rest c failed end → Tries (k + rest) start failed end)
-    → k ≡ count → Tries count start false c
-tries_all start c k count goes e =
-    let n : k + 0 ≡ count = omega (arith, e) in subst (λ n. Tries n start false c) n (goes 0 false c (refl, refl))
+pub fills_all : (at k count : ℕ) (block : List ℕ) (start here : Base) → FillsOn at block k start here → k ≡ count → FillsStore at block count start false here
+fills_all at k count block start here goes e =
+    let n : k + 0 ≡ count = omega (arith, e) in subst (λ n. FillsStore at block n start false here) n (goes 0 false here (refl, refl))
 
 -- nothing was put yet
 pub puts_none : (at : ℕ) (block : List ℕ) (told : Option (List ℕ)) → Puts at (repeated 0 block) told told

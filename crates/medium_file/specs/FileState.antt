@@ -4,20 +4,21 @@ use Rattle.std.specs.Option.{option_map}
 use Rattle.tcmu_model.specs.MediumState.{Span, Below, MediumState, file}
 use Rattle.scsi_model.specs.Medium.{blanked, repeated}
 use Rattle.edge.specs.Stores.{StoreState, Puts, Spoils}
+use Rattle.handler_trait.specs.OverStore.{base_of}
 use Rattle.medium_file.specs.declared.file.Lost.{Lost}
 
 -- the range that is lost
 abbrev pub lost_span : Lost → Span
 lost_span l = record { start = l.start; end = l.end }
 
--- what the store shows below, where the bytes of the lost range are not known
-abbrev pub below_file : StoreState → Span → Below
-below_file s lost = record { bytes = option_map (blanked lost) s.bytes; lost = lost; layer = file; store = s.calls }
+-- what the store shows below: the bytes of the lost range are not known to the medium, and in the store those of the free blocks
+abbrev pub below_file : StoreState → Span → List ℕ → Below
+below_file s lost free = record { bytes = option_map (blanked lost) s.bytes; lost = lost; layer = file; store = base_of s free }
 
 -- of so many blocks over a store, behind so many calls, of which the medium itself lets none fail
-abbrev pub file_state : ℕ → StoreState → Span → ℕ → MediumState
-file_state blocks s lost calls =
-    record { blocks = blocks; protected = false; own = record { fails = Some []; calls = calls }; below = below_file s lost }
+abbrev pub file_state : ℕ → StoreState → Span → List ℕ → ℕ → MediumState
+file_state blocks s lost free calls =
+    record { blocks = blocks; protected = false; own = record { fails = Some []; calls = calls }; below = below_file s lost free }
 
 -- what contracts see of a medium over a store: what it shows, and the store
 pub record FileData (S : Type 0) : Type 0 where

@@ -1,16 +1,17 @@
 //! A medium over a store, with the range of the bytes that failed calls may have spoiled.
-ghost use Rattle.std.specs.Prelude.{◌≡◌, ◌+◌, ◌*◌, ◌/◌, ◌%◌, ◌^◌, ◌<◌, ◌≤◌, length, is_err, OnOk, OnErr};
+ghost use Rattle.std.specs.Prelude.{◌≡◌, [], ◌+◌, ◌*◌, ◌/◌, ◌%◌, ◌^◌, ◌<◌, ◌≤◌, length, is_err, OnOk, OnErr};
 ghost use Rattle.std.specs.Option.{option_map};
 ghost use Rattle.tcmu_types.specs.Numbered.{HasCause, next_call};
 ghost use Rattle.tcmu_model.specs.MediumState.{file};
 ghost use Rattle.scsi_model.specs.Medium.{Reads, Writes, Fills, repeated, narrowed, widened, span_of, empty_span, blanked};
 ghost use Rattle.edge.specs.Outside.{CountsFailed};
 ghost use Rattle.edge.specs.Stores.{Shows, Puts, Spoils};
+ghost use Rattle.handler_trait.specs.OverStore.{base_of};
 ghost use Rattle.medium_file.specs.FileState.{file_state, lost_span, PutsInPart};
 
 use crate::filling::fill_store;
 use edge::{Failed, Store};
-use handler_trait::Medium;
+use handler_trait::{FreeBlocks, Medium, write_blocks};
 use std::marker::Model;
 
 /// The places from `start` up to `end`, in bytes.
@@ -64,10 +65,12 @@ fn lost_after(lost: Lost, outcome: Result<(), Failed>, at: u64, n: u64) -> Lost
 
 /// A medium over a store. A read, a write and a sync make one call of it, a fill one for each block, up to the first that fails.
 /// After a write or fill that fails one range is lost, the smallest with its bytes and those that were lost before: they are not told
-/// until one write or fill that succeeds covers them all. Contracts see what it shows as a medium, and its store.
+/// until one write or fill that succeeds covers them all. Of the store, contracts know more: there only the blocks of the calls that failed
+/// are free, each until it is written again. They see what it shows as a medium, and its store.
 #[derive(Drop)]
 pub struct FileMedium<S: Store + Drop> {
     store: S,
+    free: FreeBlocks,
     blocks: u64,
     lost: Lost,
     calls: u64,
@@ -78,7 +81,7 @@ impl<S: Store + Drop> Model for FileMedium<S> {
 
     ghost Value = { FileData S };
 
-    ghost view = { λ f. record { medium = file_state f.blocks (S.state f.store) (lost_span f.lost) f.calls; store = f.store } };
+    ghost view = { λ f. record { medium = file_state f.blocks (S.state f.store) (lost_span f.lost) f.free f.calls; store = f.store } };
 
     ghost invariant = { λ f. IsFile f.blocks (S.state f.store) (lost_span f.lost) };
 }
@@ -89,28 +92,31 @@ impl<S: Store + Drop> FileMedium<S> {
         requires whole { (S.state store).size % 512 ≡ 0 }
         requires some { 512 ≤ (S.state store).size }
         requires most { (S.state store).size ≤ 2 ^ 44 }
-        ensures medium { result.medium ≡ file_state ((S.state store).size / 512) (S.state store) empty_span 0 }
+        ensures medium { result.medium ≡ file_state ((S.state store).size / 512) (S.state store) empty_span [] 0 }
         ensures store { result.store ≡ store }
     {
         let blocks = store.length() / 512;
         FileMedium {
             store,
+            free: FreeBlocks::new(),
             blocks,
             lost: Lost { start: 0, end: 0 },
             calls: 0,
         }
     }
 
-    /// The store, as the calls left it. Where it tells its bytes, the medium's state has the same, but for zeros in the lost range.
+    /// The store, as the calls left it. Where it tells its bytes, they are those of the state's store outside of the free blocks, and those
+    /// of the medium outside of the lost range.
     pub fn into_store(self) -> S
         ensures store { result ≡ self.store }
         ensures layer { self.medium.below.layer ≡ file }
+        ensures base { self.medium.below.store ≡ base_of (S.state result) self.medium.below.store.free }
         ensures size { (S.state result).size ≡ 512 * self.medium.blocks }
         ensures bytes { self.medium.below.bytes ≡ option_map (blanked self.medium.below.lost) (S.state result).bytes }
-        ensures calls { self.medium.below.store ≡ (S.state result).calls }
     {
         let FileMedium {
             store,
+            free: _,
             blocks: _,
             lost: _,
             calls: _,
@@ -166,7 +172,7 @@ impl<S: Store + Drop> Medium for FileMedium<S> {
         ensures spoiled { OnErr result (Spoils at (length bytes.now) (S.state self.old.store).bytes (S.state self.new.store).bytes) }
     {
         self.calls = self.calls.saturating_add(1);
-        let outcome = self.store.write_at(at, bytes);
+        let outcome = write_blocks(&mut self.store, &mut self.free, at, bytes);
         self.lost = lost_after(self.lost, outcome, at, bytes.len() as u64);
         outcome
     }
@@ -185,7 +191,7 @@ impl<S: Store + Drop> Medium for FileMedium<S> {
         ensures spoiled { OnErr result (PutsInPart at block.now count (S.state self.old.store).bytes (S.state self.new.store).bytes) }
     {
         self.calls = self.calls.saturating_add(1);
-        let outcome = fill_store(&mut self.store, at, block, count);
+        let outcome = fill_store(&mut self.store, &mut self.free, at, block, count);
         self.lost = lost_after(self.lost, outcome, at, 512 * count);
         outcome
     }

@@ -1,4 +1,9 @@
 pub mod Decoding
 pub mod Pages
+pub mod Senses
+pub mod Calls
+pub mod Base
 pub mod Medium
+pub mod Runs
 pub mod Scsi
+pub mod ReadsLost

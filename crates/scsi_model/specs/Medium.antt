@@ -1,12 +1,13 @@
 -- The calls of a medium: READ, WRITE, a fill for WRITE SAME and UNMAP, and SYNCHRONIZE CACHE (SBC-3) each make one. A call is a
 -- relation: the state before it, whether it failed, the state after it.
-use Rattle.std.specs.Prelude.{◌≡◌, ◌⊎◌, ℕ, zero, suc, ◌+◌, ◌-◌, ◌*◌, ◌/◌, ◌<◌, min, max, Bool, true, false, ◌&&◌, nat_lt, nat_le, List, [], ◌∷◌, ◌++◌, length, replicate, slice_index, Option, Some, IfSome, if◌then◌else◌}
-use Rattle.std.specs.Bool.{MatchBool}
+use Rattle.std.specs.Prelude.{◌≡◌, ◌⊎◌, ℕ, zero, suc, ◌+◌, ◌-◌, ◌*◌, ◌/◌, ◌<◌, min, max, Bool, true, false, ◌&&◌, nat_lt, nat_le, List, [], ◌∷◌, ◌++◌, length, take, drop, replicate, slice_index, Option, Some, IfSome, if◌then◌else◌}
 use Rattle.std.specs.List.{filter}
 use Rattle.std.specs.Option.{option_map}
 use Rattle.tcmu_types.specs.Overwriting.{overwritten}
-use Rattle.tcmu_types.specs.Numbered.{Numbered, ComesOut, Tries, one_more}
-use Rattle.tcmu_model.specs.MediumState.{Span, Layer, memory, file, overlay, write_back, Below, MediumState}
+use Rattle.tcmu_types.specs.Numbered.{Numbered, ComesOut, one_more}
+use Rattle.tcmu_model.specs.MediumState.{Span, Dirty, Layer, memory, file, overlay, write_back, Base, Below, MediumState}
+use Rattle.scsi_model.specs.Calls.{Call, unchanged, Does, Leaves, Then, Chosen}
+use Rattle.scsi_model.specs.Base.{AsksStore, WritesStore, FillsStore, opened_store, no_store}
 
 -- ==== spans
 
@@ -48,9 +49,6 @@ blanked lost bytes = overwritten lost.start (zeros (lost.end - lost.start)) byte
 
 -- ==== what a call leaves below
 
-abbrev pub unchanged : Below → Below
-unchanged b = b
-
 -- the piece stands from its place on
 abbrev pub with_piece : ℕ → List ℕ → Below → Below
 with_piece at piece b =
@@ -62,111 +60,98 @@ abbrev pub with_lost : ℕ → ℕ → Below → Below
 with_lost at n b =
     let lost = widened b.lost (span_of at n) in record b { lost = lost; bytes = option_map (blanked lost) b.bytes }
 
--- ==== calls below, and how they are joined
-
-abbrev pub Call : Type 1
-Call = Below → Bool → Below → Type 0
-
--- a change without any call of the store; it never fails
-abbrev pub Does : (Below → Below) → Call
-Does change b failed after = (failed ≡ false) × (after ≡ change b)
-
--- n calls of the store, up to the first that fails
-abbrev pub StoreCalls : ℕ → Call
-StoreCalls n b failed after = (store : Numbered) × Tries n b.store failed store × (after ≡ record b { store = store })
-
--- a call, with one change behind its success and another behind its failure
-abbrev pub Leaves : Call → (Below → Below) → (Below → Below) → Call
-Leaves Made success failure b failed after =
-    (middle : Below) × Made b failed middle × (after ≡ (if failed then failure middle else success middle))
-
--- one call, and behind its success another
-abbrev pub Then : Call → Call → Call
-Then First Second b failed after =
-    (broke : Bool) × (middle : Below) × First b broke middle × MatchBool broke ((failed ≡ true) × (after ≡ middle)) (Second middle failed after)
-
--- the one call where the test holds, and else the other
-abbrev pub Chosen : Bool → Call → Call → Call
-Chosen test First Second b failed after = MatchBool test (First b failed after) (Second b failed after)
+-- a call of the store; what the medium shows stays
+abbrev pub OnStore : Call Base → Call Below
+OnStore Made b failed after = (store : Base) × Made b.store failed store × (after ≡ record b { store = store })
 
 -- ==== write-back
 
 -- the blocks that are not yet in the store
-abbrev pub dirty_blocks : Layer → List ℕ
+abbrev pub dirty_blocks : Layer → List Dirty
 dirty_blocks (write_back slots dirty) = dirty
 dirty_blocks _ = []
 
-abbrev pub with_dirty : ℕ → List ℕ → Below → Below
+abbrev pub with_dirty : ℕ → List Dirty → Below → Below
 with_dirty slots dirty b = record b { layer = write_back slots dirty }
 
--- the numbers of n blocks from one on
-abbrev pub blocks_from : ℕ → ℕ → List ℕ
-blocks_from first zero = []
-blocks_from first (suc n) = first ∷ blocks_from (first + 1) n
+-- n blocks from one on, with the bytes of a piece
+abbrev pub dirty_from : ℕ → ℕ → List ℕ → List Dirty
+dirty_from first zero piece = []
+dirty_from first (suc n) piece = record { block = first; bytes = take 512 piece } ∷ dirty_from (first + 1) n (drop 512 piece)
 
--- these blocks, and n from one on; both rising
-abbrev pub joined_blocks : List ℕ → ℕ → ℕ → List ℕ
-joined_blocks dirty first n =
-    filter (λ d. nat_lt d first) dirty ++ blocks_from first n ++ filter (λ d. nat_le (first + n) d) dirty
+-- these blocks, and n from one on with the bytes of a piece in their place; both rising
+abbrev pub joined_dirty : List Dirty → ℕ → ℕ → List ℕ → List Dirty
+joined_dirty dirty first n piece =
+    filter (λ d. nat_lt d.block first) dirty ++ dirty_from first n piece ++ filter (λ d. nat_le (first + n) d.block) dirty
 
--- one call of the store for each of these dirty blocks, which is clean behind it, up to the first that fails
-abbrev pub FlushesBlocks : ℕ → List ℕ → Call
+-- each of these blocks is written to the store by a call of its own and is clean behind it, up to the first that fails
+abbrev pub FlushesBlocks : ℕ → List Dirty → Call Below
 FlushesBlocks slots [] = Does unchanged
-FlushesBlocks slots (d ∷ ds) = Then (Leaves (StoreCalls 1) (with_dirty slots ds) unchanged) (FlushesBlocks slots ds)
+FlushesBlocks slots (d ∷ ds) =
+    Then (Leaves (OnStore (WritesStore (512 * d.block) d.bytes)) (with_dirty slots ds) unchanged) (FlushesBlocks slots ds)
 
--- all of them, rising
-abbrev pub Flushes : ℕ → Call
+-- all dirty ones, rising
+abbrev pub Flushes : ℕ → Call Below
 Flushes slots b = FlushesBlocks slots (dirty_blocks b.layer) b
 
 -- n blocks from one on get dirty; a flush comes first exactly where they and the dirty ones together are more than the slots
-abbrev pub Dirties : ℕ → ℕ → ℕ → Call
-Dirties slots first n b =
-    let together = joined_blocks (dirty_blocks b.layer) first n in
+abbrev pub Dirties : ℕ → ℕ → ℕ → List ℕ → Call Below
+Dirties slots first n piece b =
+    let together = joined_dirty (dirty_blocks b.layer) first n piece in
     Chosen (nat_le (length together) slots)
     (Does (with_dirty slots together))
-    (Then (Flushes slots) (Does (with_dirty slots (blocks_from first n))))
+    (Then (Flushes slots) (Does (with_dirty slots (dirty_from first n piece))))
     b
 
 -- n times one block, rising, up to the first that fails
-abbrev pub DirtiesEach : ℕ → ℕ → ℕ → Call
-DirtiesEach slots first zero = Does unchanged
-DirtiesEach slots first (suc n) = Then (Dirties slots first 1) (DirtiesEach slots (first + 1) n)
+abbrev pub DirtiesEach : ℕ → ℕ → List ℕ → ℕ → Call Below
+DirtiesEach slots first block zero = Does unchanged
+DirtiesEach slots first block (suc n) = Then (Dirties slots first 1 block) (DirtiesEach slots (first + 1) block n)
 
 -- a piece of more blocks than there are slots goes to the store at once, behind a flush
-abbrev pub WritesBack : ℕ → ℕ → List ℕ → Call
+abbrev pub WritesBack : ℕ → ℕ → List ℕ → Call Below
 WritesBack slots at piece =
     Chosen (nat_le (length piece / 512) slots)
-    (Then (Dirties slots (at / 512) (length piece / 512)) (Does (with_piece at piece)))
-    (Then (Flushes slots) (Leaves (StoreCalls 1) (with_piece at piece) (with_lost at (length piece))))
+    (Then (Dirties slots (at / 512) (length piece / 512) piece) (Does (with_piece at piece)))
+    (Then (Flushes slots) (Leaves (OnStore (WritesStore at piece)) (with_piece at piece) (with_lost at (length piece))))
+
+-- ==== layers
+
+-- whether a store lies below
+abbrev pub has_store : Layer → Bool
+has_store memory = false
+has_store file = true
+has_store overlay = true
+has_store (write_back slots dirty) = true
 
 -- ==== the four calls below a medium's own list
 
-abbrev pub ReadsBelow : Layer → Call
+abbrev pub ReadsBelow : Layer → Call Below
 ReadsBelow memory = Does unchanged
-ReadsBelow file = StoreCalls 1
-ReadsBelow overlay = StoreCalls 1
-ReadsBelow (write_back slots dirty) = StoreCalls 1
+ReadsBelow file = OnStore AsksStore
+ReadsBelow overlay = OnStore AsksStore
+ReadsBelow (write_back slots dirty) = OnStore AsksStore
 
-abbrev pub WritesBelow : Layer → ℕ → List ℕ → Call
+abbrev pub WritesBelow : Layer → ℕ → List ℕ → Call Below
 WritesBelow memory at piece = Does (with_piece at piece)
-WritesBelow file at piece = Leaves (StoreCalls 1) (with_piece at piece) (with_lost at (length piece))
+WritesBelow file at piece = Leaves (OnStore (WritesStore at piece)) (with_piece at piece) (with_lost at (length piece))
 WritesBelow overlay at piece = Does (with_piece at piece)
 WritesBelow (write_back slots dirty) at piece = WritesBack slots at piece
 
--- A file takes one call of its store for each block. A failed fill loses its whole range, and only a whole fill empties what was
--- lost.
-abbrev pub FillsBelow : Layer → ℕ → List ℕ → ℕ → Call
+-- A failed fill loses its whole range, and only a whole fill empties what was lost. Of a file's store only the block is spoiled whose call
+-- failed: those before it are stored.
+abbrev pub FillsBelow : Layer → ℕ → List ℕ → ℕ → Call Below
 FillsBelow memory at block count = Does (with_piece at (repeated count block))
-FillsBelow file at block count = Leaves (StoreCalls count) (with_piece at (repeated count block)) (with_lost at (512 * count))
+FillsBelow file at block count = Leaves (OnStore (FillsStore at block count)) (with_piece at (repeated count block)) (with_lost at (512 * count))
 FillsBelow overlay at block count = Does (with_piece at (repeated count block))
 FillsBelow (write_back slots dirty) at block count =
-    Leaves (DirtiesEach slots (at / 512) count) (with_piece at (repeated count block)) (with_lost at (512 * count))
+    Leaves (DirtiesEach slots (at / 512) block count) (with_piece at (repeated count block)) (with_lost at (512 * count))
 
-abbrev pub SyncsBelow : Layer → Call
+abbrev pub SyncsBelow : Layer → Call Below
 SyncsBelow memory = Does unchanged
-SyncsBelow file = StoreCalls 1
+SyncsBelow file = OnStore AsksStore
 SyncsBelow overlay = Does unchanged
-SyncsBelow (write_back slots dirty) = Then (Flushes slots) (StoreCalls 1)
+SyncsBelow (write_back slots dirty) = Then (Flushes slots) (OnStore AsksStore)
 
 -- ==== the four calls of a medium
 
@@ -174,7 +159,7 @@ abbrev pub counted : MediumState → MediumState
 counted m = record m { own = one_more m.own }
 
 -- one call of the medium is counted; it fails and does nothing where it is listed, and is made below where it is not
-abbrev pub MakesCall : Call → MediumState → Bool → MediumState → Type 0
+abbrev pub MakesCall : Call Below → Call MediumState
 MakesCall Made m failed after =
     (ComesOut m.own true × (failed ≡ true) × (after ≡ counted m))
     ⊎ (ComesOut m.own false × (below : Below) × Made m.below failed below × (after ≡ record (counted m) { below = below }))
@@ -190,26 +175,29 @@ pub record Reads (at : ℕ) (out : List ℕ) (m : MediumState) (failed : Bool) (
   pub told : failed ≡ false → MatchesTold m.below at out
 
 -- `piece` is written from a place on
-abbrev pub Writes : ℕ → List ℕ → MediumState → Bool → MediumState → Type 0
+abbrev pub Writes : ℕ → List ℕ → Call MediumState
 Writes at piece m = MakesCall (WritesBelow m.below.layer at piece) m
 
 -- `count` copies of a block are written from a place on
-abbrev pub Fills : ℕ → List ℕ → ℕ → MediumState → Bool → MediumState → Type 0
+abbrev pub Fills : ℕ → List ℕ → ℕ → Call MediumState
 Fills at block count m = MakesCall (FillsBelow m.below.layer at block count) m
 
-abbrev pub Syncs : MediumState → Bool → MediumState → Type 0
+abbrev pub Syncs : Call MediumState
 Syncs m = MakesCall (SyncsBelow m.below.layer) m
 
 -- ==== media as they open
 
+-- these bytes in memory, of which none is lost
+abbrev pub in_memory : List ℕ → Below
+in_memory bytes = record { bytes = Some bytes; lost = empty_span; layer = memory; store = no_store }
+
 -- so many logical blocks of zeros in memory
 abbrev pub memory_below : ℕ → Below
-memory_below blocks =
-    record { bytes = Some (zeros (512 * blocks)); lost = empty_span; layer = memory; store = record { fails = Some []; calls = 0 } }
+memory_below blocks = in_memory (zeros (512 * blocks))
 
 -- a file as its store tells it
-abbrev pub file_below : Option (List ℕ) → Numbered → Below
-file_below bytes calls = record { bytes = bytes; lost = empty_span; layer = file; store = calls }
+abbrev pub file_below : ℕ → Option (List ℕ) → Numbered → Below
+file_below size bytes calls = record { bytes = bytes; lost = empty_span; layer = file; store = opened_store size bytes calls }
 
 -- so many logical blocks over what bears them, with a protected bit and a list of calls that fail
 abbrev pub opened_medium : ℕ → Bool → List ℕ → Below → MediumState
@@ -221,9 +209,4 @@ opened_medium blocks protected fails below =
 -- what a medium in memory shows, of which no call fails
 abbrev pub memory_state : ℕ → List ℕ → ℕ → MediumState
 memory_state blocks bytes calls =
-    record {
-      blocks = blocks;
-      protected = false;
-      own = record { fails = Some []; calls = calls };
-      below = record { bytes = Some bytes; lost = empty_span; layer = memory; store = record { fails = Some []; calls = 0 } };
-    }
+    record { blocks = blocks; protected = false; own = record { fails = Some []; calls = calls }; below = in_memory bytes }

@@ -10,6 +10,7 @@ use Rattle.tcmu_types.specs.SenseBytes.{fixed_sense}
 use Rattle.tcmu_model.specs.MediumState.{MediumState}
 use Rattle.scsi_model.specs.Medium.{Reads, Writes, Fills, Syncs, zeros}
 use Rattle.tcmu_model.specs.Steps.{Asked}
+use Rattle.scsi_model.specs.Senses.{no_additional_sense_information, unrecovered_read_error, write_error, parameter_list_length_error, invalid_command_operation_code, logical_block_address_out_of_range, invalid_field_in_cdb, invalid_field_in_parameter_list, write_protected, miscompare_during_verify_operation}
 use Rattle.scsi_model.specs.Decoding.{decoded}
 use Rattle.scsi_model.specs.Pages.{inquiry_data, mode_sense, capacity10, capacity16, report_luns}
 use Rattle.scsi_model.specs.declared.op.Op.{Op}
@@ -18,47 +19,12 @@ use Rattle.scsi_model.specs.declared.op.CdbFault.{CdbFault}
 use Rattle.scsi_model.specs.declared.op.Extent.{Extent}
 use Rattle.scsi_model.specs.declared.op.CdbFault.TheVariants as fault
 
--- ==== sense data (SPC-4, sense key and additional sense code assignments), none with a qualifier
-
-abbrev pub sense_with : ℕ → ℕ → SenseData
-sense_with key asc = record { key = key; asc = asc; ascq = 0 }
-
-abbrev pub no_sense : SenseData
-no_sense = sense_with 0x0 0x00
-
-abbrev pub unrecovered_read_error : SenseData
-unrecovered_read_error = sense_with 0x3 0x11
-
-abbrev pub write_error : SenseData
-write_error = sense_with 0x3 0x0c
-
-abbrev pub parameter_list_length_error : SenseData
-parameter_list_length_error = sense_with 0x5 0x1a
-
-abbrev pub invalid_operation_code : SenseData
-invalid_operation_code = sense_with 0x5 0x20
-
-abbrev pub address_out_of_range : SenseData
-address_out_of_range = sense_with 0x5 0x21
-
-abbrev pub invalid_field_in_cdb : SenseData
-invalid_field_in_cdb = sense_with 0x5 0x24
-
-abbrev pub invalid_field_in_list : SenseData
-invalid_field_in_list = sense_with 0x5 0x26
-
-abbrev pub write_protected : SenseData
-write_protected = sense_with 0x7 0x27
-
-abbrev pub miscompare : SenseData
-miscompare = sense_with 0xe 0x1d
+-- ==== replies
 
 -- whether sense data say that a call of the medium failed
 abbrev pub is_medium_error : Option SenseData → Bool
 is_medium_error None = false
 is_medium_error (Some s) = s.key == 0x3
-
--- ==== replies
 
 abbrev pub good : List ℕ → ReplyData
 good payload = record { status = 0; sense = None; payload = payload }
@@ -99,7 +65,7 @@ Checked m checks Rest reply after = MatchOption (first_failed checks) (Rest repl
 
 -- the range lies in so many blocks, also where it has none
 abbrev pub range_checks : ℕ → ℕ → ℕ → List Check
-range_checks blocks lba count = check (nat_lt blocks (lba + count)) address_out_of_range ∷ []
+range_checks blocks lba count = check (nat_lt blocks (lba + count)) logical_block_address_out_of_range ∷ []
 
 -- as many bytes were sent as must be, the medium is not protected, and the range lies in it
 abbrev pub write_checks : MediumState → List ℕ → ℕ → ℕ → ℕ → List Check
@@ -144,7 +110,7 @@ ServesWriteSame m lba count sent =
 -- where what was read equals the first n bytes sent, those behind them are written
 abbrev pub Compared : MediumState → ℕ → ℕ → List ℕ → List ℕ → Outcome
 Compared m at n sent out =
-    Either (pointwise nat_eq out (take n sent)) (Calls (Writes at (drop n sent) m) write_error []) (Answers m (refused miscompare))
+    Either (pointwise nat_eq out (take n sent)) (Calls (Writes at (drop n sent) m) write_error []) (Answers m (refused miscompare_during_verify_operation))
 
 abbrev pub ComparesBytes : MediumState → ℕ → ℕ → List ℕ → Outcome
 ComparesBytes m at n sent reply after =
@@ -195,9 +161,9 @@ is_bad_list sent es = has_bad_lengths sent || nat_lt 256 (length es) || nat_lt 3
 abbrev pub list_checks : MediumState → List ℕ → List Check
 list_checks m sent =
     check (nat_lt (length sent) 8) parameter_list_length_error
-    ∷ check (is_bad_list sent (extents_of sent)) invalid_field_in_list
+    ∷ check (is_bad_list sent (extents_of sent)) invalid_field_in_parameter_list
     ∷ check m.protected write_protected
-    ∷ check (list_any (is_beyond m.blocks) (extents_of sent)) address_out_of_range
+    ∷ check (list_any (is_beyond m.blocks) (extents_of sent)) logical_block_address_out_of_range
     ∷ []
 
 abbrev pub UnmapsList : MediumState → List ℕ → Outcome
@@ -216,7 +182,7 @@ cut limit in_len bytes = take in_len (take limit bytes)
 
 -- the payload of an operation that makes no call of the medium
 abbrev pub shown : List ℕ → MediumState → ℕ → Op → List ℕ
-shown name m in_len (op.RequestSense limit) = cut limit in_len (fixed_sense no_sense)
+shown name m in_len (op.RequestSense limit) = cut limit in_len (fixed_sense no_additional_sense_information)
 shown name m in_len (op.Inquiry page limit) = cut limit in_len (inquiry_data name page)
 shown name m in_len (op.ModeSense page limit) = cut limit in_len (mode_sense page m.protected)
 shown name m in_len op.Capacity10 = take in_len (capacity10 m.blocks)
@@ -235,7 +201,7 @@ ServesOp name m sent in_len (op.CompareWrite lba count) = ServesCompareWrite m l
 ServesOp name m sent in_len o = Answers m (good (shown name m in_len o))
 
 abbrev pub fault_sense : CdbFault → SenseData
-fault_sense (fault.Opcode code) = invalid_operation_code
+fault_sense (fault.Opcode code) = invalid_command_operation_code
 fault_sense (fault.Field at) = invalid_field_in_cdb
 
 -- From the device's name, the medium and the request to the reply and the medium after.

@@ -2,7 +2,9 @@
 //! definitions stand in specs/; here are the code types that they cite.
 #![tactic(auto)]
 
+pub mod laws;
 mod op;
+pub mod senses;
 
 pub use op::{
     CdbFault, Extent, MAXIMUM_UNMAP_DESCRIPTOR_COUNT, MAXIMUM_UNMAP_LBA_COUNT,

@@ -1,6 +1,6 @@
 -- What a range of lost bytes hides, and how it changes.
-use Rattle.std.proofs.Common.{◌∙◌, ◌≡◌, ◌⊎◌, ℕ, ◌+◌, ◌-◌, ◌≤◌, ◌<◌, Bool, true, false, ◌&&◌, nat_lt, nat_le, min, max, List, length, sym, ap, subst, arith, Option, Some, None, inl, inr, IfSome, ⊎_elim, slice_get, if◌then◌else◌}
-use Rattle.std.specs.Option.{option_map}
+use Rattle.std.proofs.Common.{◌∙◌, ◌≡◌, ◌⊎◌, ℕ, ◌+◌, ◌-◌, ◌≤◌, ◌<◌, Bool, true, false, ◌&&◌, nat_lt, nat_le, min, max, List, length, sym, ap, subst, arith, Option, Some, None, inl, inr, IfSome, is_some, refl, ⊎_elim, slice_get, if◌then◌else◌}
+use Rattle.std.specs.Option.{option_map, option_and_then}
 use Rattle.std.proofs.lemmas.Bool.{cases_Bool, cases_lt}
 use Rattle.std.proofs.lemmas.List.{length-replicate}
 use Rattle.tcmu_types.specs.Overwriting.{overwritten}
@@ -8,7 +8,6 @@ use Rattle.tcmu_types.proofs.Places.{same_list}
 use Rattle.tcmu_types.proofs.Overwriting.{within, get_overwritten, put_in, put_before, put_behind, length_overwritten, inside, before, behind}
 use Rattle.tcmu_model.specs.MediumState.{Span}
 use Rattle.scsi_model.specs.Medium.{blanked, zeros, narrowed, widened, span_of, empty_span}
-use Rattle.edge.specs.Stores.{Puts, Spoils}
 
 -- the lost range behind a success and behind a failure over n bytes from a place on
 abbrev pub kept_lost : Span → ℕ → ℕ → Span
@@ -117,7 +116,7 @@ lies_widened lost at n m l h =
 
 -- what a write leaves, over bytes of which a range is blanked
 pub put_blanked : (at n : ℕ) (lost : Span) (piece : List ℕ) (old new : Option (List ℕ)) → IfSome old (λ xs. length xs ≡ n) → Lies lost n → at + length piece ≤ n
-    → Puts at piece old new
+    → new ≡ option_map (overwritten at piece) old
     → option_map (blanked (kept_lost lost at (length piece))) new ≡ option_map (λ xs. blanked (kept_lost lost at (length piece)) (overwritten at piece xs)) (option_map (blanked lost) old)
 put_blanked at n lost piece None new long l fits p = ap (option_map (blanked (kept_lost lost at (length piece)))) p
 put_blanked at n lost piece (Some xs) new long l fits p =
@@ -143,24 +142,24 @@ put_blanked at n lost piece (Some xs) new long l fits p =
     ap (option_map (blanked after)) p
     ∙ ap (λ (ys : List ℕ). Some ys) (same_blanked after _ _ (lies_same after n _ (ly ∙ long) (lies_narrowed lost at (length piece) n l)) lz agree)
 
+-- bytes that are as they were, but for n from a place on
+pub record SameOutside (at n : ℕ) (old new : Option (List ℕ)) : Type 0 where
+  pub same : (i : ℕ) → within at (at + n) i ≡ false → option_and_then (λ xs. slice_get xs i) new ≡ option_and_then (λ xs. slice_get xs i) old
+  pub long : (k : ℕ) → IfSome old (λ xs. length xs ≡ k) → IfSome new (λ xs. length xs ≡ k)
+  pub told : is_some new ≡ is_some old
+
 pub spoil_blanked : (at k n : ℕ) (lost : Span) (old new : Option (List ℕ)) → IfSome old (λ xs. length xs ≡ n) → Lies lost n → at + k ≤ n
-    → Spoils at k old new
+    → SameOutside at k old new
     → option_map (blanked (more_lost lost at k)) new ≡ option_map (λ xs. blanked (more_lost lost at k) xs) (option_map (blanked lost) old)
-spoil_blanked at k n lost None new long l fits s = ap (option_map (blanked (more_lost lost at k))) s.2
-spoil_blanked at k n lost (Some xs) new long l fits s =
+spoil_blanked at k n lost None None long l fits s = refl
+spoil_blanked at k n lost None (Some ys) long l fits s = absurd (let t : true ≡ false = s.told in cc)
+spoil_blanked at k n lost (Some xs) None long l fits s = absurd (let t : false ≡ true = s.told in cc)
+spoil_blanked at k n lost (Some xs) (Some ys) long l fits s =
     let after = more_lost lost at k in
-    let piece = s.0 in
     let lx : Lies lost (length xs) = lies_same lost n (length xs) long l in
-    let fx : at + length piece ≤ length xs = rw s.1 (rw long fits) in
     let z = zeros (lost.end - lost.start) in
     let hl : length (blanked lost xs) ≡ length xs = length_overwritten lost.start z xs (rw (blanked_length lost l.ordered) lx.ends) in
-    let ly : length (overwritten at piece xs) ≡ length xs = length_overwritten at piece xs fx in
-    let agree : (i : ℕ) → within after.start after.end i ≡ false → slice_get (overwritten at piece xs) i ≡ slice_get (blanked lost xs) i =
-    λ i out.
-    let both = widened_seen lost at k i out in
-    let here : within at (at + length piece) i ≡ false = subst (λ m. within at (at + m) i ≡ false) (sym s.1) both.0 in
-    get_overwritten at piece xs fx i
-    ∙ ap (λ b. if b then slice_get piece (i - at) else slice_get xs i) here
-    ∙ sym (seen lost xs lx i both.1) in
-    ap (option_map (blanked after)) s.2
-    ∙ ap (λ (ys : List ℕ). Some ys) (same_blanked after _ _ (lies_same after n _ (ly ∙ long) (lies_widened lost at k n l fits)) (hl ∙ sym ly) agree)
+    let ly : length ys ≡ n = s.long n long in
+    let agree : (i : ℕ) → within after.start after.end i ≡ false → slice_get ys i ≡ slice_get (blanked lost xs) i =
+    λ i out. let both = widened_seen lost at k i out in s.same i both.0 ∙ sym (seen lost xs lx i both.1) in
+    ap (λ (zs : List ℕ). Some zs) (same_blanked after _ _ (lies_same after n _ ly (lies_widened lost at k n l fits)) (hl ∙ long ∙ sym ly) agree)

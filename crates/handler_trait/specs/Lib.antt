@@ -1,0 +1,2 @@
+pub mod OverStore
+pub mod Freed

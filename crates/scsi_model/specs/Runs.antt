@@ -1,0 +1,121 @@
+-- Runs of a medium's calls, and what they keep.
+use Rattle.std.specs.Prelude.{◌≡◌, ◌⊎◌, ℕ, ◌+◌, ◌*◌, ◌/◌, ◌%◌, ◌^◌, ◌<◌, ◌≤◌, Bool, true, false, List, [], ◌∷◌, length, slice_get, Some, IfSome, is_some}
+use Rattle.std.specs.Option.{option_map, option_and_then}
+use Rattle.tcmu_types.specs.Lists.{Every}
+use Rattle.tcmu_types.specs.Numbers.{is_among}
+use Rattle.tcmu_model.specs.MediumState.{Layer, memory, file, overlay, write_back, Base, MediumState}
+use Rattle.scsi_model.specs.Calls.{Call}
+use Rattle.scsi_model.specs.Medium.{span_of, empty_span, lies_in, blanked, Reads, Writes, Fills, Syncs}
+
+-- ==== runs
+
+-- a call of a medium: a read of these bytes from a place on, a write of a piece, a fill with so many copies of a block, or a sync
+pub data MediumCall : Type 0 where
+  read : ℕ → List ℕ → MediumCall
+  write : ℕ → List ℕ → MediumCall
+  fill : ℕ → List ℕ → ℕ → MediumCall
+  sync : MediumCall
+
+-- its range lies in so many blocks, and one that writes has whole blocks
+abbrev pub IsWithin : ℕ → MediumCall → Type 0
+IsWithin blocks (read at out) = at + length out ≤ 512 * blocks
+IsWithin blocks (write at piece) = (at + length piece ≤ 512 * blocks) × (at % 512 ≡ 0) × (length piece % 512 ≡ 0)
+IsWithin blocks (fill at block count) = (at + 512 * count ≤ 512 * blocks) × (at % 512 ≡ 0) × (length block ≡ 512)
+IsWithin blocks sync = Unit {0}
+
+abbrev pub Makes : MediumCall → Call MediumState
+Makes (read at out) = Reads at out
+Makes (write at piece) = Writes at piece
+Makes (fill at block count) = Fills at block count
+Makes sync = Syncs
+
+-- a call that was made, and whether it failed
+pub record MadeCall : Type 0 where
+  pub call : MediumCall
+  pub failed : Bool
+
+-- these calls, in order, lead from one state to the other
+abbrev pub Runs : List MadeCall → MediumState → MediumState → Type 0
+Runs [] m after = after ≡ m
+Runs (c ∷ cs) m after = (middle : MediumState) × IsWithin m.blocks c.call × Makes c.call m c.failed middle × Runs cs middle after
+
+-- some calls do
+abbrev pub IsRun : MediumState → MediumState → Type 0
+IsRun m after = (calls : List MadeCall) × Runs calls m after
+
+-- ==== what no call changes
+
+-- a layer, whatever is dirty
+abbrev pub clean : Layer → Layer
+clean memory = memory
+clean file = file
+clean overlay = overlay
+clean (write_back slots dirty) = write_back slots []
+
+-- Behind some calls: what a medium is, and what is told of it.
+pub record Stays (m after : MediumState) : Type 0 where
+  pub blocks : after.blocks ≡ m.blocks
+  pub protected : after.protected ≡ m.protected
+  pub layer : clean after.below.layer ≡ clean m.below.layer
+  -- the store's length
+  pub size : after.below.store.size ≡ m.below.store.size
+  -- which calls fail, the medium's own and its store's
+  pub own_fails : after.own.fails ≡ m.own.fails
+  pub store_fails : after.below.store.calls.fails ≡ m.below.store.calls.fails
+  -- the bytes that the medium shows, and those of its store, are told as before
+  pub bytes : is_some after.below.bytes ≡ is_some m.below.bytes
+  pub stored : is_some after.below.store.bytes ≡ is_some m.below.store.bytes
+
+abbrev pub RunsKeep : Type 0
+RunsKeep = (m after : MediumState) → IsRun m after → Stays m after
+
+-- the medium counts each call
+abbrev pub RunsCount : Type 0
+RunsCount =
+    (calls : List MadeCall) (m after : MediumState) → Runs calls m after → m.own.calls + length calls < 2 ^ 64
+    → after.own.calls ≡ m.own.calls + length calls
+
+-- ==== nothing lost
+
+-- A lossless medium: it lies in memory, or in a file whose store lists no failing call, and nothing of it is lost.
+pub record IsLossless (m : MediumState) : Type 0 where
+  pub place : (m.below.layer ≡ memory) ⊎ ((m.below.layer ≡ file) × (m.below.store.calls.fails ≡ Some []))
+  pub lost : m.below.lost ≡ empty_span
+
+-- it stays one behind each run of its calls
+abbrev pub RunsStayLossless : Type 0
+RunsStayLossless = (m after : MediumState) → IsRun m after → IsLossless m → IsLossless after
+
+-- ==== a file
+
+-- A medium over a file of its own size: it shows what its store holds, but for the lost range, in which every free block lies.
+pub record ShowsFile (m : MediumState) : Type 0 where
+  pub layer : m.below.layer ≡ file
+  pub size : m.below.store.size ≡ 512 * m.blocks
+  pub long : IfSome m.below.store.bytes (λ xs. length xs ≡ m.below.store.size)
+  pub ordered : m.below.lost.start ≤ m.below.lost.end
+  pub inside : m.below.lost.end ≤ m.below.store.size
+  pub bytes : m.below.bytes ≡ option_map (blanked m.below.lost) m.below.store.bytes
+  pub free : (i : ℕ) → is_among m.below.store.free (i / 512) ≡ true → lies_in m.below.lost i ≡ true
+
+-- it does so behind each run of its calls
+abbrev pub RunsShowFile : Type 0
+RunsShowFile = (m after : MediumState) → IsRun m after → ShowsFile m → ShowsFile after
+
+-- whether a place lies in the range of a write or a fill
+abbrev pub touches : ℕ → MediumCall → Bool
+touches i (read at out) = false
+touches i (write at piece) = lies_in (span_of at (length piece)) i
+touches i (fill at block count) = lies_in (span_of at (512 * count)) i
+touches i sync = false
+
+-- the store holds at a place what it held: the same byte, which is known or free as it was
+pub record SameAt (i : ℕ) (s after : Base) : Type 0 where
+  pub byte : option_and_then (λ xs. slice_get xs i) after.bytes ≡ option_and_then (λ xs. slice_get xs i) s.bytes
+  pub free : is_among after.free (i / 512) ≡ is_among s.free (i / 512)
+
+-- so it does where the place lies in the range of no write or fill, a failed one too
+abbrev pub RunsLeave : Type 0
+RunsLeave =
+    (calls : List MadeCall) (m after : MediumState) (i : ℕ) → Runs calls m after → ShowsFile m
+    → Every (λ c. touches i c.call ≡ false) calls → SameAt i m.below.store after.below.store
