@@ -46,12 +46,12 @@ made_more es e at event answer h =
 pub made_last : (es : List EntryData) (e : EntryData) (at : ℕ) → at ≡ moment es → MadeAt (es ++ e ∷ []) at e.event e.answer
 made_last es e at q = record { before = es; entry = e; behind = []; stands = refl; event_is = refl; answer_is = refl; moment_is = sym q }
 
+pub has_within : (before : List EntryData) (x : EntryData) (behind : List EntryData) (event : EventData) (answer : AnswerData) → x.event ≡ event → x.answer ≡ answer → Has (before ++ x ∷ behind) event answer
+has_within [] x behind event answer e a = inl (e, a)
+has_within (y ∷ before) x behind event answer e a = inr (has_within before x behind event answer e a)
+
 pub has_made : (es : List EntryData) (at : ℕ) (event : EventData) (answer : AnswerData) → MadeAt es at event answer → Has es event answer
-has_made es at event answer h = subst (λ (xs : List EntryData). Has xs event answer) (sym h.stands) (within h.before)
-  where
-    within : (xs : List EntryData) → Has (xs ++ h.entry ∷ h.behind) event answer
-    within [] = inl (h.event_is, h.answer_is)
-    within (x ∷ xs) = inr (within xs)
+has_made es at event answer h = subst (λ (xs : List EntryData). Has xs event answer) (sym h.stands) (has_within h.before h.entry h.behind event answer h.event_is h.answer_is)
 
 pub delayed_more : (es : List EntryData) (e : EntryData) (at s : ℕ) (c : CommandData) → WasDelayedAt es at s c → WasDelayedAt (es ++ e ∷ []) at s c
 delayed_more es e at s c h = made_more es e at _ _ h

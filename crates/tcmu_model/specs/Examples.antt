@@ -1,8 +1,8 @@
 -- Worked examples: events of a device, with the answers and completions that they are to give.
 use Rattle.std.specs.Prelude.{◌≡◌, ℕ, true, false, List, [], ◌∷◌, ◌++◌, replicate, map, Some, None, Option, suc, zero}
-use Rattle.tcmu_types.specs.Data.{CommandData, ReplyData, SettingsData}
+use Rattle.tcmu_types.specs.Data.{CommandData, ReplyData, DoneData, SettingsData}
 use Rattle.tcmu_types.specs.declared.settings.Flags.{Flags}
-use Rattle.tcmu_types.specs.Events.{EventData, AnswerData, Job, Note, Detached}
+use Rattle.tcmu_types.specs.Events.{EventData, AnswerData, EntryData, Job, Note, Detached}
 use Rattle.tcmu_types.specs.Events as ev
 use Rattle.tcmu_types.specs.declared.answer.Handle.TheVariants as handle
 use Rattle.tcmu_types.specs.declared.answer.Submit.TheVariants as submit
@@ -12,8 +12,9 @@ use Rattle.tcmu_types.specs.declared.answer.Publish.TheVariants as publish
 use Rattle.tcmu_types.specs.declared.answer.Reset.TheVariants as reset
 use Rattle.tcmu_types.specs.declared.answer.Tmr.TheVariants as tmr
 use Rattle.tcmu_model.specs.Device.{Unfinished, DeviceState, opening_state}
-use Rattle.tcmu_model.specs.Events.{submit_answer, after_submit, enter_answer, after_enter, dispatch_answer, after_dispatch, command_out, after_handle, respond_answer, after_respond, publish_answer, after_publish, clean_answer, after_clean, tick_answer, after_tick, block_answer, after_block, reset_answer, after_reset, restart_answer, after_restart, tmr_answer, after_tmr, stat_answer}
+use Rattle.tcmu_model.specs.Events.{submit_answer, after_submit, enter_answer, after_enter, dispatch_answer, after_dispatch, command_out, after_handle, respond_answer, after_respond, publish_answer, after_publish, clean_answer, after_clean, tick_answer, after_tick, block_answer, after_block, reset_answer, after_reset, restart_answer, after_restart, tmr_answer, after_tmr, stat_answer, check_condition, closing}
 use Rattle.tcmu_model.specs.Drain.{drain_event}
+use Rattle.tcmu_model.specs.Journals.{IsExplainedAt}
 
 -- an event, and a handler's reply
 pub data Ask : Type 0 where
@@ -293,3 +294,58 @@ WaitsBusy = statuses (device_with (record dev { blocks = 1; qfull = 5 }) (waits_
 -- the drain lets it enter when there is room
 abbrev pub WaitsDrained : Type 0
 WaitsDrained = let d : DeviceState = device_with (record dev { blocks = 1; qfull = 5 }) (submits (read_one 1) ∷ submits (read_one 2) ∷ []) in answers d (drained d) ≡ ev.Dispatched (Job 1) ∷ ev.Answered (handle.Done good) ∷ ev.Responded respond.Placed ∷ ev.Published (publish.Moved 1 1) ∷ ev.Logged 1 ∷ ev.Entered (enter.Entered 2) ∷ ev.Dispatched (Job 2) ∷ ev.Answered (handle.Done good) ∷ ev.Responded respond.Placed ∷ ev.Published (publish.Moved 1 1) ∷ ev.Logged 1 ∷ []
+
+-- ==== causes of completions
+
+unfoldable pub entry : EventData → AnswerData → EntryData
+entry event answer = record { device = 0; event = event; answer = answer; logged = 0 }
+
+-- a command is queued, another has to wait, so many ticks pass, the ring is cleaned
+unfoldable pub queued_one : EntryData
+queued_one = entry (ev.Submit (read_one 1)) (ev.Submitted (submit.Queued 1))
+
+unfoldable pub delayed_two : EntryData
+delayed_two = entry (ev.Submit (read_one 2)) (ev.Submitted (submit.Delayed 2))
+
+unfoldable pub ticked : ℕ → EntryData
+ticked n = entry (ev.Tick n) (ev.Logged 1)
+
+unfoldable pub was_cleaned : EntryData
+was_cleaned = entry ev.Clean (ev.Logged 1)
+
+-- the one expires, the other finds no room
+unfoldable pub timed_out : DoneData
+timed_out = check_condition 0x0b 0x08 0x01 1 (read_one 1)
+
+unfoldable pub left_full : DoneData
+left_full = closing 0x28 None 2 (read_one 2)
+
+-- a device of one block, in which a command waits for 5 ticks
+unfoldable pub small : SettingsData
+small = record dev { blocks = 1; qfull = 5 }
+
+-- a command of 30 ticks expires at the tick to moment 30
+abbrev pub ExpiresInTime : Type 0
+ExpiresInTime = IsExplainedAt dev (queued_one ∷ ticked 29 ∷ []) (ticked 1) timed_out
+
+-- and not a tick early
+abbrev pub ExpiresNotEarly : Type 0
+ExpiresNotEarly = ¬ IsExplainedAt dev (queued_one ∷ []) (ticked 29) timed_out
+
+-- nor a tick late
+abbrev pub ExpiresNotLate : Type 0
+ExpiresNotLate = ¬ IsExplainedAt dev (queued_one ∷ ticked 30 ∷ []) (ticked 1) timed_out
+
+-- no clean lets it expire
+abbrev pub CleanExpiresNone : Type 0
+CleanExpiresNone = ¬ IsExplainedAt dev (queued_one ∷ ticked 30 ∷ []) was_cleaned timed_out
+
+-- a command that waits for 5 ticks leaves at the tick to the fifth
+abbrev pub LeavesInTime : Type 0
+LeavesInTime = IsExplainedAt small (queued_one ∷ delayed_two ∷ ticked 4 ∷ []) (ticked 1) left_full
+
+abbrev pub LeavesNotEarly : Type 0
+LeavesNotEarly = ¬ IsExplainedAt small (queued_one ∷ delayed_two ∷ []) (ticked 4) left_full
+
+abbrev pub LeavesNotLate : Type 0
+LeavesNotLate = ¬ IsExplainedAt small (queued_one ∷ delayed_two ∷ ticked 5 ∷ []) (ticked 1) left_full

@@ -26,5 +26,6 @@ pub use laws_states::{in_hand_law, placed_law, waiting_law};
 pub use lengths::{blocks_of, entry_length, tmr_length};
 pub use state::CommandState;
 pub use worked::{
-    expiry_examples, note_examples, order_examples, reset_examples, room_examples, waiting_examples,
+    cause_examples, expiry_examples, note_examples, order_examples, reset_examples, room_examples,
+    waiting_examples,
 };

@@ -1,5 +1,5 @@
 //! Worked examples of the device: what the definitions give for events that engineers know.
-ghost use Rattle.tcmu_model.specs.Examples.{RingFills, ExactlyFull, BlocksFill, BlocksFree, TooLong, LongEnough, TooManyBlocks, OutOfOrder, LoggedAsPlaced, InOrder, LoggedAsLaid, Expires, ExpiredSense, LoggedOnce, NotDue, NeverDue, Resets, ResetStatus, LostReset, LostLog, LostLogTarget, LostCount, DoesNothingDetached, Notes, NotesPass, NotesOff, Waits, LeavesFull, StaysDelayed, WaitsReset, WaitsBusy, WaitsDrained};
+ghost use Rattle.tcmu_model.specs.Examples.{RingFills, ExactlyFull, BlocksFill, BlocksFree, TooLong, LongEnough, TooManyBlocks, OutOfOrder, LoggedAsPlaced, InOrder, LoggedAsLaid, Expires, ExpiredSense, LoggedOnce, NotDue, NeverDue, Resets, ResetStatus, LostReset, LostLog, LostLogTarget, LostCount, DoesNothingDetached, Notes, NotesPass, NotesOff, Waits, LeavesFull, StaysDelayed, WaitsReset, WaitsBusy, WaitsDrained, ExpiresInTime, ExpiresNotEarly, ExpiresNotLate, CleanExpiresNone, LeavesInTime, LeavesNotEarly, LeavesNotLate};
 
 /// The ring and the data area fill exactly, and what no empty one takes is too big.
 pub fn room_examples()
@@ -55,4 +55,16 @@ pub fn waiting_examples()
     ensures waits_reset { WaitsReset }
     ensures waits_busy { WaitsBusy }
     ensures waits_drained { WaitsDrained }
+{}
+
+/// The tick that comes to a command's deadline, or to the end of its wait, is the cause of its completion; no tick before or behind it
+/// is, and no clean.
+pub fn cause_examples()
+    ensures expires { ExpiresInTime }
+    ensures expires_not_early { ExpiresNotEarly }
+    ensures expires_not_late { ExpiresNotLate }
+    ensures clean_expires_none { CleanExpiresNone }
+    ensures leaves { LeavesInTime }
+    ensures leaves_not_early { LeavesNotEarly }
+    ensures leaves_not_late { LeavesNotLate }
 {}
