@@ -1,21 +1,19 @@
 -- A picture of a sound device, with block lists that are sound, is a dump of the code: its numbers, and the lengths of its bytes, are
 -- numbers of 64 bits.
-use Rattle.std.proofs.Common.{◌≡◌, ℕ, suc, ◌+◌, ◌-◌, ◌*◌, ◌<◌, ◌≤◌, Bool, true, false, cond, List, [], ◌∷◌, ◌++◌, length, take, drop, map, replicate, slice_get, IfSome, Option, Some, None, refl, sym, ap, ◌∙◌, arith, length-append, length-drop}
+use Rattle.std.proofs.Common.{◌≡◌, ℕ, suc, ◌+◌, ◌*◌, ◌<◌, ◌≤◌, Bool, true, false, cond, List, [], ◌∷◌, length, take, drop, map, replicate, slice_get, IfSome, Option, Some, None, refl, sym, ap, ◌∙◌, arith, length-append, length-drop}
 use Rattle.std.proofs.lemmas.List.{length-take, length-replicate}
 use Rattle.std.proofs.Math.Nat.{mod-lt}
 use Rattle.tcmu_types.specs.Data.{ReplyData, SettingsData}
 use Rattle.tcmu_types.specs.Rules.{IsCommand, IsSettings, takes_payload, payload_length}
-use Rattle.tcmu_types.specs.declared.iovec.Iov.{Iov}
 use Rattle.tcmu_types.proofs.Places.{get_drop}
-use Rattle.tcmu_model.specs.declared.state.CommandState.{CommandState}
 use Rattle.tcmu_model.specs.BlockLists.{Taken, list_of, held_by}
 use Rattle.tcmu_model.specs.Device.{Unfinished, DeviceState, has_serial}
-use Rattle.region_model.specs.Layout.{ids_bytes, iovs_bytes, cdb_place, command_length, command_head, ring_start, data_start, mailbox_bytes, pad_bytes, command_bytes, tmr_bytes, sense_buffer, answer_bytes, response_bytes, entry_header}
-use Rattle.tcmu_types.specs.ByteFields.{le, put, zeros, padded}
-use Rattle.tcmu_model.specs.Lengths.{round_up, tmr_length, blocks_of, block_size}
+use Rattle.region_model.specs.Layout.{data_start, response_bytes}
+use Rattle.tcmu_types.specs.ByteFields.{le, put}
+use Rattle.tcmu_model.specs.Lengths.{blocks_of, block_size}
 use Rattle.tcmu_types.specs.Lists.{first_of, Every}
 use Rattle.tcmu_model.specs.Owned.{ListsSound}
-use Rattle.region_model.specs.Picture.{place_of, is_placed, data_in, payload_of, command_iovs, request_of, told_length, with_reply, with_answer, entry_of, answer_at, item_bytes, ids_named, shown_item, shown_items, shown_command, shown_mailbox, picture_of}
+use Rattle.region_model.specs.Picture.{place_of, payload_of, command_iovs, request_of, told_length, with_reply, with_answer, entry_of, answer_at, item_bytes, ids_named, shown_item, shown_items, shown_command, shown_mailbox, picture_of}
 use Rattle.tcmu_model.specs.RingState.{Item, Laid, Pad, Cmd, Tmr, lengths}
 use Rattle.tcmu_model.specs.Sound.{IsItem, IsSound, ReplyFits}
 use Rattle.tcmu_model.proofs.Basics.{rows_rise}
@@ -23,71 +21,27 @@ use Rattle.tcmu_model.proofs.DrainEnds.{rows_commands}
 use Rattle.tcmu_types.proofs.Everies.{every-front, every-back, every-weaker, every-mapped}
 use Rattle.tcmu_model.proofs.Indexed.{item_at}
 use Rattle.tcmu_types.proofs.Rises.{rise_within}
-use Rattle.tcmu_types.proofs.ByteFields.{lengths as writes, length-le, length-zeros, length-padded}
-use Rattle.region_model.proofs.HeaderLengths.{length-command_head, length-entry_header}
+use Rattle.tcmu_types.proofs.ByteFields.{length-le}
 use Rattle.text_laws.specs.Dumps.{IsItemValue, IsHeldValue, PicturesWhole}
 use Rattle.text_laws.specs.Values.{IsNumber}
 use Rattle.text_laws.proofs.Devices.{blocks_few}
-use Rattle.region_model.proofs.PartLengths.{length-iovs, length-sense}
+use Rattle.region_model.proofs.PartLengths.{length-iovs, length-mailbox, length-note, length-pad, length-payload, length-request, length-response}
 
 -- ---- how many bytes are written
-
-padded_most : (n : ℕ) (xs : List ℕ) → length (padded n xs) ≤ n + length xs
-unfolding padded
-padded_most n xs = omega (arith, length-append xs (zeros (n - length xs)), length-zeros (n - length xs))
 
 put_most : (xs : List ℕ) (at : ℕ) (bytes : List ℕ) → length (put xs at bytes) ≤ 2 * length xs + length bytes
 unfolding put
 put_most xs at bytes = simp (length-append, length-take, length-drop) (omega arith)
 
 mailbox_few : (d : DeviceState) → IsNumber (length (shown_mailbox d))
-unfolding mailbox_bytes
-mailbox_few d = omega writes
-
-pad_most : (n : ℕ) → length (pad_bytes n) ≤ n + 8
-unfolding pad_bytes
-pad_most n = omega (arith, length-append (entry_header 0 n 0) (zeros (n - 8)), length-entry_header 0 n 0, length-zeros (n - 8))
-
-iovs_most : (iovs : List Iov) → length (iovs_bytes iovs) ≤ 16 * length iovs
-iovs_most [] = omega arith
-iovs_most (iov ∷ iovs) =
-    let one : length (le 8 iov.base ++ le 8 iov.len) ≡ length (le 8 iov.base) + length (le 8 iov.len) = length-append (le 8 iov.base) (le 8 iov.len) in
-    let all : length (iovs_bytes (iov ∷ iovs)) ≡ length (le 8 iov.base ++ le 8 iov.len) + length (iovs_bytes iovs) = length-append (le 8 iov.base ++ le 8 iov.len) (iovs_bytes iovs) in
-    omega (arith, iovs_most iovs, one, all, length-le 8 iov.base, length-le 8 iov.len)
-
-command_most : (at id slots : ℕ) (iovs : List Iov) (cdb : List ℕ) → length (command_bytes at id slots iovs cdb) ≤ cdb_place slots + 48 + 16 * length iovs + round_up (length cdb) + length cdb
-unfolding command_bytes
-command_most at id slots iovs cdb =
-    let h : List ℕ = command_head (command_length slots (length cdb)) id (length iovs) (ring_start + at + cdb_place slots) in
-    let front : length (h ++ iovs_bytes iovs) ≡ length h + length (iovs_bytes iovs) = length-append h (iovs_bytes iovs) in
-    let first : length h ≡ 48 = length-command_head (command_length slots (length cdb)) id (length iovs) (ring_start + at + cdb_place slots) in
-    let a = padded_most (cdb_place slots) (h ++ iovs_bytes iovs) in
-    let b = padded_most (round_up (length cdb)) cdb in
-    omega (arith, front, first, a, b, iovs_most iovs, length-append (padded (cdb_place slots) (h ++ iovs_bytes iovs)) (padded (round_up (length cdb)) cdb))
-
-ids_most : (ids : List ℕ) → length (ids_bytes ids) ≤ 2 * length ids
-ids_most [] = omega arith
-ids_most (id ∷ ids) = omega (arith, ids_most ids, length-append (le 2 id) (ids_bytes ids), length-le 2 id)
-
-tmr_most : (kind : ℕ) (ids : List ℕ) → length (tmr_bytes kind ids) ≤ tmr_length (length ids) + 32 + 2 * length ids
-unfolding tmr_bytes
-tmr_most kind ids =
-    let h : List ℕ = entry_header 2 (tmr_length (length ids)) 0 ++ le 1 kind ++ zeros 3 ++ le 4 (length ids) ++ zeros 16 in
-    let first : length h ≡ 32 = omega (writes, length-entry_header 2 (tmr_length (length ids)) 0) in
-    omega (arith, first, length-append h (ids_bytes ids), ids_most ids, padded_most (tmr_length (length ids)) (h ++ ids_bytes ids))
-
-response_most : (reply : ReplyData) (n : Option ℕ) → length (response_bytes reply n) ≤ 105
-unfolding answer_bytes
-response_most reply n =
-    let s : length (padded 96 (sense_buffer reply.sense)) ≡ 96 = length-padded 96 (sense_buffer reply.sense) (length-sense reply.sense) in
-    omega (writes, s)
+mailbox_few d = let l : length (shown_mailbox d) ≡ 128 = length-mailbox _ in omega arith
 
 -- an entry with an answer, or without one
 reply_most : (read_len : Bool) (id : ℕ) (entry cdb : List ℕ) (o : Option ReplyData) → length (with_reply read_len id entry cdb o) ≤ 4 * length entry + 200
 reply_most read_len id entry cdb None = omega arith
 reply_most read_len id entry cdb (Some reply) =
     let told = told_length read_len cdb reply in
-    omega (arith, put_most entry 4 (le 2 id), length-le 2 id, put_most (put entry 4 (le 2 id)) 7 (response_bytes reply told), response_most reply told)
+    omega (arith, put_most entry 4 (le 2 id), length-le 2 id, put_most (put entry 4 (le 2 id)) 7 (response_bytes reply told), length-response reply told)
 
 answer_most : (read_len : Bool) (id : ℕ) (entry : List ℕ) (o : Option Unfinished) → length (with_answer read_len id entry o) ≤ 4 * length entry + 200
 answer_most read_len id entry None = omega arith
@@ -101,18 +55,18 @@ entry_most d id entry (Some s) = answer_most d.settings.flags.read_len id entry 
 
 item_few : (d : DeviceState) (lists : List Taken) (i n : ℕ) (l : Laid) → IsSound d → ListsSound d lists → d.ring.cleared ≤ i → slice_get d.ring.laid i ≡ Some (record { len = n; laid = l }) → IsItem d.settings (lengths (take i d.ring.laid)) (record { len = n; laid = l })
     → IsNumber (length (item_bytes d lists i 0 (replicate (ids_named (record { len = n; laid = l })) 0) (record { len = n; laid = l })))
-item_few d lists i n Pad sound owned behind found is = omega (arith, pad_most n, is.whole, sound.settings.ring_high)
+item_few d lists i n Pad sound owned behind found is = omega (arith, length-pad n is.some, is.whole, sound.settings.ring_high)
 item_few d lists i n (Cmd s c) sound owned behind found is =
     let iovs = command_iovs d.settings (list_of lists s) c in
     let few = length-iovs (data_start d.settings.ring) (block_size d.settings.pages) (list_of lists s) (payload_length c) in
     let slots = owned.spans i n s c behind found in
-    let entry = command_most (place_of d.ring i) 0 (blocks_of d.settings.pages c) iovs c.cdb in
+    let entry = length-request (place_of d.ring i) 0 (blocks_of d.settings.pages c) iovs c.cdb (omega (arith, few, slots)) in
     let whole = entry_most d 0 (request_of d.settings (list_of lists s) (place_of d.ring i) 0 c) (answer_at d i) in
-    omega (arith, few, slots, entry, whole, is.kind.0, is.whole, sound.settings.ring_high)
+    omega (arith, entry, whole, is.kind.0, is.whole, sound.settings.ring_high)
 item_few d lists i n (Tmr kind ss) sound owned behind found is =
     let ids : List ℕ = replicate (length ss) 0 in
     let many : length ids ≡ length ss = length-replicate {A = ℕ} (length ss) 0 in
-    omega (arith, tmr_most kind ids, many, is.kind, is.whole, sound.settings.ring_high)
+    omega (arith, length-note kind ids, many, is.kind, is.whole, sound.settings.ring_high)
 
 item_value : (d : DeviceState) (lists : List Taken) (i : ℕ) (x : Item) → IsSound d → ListsSound d lists → d.ring.cleared ≤ i → slice_get d.ring.laid i ≡ Some x → IsItemValue (shown_item d lists i x)
 item_value d lists i x sound owned behind found =
@@ -131,24 +85,12 @@ items_value d lists i (x ∷ xs) sound owned behind at =
 
 -- ---- commands
 
-data_few : (n : ℕ) (state : CommandState) (o : Option ReplyData) → n ≤ 1048576 → IfSome o (λ r. length r.payload ≤ n) → IsNumber (length (data_in n state o))
-data_few n state None few fits = omega (arith, few, length-zeros n)
-data_few n state (Some reply) few fits = go (is_placed state)
-  where
-    go : (b : Bool) → IsNumber (length (cond b (reply.payload ++ zeros (n - length reply.payload)) (zeros n)))
-    go true = omega (arith, few, fits, length-append reply.payload (zeros (n - length reply.payload)), length-zeros (n - length reply.payload))
-    go false = omega (arith, few, length-zeros n)
-
 payload_few : (u : Unfinished) → IsCommand u.command → IfSome u.reply (ReplyFits u.command) → IsNumber (length (payload_of u))
-payload_few u is fits = go (takes_payload u.command.cdb)
+payload_few u is fits = omega (arith, length-payload u fits, few (takes_payload u.command.cdb))
   where
-    shorter : (o : Option ReplyData) → IfSome o (ReplyFits u.command) → IfSome o (λ r. length r.payload ≤ u.command.in_len)
-    shorter None h = tt
-    shorter (Some reply) h = h.payload
-
-    go : (b : Bool) → IsNumber (length (cond b u.command.sent (data_in u.command.in_len u.state u.reply)))
-    go true = omega (arith, is.sent)
-    go false = data_few u.command.in_len u.state u.reply is.in_len (shorter u.reply fits)
+    few : (b : Bool) → cond b (length u.command.sent) u.command.in_len ≤ 1048576
+    few true = is.sent
+    few false = is.in_len
 
 held_values : (s : SettingsData) (lists : List Taken) (us : List Unfinished) (most : ℕ) → IsSettings s → IsNumber most → Every (λ u. IsCommand u.command) us → Every (λ u. IfSome u.reply (ReplyFits u.command)) us
     → Every (λ u. (0 < u.serial) × (u.serial ≤ most)) us → Every (λ n. n < s.blocks) (held_by lists us) → Every IsHeldValue (map (shown_command lists) us)
