@@ -1,7 +1,8 @@
 //! Loops that run beside each other, each in a thread of its own where one can be made.
-ghost use Rattle.std.specs.Prelude.{◌≡◌, ◌+◌, ◌≤◌, All, vec_len, vec_capacity, IfOk, IfErr};
+ghost use Rattle.std.specs.Prelude.{◌≡◌, ◌+◌, ◌-◌, ◌≤◌, [], ◌∷◌, ◌++◌, length, All, vec_len, vec_capacity, IfOk, IfErr};
 
 use std::alloc::Global;
+use std::marker::Model;
 use std::snapshot::Snapshot;
 use std::sync::Wait;
 use std::thread;
@@ -43,24 +44,69 @@ impl<L: Lane> Promise<L::Done> for DoneOf<L> {
     ghost kept_by = { λ p r. L.done p.about.value r };
 }
 
+/// Loops that are to run beside each other, with all the room that their run needs. Contracts see the loops, and for how many more
+/// there is room.
+#[derive(Drop)]
+pub struct Lanes<L: Lane> {
+    lanes: Vec<L>,
+    running: Vec<PromisedHandle<L::Done, DoneOf<L>>>,
+    dones: Vec<L::Done>,
+}
+
+impl<L: Lane> Model for Lanes<L> {
+    ghost use Rattle.std.specs.Prelude.{◌≡◌, ◌-◌, ◌≤◌, vec_len, vec_capacity};
+    ghost use Rattle.tcmu_types.specs.Data.{Spared};
+
+    ghost Value = { Spared L };
+
+    ghost view = { λ a. record { items = a.lanes.items; spare = vec_capacity a.lanes - vec_len a.lanes } };
+
+    ghost invariant = { λ a.
+        (vec_len a.running ≡ 0) × (vec_capacity a.lanes ≤ vec_capacity a.running)
+        × (vec_len a.dones ≡ 0) × (vec_capacity a.lanes ≤ vec_capacity a.dones) };
+}
+
+impl<L: Lane> Lanes<L> {
+    /// No loop yet, and room for so many.
+    pub fn with_room(alloc: Global, loops: usize) -> Result<Lanes<L>, NoMemory>
+        ensures { IfOk result (λ l. l ≡ record { items = []; spare = loops }) }
+    {
+        Ok(Lanes {
+            lanes: Vec::with_capacity(alloc, loops)?,
+            running: Vec::with_capacity(alloc, loops)?,
+            dones: Vec::with_capacity(alloc, loops)?,
+        })
+    }
+
+    /// Adds a loop in the room that is there.
+    pub fn push(&mut self, lane: L)
+        requires { 1 ≤ self.old.spare }
+        ensures { self.new ≡ record { items = self.old.items ++ lane ∷ []; spare = self.old.spare - 1 } }
+    {
+        self.lanes.push_reserved(lane);
+    }
+}
+
 /// Runs all loops and, when the last has ended, answers what they gave back: as many results as there were loops, each as `done` says,
-/// in no order. In which order they start, and what is run where there is no memory, has no clause: the code starts them in their order,
-/// runs one that gets no thread before it starts the next, and makes room for all results before it starts the first.
+/// in no order. A loop that gets no thread is run here, so no loop is lost. In which order they start has no clause: the code starts them
+/// in their order, and runs one that gets no thread before it starts the next.
 pub fn run_all<L: Lane, R: Threads + Wait + Sync>(
     rt: &R,
-    alloc: Global,
     about: &L::About,
-    lanes: Vec<L>,
-) -> Result<Vec<L::Done>, NoMemory>
+    lanes: Lanes<L>,
+) -> Vec<L::Done>
 where
     L::About: Sync,
     requires { All (L.ready about.now) lanes.items }
-    ensures len { IfOk result (λ v. vec_len v ≡ vec_len lanes) }
-    ensures each { IfOk result (λ v. All (L.done about.now) v.items) }
+    ensures len { vec_len result ≡ length lanes.items }
+    ensures each { All (L.done about.now) result.items }
 {
-    let running = Vec::with_capacity(alloc, lanes.len())?;
-    let dones = Vec::with_capacity(alloc, lanes.len())?;
-    Ok(run_in(rt, about, lanes, running, dones))
+    let Lanes {
+        lanes,
+        running,
+        dones,
+    } = lanes;
+    run_in(rt, about, lanes, running, dones)
 }
 
 /// Runs all loops, where there is room for their threads and for what they give back.

@@ -1,9 +1,9 @@
 //! Loops that run beside each other, each in a thread where one can be made.
 #![tactic(auto)]
 
-mod lanes;
+mod beside;
 
-pub use lanes::{Lane, run_all};
+pub use beside::{Lane, Lanes, run_all};
 
 #[cfg(test)]
 mod tests;

@@ -1,5 +1,5 @@
 //! Two threads over one list of numbers, each with a pass of its turn. What they were told is compared with the list at the end.
-ghost use Rattle.std.specs.Prelude.{◌≡◌, ◌+◌, ◌<◌, ◌≤◌, [], ◌∷◌, All, vec_len, IfOk, MatchBool};
+ghost use Rattle.std.specs.Prelude.{◌≡◌, ◌+◌, ◌<◌, ◌≤◌, [], ◌∷◌, length, All, vec_len, MatchBool};
 
 use super::*;
 use std::alloc::Global;
@@ -99,15 +99,14 @@ fn ask_all<R: Wait>(
 
 fn run_both<R: Threads + Wait + Sync>(
     rt: &R,
-    alloc: Global,
     turn: &Turn<Numbers>,
-    loops: Vec<Asks>,
-) -> Result<Vec<Taken>, NoMemory>
+    loops: Lanes<Asks>,
+) -> Vec<Taken>
     requires { All (λ l. (l.pass.turn ≡ turn.now.turn) × (l.pass.parts ≡ 1)) loops.items }
-    ensures len { IfOk result (λ v. vec_len v ≡ vec_len loops) }
-    ensures each { IfOk result (λ v. All (λ r. (r.pass.turn ≡ turn.now.turn) × (r.pass.parts ≡ 1)) v.items) }
+    ensures len { vec_len result ≡ length loops.items }
+    ensures each { All (λ r. (r.pass.turn ≡ turn.now.turn) × (r.pass.parts ≡ 1)) result.items }
 {
-    run_all(rt, alloc, turn, loops)
+    run_all(rt, turn, loops)
 }
 
 fn join_both(
@@ -142,7 +141,8 @@ fn two_threads_receive_every_entry_once(rt: HostRuntime) -> Result<(), Fail> {
         limit: 9,
         taken: Vec::new(rt.alloc()),
     };
-    let Ok((turn, mut pass)) = Turn::start(rt.alloc(), numbers, 3) else {
+    let mut loops = Lanes::with_room(rt.alloc(), 2)?;
+    let Ok((turn, mut pass)) = Turn::start_or_give_back(rt.alloc(), numbers, 3) else {
         panic!(rt; "no memory")
     };
     let one = Asks {
@@ -155,9 +155,9 @@ fn two_threads_receive_every_entry_once(rt: HostRuntime) -> Result<(), Fail> {
         asks: vec![in rt.alloc(); 5, 60, 7]?,
         taken: Vec::new(rt.alloc()),
     };
-    let Ok(backs) = run_both(&rt, rt.alloc(), &turn, vec![in rt.alloc(); one, other]?) else {
-        panic!(rt; "no memory")
-    };
+    loops.push(one);
+    loops.push(other);
+    let backs = run_both(&rt, &turn, loops);
     let (pass, mut received) = join_both(rt.alloc(), &turn, pass, backs);
     let mut numbers = turn.close(pass);
     received.sort()?;

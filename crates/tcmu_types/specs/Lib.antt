@@ -4,6 +4,7 @@ pub mod Rules
 pub mod SenseBytes
 pub mod Events
 pub mod Views
+pub mod Copied
 pub mod Dumps
 pub mod Numbered
 pub mod Overwriting

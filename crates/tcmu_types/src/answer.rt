@@ -1,5 +1,10 @@
 //! What the events of a device answer. A refusal of room names what is needed and what is free: bytes of the ring, or data blocks.
-use crate::{Reply, Serials, Stat};
+ghost use Rattle.std.specs.Prelude.{◌≡◌, [], IfOk, length};
+ghost use Rattle.tcmu_types.specs.Views.{dispatch_data, answer_data};
+ghost use Rattle.tcmu_types.specs.Copied.{handle_bytes, dispatch_serials, answer_bytes, answer_serials, HasRoom, LeavesRoom};
+
+use crate::{CopyRoom, NoMemory, Reply, Serials, Stat};
+use std::alloc::Global;
 
 /// The answer to an event, by the kind of the event.
 #[derive(Debug, Drop)]
@@ -19,6 +24,52 @@ pub enum Answer {
     Tmr(Tmr),
     Stat(Stat),
     Enter(Enter),
+}
+
+impl Answer {
+    /// How many bytes it carries, and how many serials it names.
+    fn sizes(&self) -> (usize, usize)
+        ensures bytes { result.0 ≡ length (answer_bytes (answer_data self.now)) }
+        ensures serials { result.1 ≡ length (answer_serials (answer_data self.now)) }
+    {
+        match self {
+            Answer::Handle(Handle::Done(reply)) => (reply.payload.len(), 0),
+            Answer::Dispatch(Dispatch::Note { serials, .. }) => (0, serials.len()),
+            _ => (0, 0),
+        }
+    }
+
+    /// The same answer once more, what it carries in the room.
+    pub fn copied_into(&self, room: &mut CopyRoom) -> Answer
+        requires { HasRoom (answer_bytes (answer_data self.now)) (answer_serials (answer_data self.now)) room.old }
+        ensures copy { answer_data result ≡ answer_data self.now }
+        ensures room { LeavesRoom (answer_bytes (answer_data self.now)) (answer_serials (answer_data self.now)) room.old room.new }
+    {
+        match self {
+            Answer::Submit(answer) => Answer::Submit(*answer),
+            Answer::Dispatch(answer) => Answer::Dispatch(answer.copied_into(room)),
+            Answer::Handle(answer) => Answer::Handle(answer.copied_into(room)),
+            Answer::Respond(answer) => Answer::Respond(*answer),
+            Answer::Publish(answer) => Answer::Publish(*answer),
+            Answer::Logged(completions) => Answer::Logged(*completions),
+            Answer::Changed(changed) => Answer::Changed(*changed),
+            Answer::Reset(answer) => Answer::Reset(*answer),
+            Answer::Lost(commands) => Answer::Lost(*commands),
+            Answer::Tmr(answer) => Answer::Tmr(*answer),
+            Answer::Stat(stat) => Answer::Stat(*stat),
+            Answer::Enter(answer) => Answer::Enter(*answer),
+        }
+    }
+
+    /// The same answer once more.
+    pub fn try_clone(&self, alloc: Global) -> Result<Answer, NoMemory>
+        ensures { IfOk result (λ a. answer_data a ≡ answer_data self.now) }
+    {
+        let (bytes, serials) = self.sizes();
+        let mut room = CopyRoom::new(alloc);
+        room.reserve(bytes, serials)?;
+        Ok(self.copied_into(&mut room))
+    }
 }
 
 /// `Queued` and `Delayed` give the serial of a command that is accepted: it stands in the ring, or it waits for room. `Busy` comes from a
@@ -48,6 +99,25 @@ pub enum Dispatch {
     Detached,
 }
 
+impl Dispatch {
+    /// The same answer once more, its serials in the room.
+    pub fn copied_into(&self, room: &mut CopyRoom) -> Dispatch
+        requires { HasRoom [] (dispatch_serials (dispatch_data self.now)) room.old }
+        ensures copy { dispatch_data result ≡ dispatch_data self.now }
+        ensures room { LeavesRoom [] (dispatch_serials (dispatch_data self.now)) room.old room.new }
+    {
+        match self {
+            Dispatch::Job(serial) => Dispatch::Job(*serial),
+            Dispatch::Note { kind, serials } => Dispatch::Note {
+                kind: *kind,
+                serials: room.copy_serials(serials.as_slice()),
+            },
+            Dispatch::Nothing => Dispatch::Nothing,
+            Dispatch::Detached => Dispatch::Detached,
+        }
+    }
+}
+
 /// What the handler makes of a command.
 #[derive(Debug, Drop)]
 pub enum Handle {
@@ -55,6 +125,20 @@ pub enum Handle {
     Done(Reply),
     /// No command of this serial waits for its handler.
     NotOut(u64),
+}
+
+impl Handle {
+    /// The same answer once more, its payload in the room.
+    pub fn copied_into(&self, room: &mut CopyRoom) -> Handle
+        requires { HasRoom (handle_bytes self.now) [] room.old }
+        ensures copy { result ≡ self.now }
+        ensures room { LeavesRoom (handle_bytes self.now) [] room.old room.new }
+    {
+        match self {
+            Handle::Done(reply) => Handle::Done(reply.copied_into(room)),
+            Handle::NotOut(serial) => Handle::NotOut(*serial),
+        }
+    }
 }
 
 /// Where the answer of a handled command goes.

@@ -1,9 +1,10 @@
 //! Commands as their initiators send them.
-ghost use Rattle.std.specs.Prelude.{◌≡◌, ◌≤◌, ◌<◌, ◌==◌, if◌then◌else◌, Some, None, IfOk, length};
+ghost use Rattle.std.specs.Prelude.{◌≡◌, ◌≤◌, ◌<◌, ◌==◌, if◌then◌else◌, Some, None, [], IfOk, length};
 ghost use Rattle.tcmu_types.specs.Data.{CommandData};
+ghost use Rattle.tcmu_types.specs.Copied.{HasRoom, LeavesRoom};
 ghost use Rattle.tcmu_types.specs.Rules.{IsCommand, is_sendable, takes_payload, payload_length};
 
-use crate::{Bytes, Cdb, MOST_PAYLOAD, Name, NoMemory, takes_payload};
+use crate::{Bytes, Cdb, CopyRoom, MOST_PAYLOAD, Name, NoMemory, takes_payload};
 use std::alloc::Global;
 use std::marker::Model;
 
@@ -114,5 +115,19 @@ impl Command {
             sent,
             in_len: self.in_len,
         })
+    }
+    /// The same command once more, the bytes sent with it in the room.
+    pub fn copied_into(&self, room: &mut CopyRoom) -> Command
+        requires { HasRoom self.now.sent [] room.old }
+        ensures copy { result ≡ self.now }
+        ensures room { LeavesRoom self.now.sent [] room.old room.new }
+    {
+        Command {
+            init: self.init.copy(),
+            tag: self.tag,
+            cdb: self.cdb.copy(),
+            sent: room.copy_bytes(self.sent.as_slice()),
+            in_len: self.in_len,
+        }
     }
 }

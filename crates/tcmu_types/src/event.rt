@@ -1,7 +1,15 @@
 //! The events of a device, and the entries of its journal.
+ghost use Rattle.std.specs.Prelude.{◌≡◌, IfOk, length};
+ghost use Rattle.tcmu_types.specs.Views.{event_data};
+ghost use Rattle.tcmu_types.specs.Copied.{event_bytes, event_serials, HasRoom, LeavesRoom};
+
 use crate::answer::Answer;
-use crate::{Command, Serials};
+use crate::{Command, CopyRoom, NoMemory, Serials};
+use std::alloc::Global;
 use std::marker::Model;
+
+#[cfg(test)]
+mod tests;
 
 /// An event of a device, which the call of `Path` with its name makes. Serials number the accepted commands of a device from 1.
 #[derive(Debug, Drop)]
@@ -26,6 +34,57 @@ pub enum Event {
     Tmr { kind: u8, serials: Serials },
     Stat,
     Enter,
+}
+
+impl Event {
+    /// How many bytes it carries, and how many serials it names.
+    fn sizes(&self) -> (usize, usize)
+        ensures bytes { result.0 ≡ length (event_bytes (event_data self.now)) }
+        ensures serials { result.1 ≡ length (event_serials (event_data self.now)) }
+    {
+        match self {
+            Event::Submit(command) => (command.sent().len(), 0),
+            Event::Tmr { serials, .. } => (0, serials.len()),
+            _ => (0, 0),
+        }
+    }
+
+    /// The same event once more, what it carries in the room.
+    pub fn copied_into(&self, room: &mut CopyRoom) -> Event
+        requires { HasRoom (event_bytes (event_data self.now)) (event_serials (event_data self.now)) room.old }
+        ensures copy { event_data result ≡ event_data self.now }
+        ensures room { LeavesRoom (event_bytes (event_data self.now)) (event_serials (event_data self.now)) room.old room.new }
+    {
+        match self {
+            Event::Submit(command) => Event::Submit(command.copied_into(room)),
+            Event::Dispatch => Event::Dispatch,
+            Event::Handle(serial) => Event::Handle(*serial),
+            Event::Respond(serial) => Event::Respond(*serial),
+            Event::Publish => Event::Publish,
+            Event::Clean => Event::Clean,
+            Event::Tick(ticks) => Event::Tick(*ticks),
+            Event::Block => Event::Block,
+            Event::Unblock => Event::Unblock,
+            Event::Reset(level) => Event::Reset(*level),
+            Event::Restart => Event::Restart,
+            Event::Tmr { kind, serials } => Event::Tmr {
+                kind: *kind,
+                serials: room.copy_serials(serials.as_slice()),
+            },
+            Event::Stat => Event::Stat,
+            Event::Enter => Event::Enter,
+        }
+    }
+
+    /// The same event once more.
+    pub fn try_clone(&self, alloc: Global) -> Result<Event, NoMemory>
+        ensures { IfOk result (λ e. event_data e ≡ event_data self.now) }
+    {
+        let (bytes, serials) = self.sizes();
+        let mut room = CopyRoom::new(alloc);
+        room.reserve(bytes, serials)?;
+        Ok(self.copied_into(&mut room))
+    }
 }
 
 /// One entry of a journal: the device's number, an event with its answer, and the number of completions that it logged.

@@ -27,7 +27,7 @@ pub use dump::{Dump, Held, HeldList, Item, ItemKind, Items};
 pub use event::{Entry, Event};
 pub use iovec::{Iov, Iovs};
 pub use laws::sense_law;
-pub use list::{BlockList, Bytes, Ids, Listed, NoMemory, Serials, Words};
+pub use list::{BlockList, Bytes, CopyRoom, Ids, Listed, NoMemory, Serials, Words};
 pub use name::Name;
 pub use reply::{Done, Reply, ScsiStatus, Sense, sense_bytes, sense_of};
 pub use settings::{Flags, Settings};

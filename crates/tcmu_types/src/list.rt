@@ -1,11 +1,13 @@
 //! Lists over vectors, which contracts see as their items and the room that is reserved for more.
-ghost use Rattle.std.specs.Prelude.{◌≡◌, ◌+◌, ◌-◌, ◌≤◌, ◌==◌, [], ◌∷◌, ◌++◌, length, nat_eq, replicate, IfOk, OnOk};
+ghost use Rattle.std.specs.Prelude.{◌≡◌, ◌+◌, ◌-◌, ◌≤◌, ◌==◌, [], ◌∷◌, ◌++◌, length, nat_eq, replicate, IfOk, IsOk, OnOk};
 ghost use Rattle.std.specs.List.{list_any};
 ghost use Rattle.std.specs.Vec.{vec_len, vec_capacity};
 ghost use Rattle.tcmu_types.specs.Data.{texts_of};
+ghost use Rattle.tcmu_types.specs.Copied.{HasRoom, LeavesRoom};
 
 use std::alloc::{AllocError, AllocFailed, Global};
 use std::marker::Model;
+use std::mem;
 use thiserror::Error;
 
 /// Memory was wanting. It is the one answer that no clause ties to a cause.
@@ -188,4 +190,82 @@ impl Listed<Bytes> {
         }
         Ok(list)
     }
+}
+
+/// Room for copies that take no memory. A copy takes the room of its kind with it, and `reserve` makes it anew. Contracts see for how
+/// many bytes and for how many serials there is room.
+#[derive(Drop)]
+pub struct CopyRoom {
+    bytes: Vec<u8>,
+    serials: Vec<u64>,
+}
+
+impl Model for CopyRoom {
+    ghost use Rattle.std.specs.Prelude.{◌≡◌, []};
+    ghost use Rattle.std.specs.Vec.{vec_capacity};
+    ghost use Rattle.tcmu_types.specs.Copied.{RoomData};
+
+    ghost Value = { RoomData };
+
+    ghost view = { λ a. record { bytes = vec_capacity a.bytes; serials = vec_capacity a.serials } };
+
+    ghost invariant = { λ a. (a.bytes.items ≡ []) × (a.serials.items ≡ []) };
+}
+
+impl CopyRoom {
+    /// No room yet.
+    pub fn new(alloc: Global) -> CopyRoom
+        ensures { result ≡ record { bytes = 0; serials = 0 } }
+    {
+        CopyRoom {
+            bytes: Vec::new(alloc),
+            serials: Vec::new(alloc),
+        }
+    }
+
+    /// Makes room for so many bytes and so many serials. Room that is there needs no memory.
+    pub fn reserve(&mut self, bytes: usize, serials: usize) -> Result<(), NoMemory>
+        ensures room { OnOk result ((bytes ≤ self.new.bytes) × (serials ≤ self.new.serials)) }
+        ensures kept { (self.old.bytes ≤ self.new.bytes) × (self.old.serials ≤ self.new.serials) }
+        ensures there { bytes ≤ self.old.bytes → serials ≤ self.old.serials → IsOk result }
+    {
+        self.bytes.reserve(bytes)?;
+        self.serials.reserve(serials)?;
+        Ok(())
+    }
+
+    /// A copy of these bytes.
+    pub fn copy_bytes(&mut self, bytes: &[u8]) -> Bytes
+        requires { HasRoom bytes.now [] self.old }
+        ensures copy { result.items ≡ bytes.now }
+        ensures room { LeavesRoom bytes.now [] self.old self.new }
+    {
+        Listed::from_vec(fill_and_take(&mut self.bytes, bytes))
+    }
+
+    /// A copy of these serials.
+    pub fn copy_serials(&mut self, serials: &[u64]) -> Serials
+        requires { HasRoom [] serials.now self.old }
+        ensures copy { result.items ≡ serials.now }
+        ensures room { LeavesRoom [] serials.now self.old self.new }
+    {
+        Listed::from_vec(fill_and_take(&mut self.serials, serials))
+    }
+}
+
+/// Fills an empty vector with these items, and takes it out with its room. Where there are no items the room stays.
+fn fill_and_take<T: Copy>(room: &mut Vec<T>, items: &[T]) -> Vec<T>
+    requires empty { room.old.items ≡ [] }
+    requires room { length items.now ≤ vec_capacity room.old }
+    ensures items { result.items ≡ items.now }
+    ensures empty { room.new.items ≡ [] }
+    ensures kept { items.now ≡ [] → vec_capacity room.new ≡ vec_capacity room.old }
+{
+    let none = Vec::new(*room.allocator());
+    if items.len() == 0 {
+        return none;
+    }
+    let mut filled = mem::replace(room, none);
+    filled.extend_from_slice(items).unwrap();
+    filled
 }

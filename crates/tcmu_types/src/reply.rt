@@ -1,8 +1,9 @@
 //! Replies of handlers, completions, statuses and sense data.
-ghost use Rattle.std.specs.Prelude.{◌≡◌};
+ghost use Rattle.std.specs.Prelude.{◌≡◌, []};
 ghost use Rattle.tcmu_types.specs.SenseBytes.{fixed_sense, sense_in};
+ghost use Rattle.tcmu_types.specs.Copied.{HasRoom, LeavesRoom};
 
-use crate::{Bytes, Name};
+use crate::{Bytes, CopyRoom, Name};
 use std::marker::Model;
 
 /// A status byte (SAM-5, 5.3).
@@ -57,6 +58,21 @@ impl Model for Reply {
     ghost view = { λ a. record { status = a.status.0; sense = a.sense; payload = a.payload.items } };
 
     ghost invariant = { λ a. IsReply (record { status = a.status.0; sense = a.sense; payload = a.payload.items }) };
+}
+
+impl Reply {
+    /// The same reply once more, its payload in the room.
+    pub fn copied_into(&self, room: &mut CopyRoom) -> Reply
+        requires { HasRoom self.now.payload [] room.old }
+        ensures copy { result ≡ self.now }
+        ensures room { LeavesRoom self.now.payload [] room.old room.new }
+    {
+        Reply {
+            status: self.status,
+            sense: self.sense,
+            payload: room.copy_bytes(self.payload.as_slice()),
+        }
+    }
 }
 
 /// One completion: the serial, initiator and task tag of its command, and what the initiator gets.

@@ -1,5 +1,5 @@
 //! The turn, and the passes of those who take it.
-ghost use Rattle.std.specs.Prelude.{◌≡◌, ◌+◌, ◌-◌, ◌<◌, ◌≤◌, ◌++◌, [], ◌∷◌, max, length, IsTrue, IfOk, OnErr};
+ghost use Rattle.std.specs.Prelude.{◌≡◌, ◌+◌, ◌-◌, ◌<◌, ◌≤◌, ◌++◌, [], ◌∷◌, max, length, IsTrue, IfOk, IfErr, OnErr};
 ghost use Rattle.turn_lock.specs.Lists.{Every, EachOnce};
 ghost use Rattle.turn_lock.specs.Receipts.{receipt_of, times, IsAbove, NoneTwice, FitsAt};
 ghost use mathlib.Core.List.{IsPrefix};
@@ -10,7 +10,7 @@ use crate::rule::{
 };
 use crate::stepped::Stepped;
 use atomic_table::{Refused, Seat, Shared, Table};
-use std::alloc::Global;
+use std::alloc::{AllocFailed, Global};
 use std::marker::Model;
 use std::snapshot::Snapshot;
 use std::sync::Wait;
@@ -85,7 +85,51 @@ impl<K: Stepped> Model for Pass<K> {
 
 impl<K: Stepped> Turn<K> {
     /// Puts the value behind a turn. The pass can be split into as many as `parts`, at least one, and has no receipt. Where there is no
-    /// memory the value is dropped.
+    /// memory the error has the value.
+    pub fn start_or_give_back(
+        alloc: Global,
+        value: K,
+        parts: u32,
+    ) -> Result<(Turn<K>, Pass<K>), AllocFailed<K>>
+        requires { 1 ≤ parts }
+        ensures turn { IfOk result (λ r. r.0 ≡ record {
+          turn = r.0.turn;
+          parts = parts;
+          script = K.script value;
+          begun = K.history value;
+        }) }
+        ensures pass { IfOk result (λ r. r.1 ≡ record {
+          turn = r.0.turn;
+          parts = parts;
+          seen = length (K.history value);
+          receipts = [];
+        }) }
+        ensures given_back { IfErr result (λ e. e.value ≡ value) }
+    {
+        let words = [0, 0, value.length()];
+        let opening = Opening {
+            value: Snapshot::of(&value),
+            parts: u64::from(parts),
+        };
+        let Ok(mut slots) = Vec::with_capacity(alloc, 1) else {
+            return Err(AllocFailed { value });
+        };
+        slots.push_reserved(Slot {
+            value: Some(value),
+            note: None,
+        });
+        match Table::new(alloc, &words, slots, &opening) {
+            Ok((table, seat)) => Ok((Turn { table }, Pass { seat })),
+            Err(Refused { mut slots }) => {
+                let Slot { value, note: _ } = slots.pop().unwrap();
+                Err(AllocFailed {
+                    value: value.unwrap(),
+                })
+            }
+        }
+    }
+
+    /// As `start_or_give_back`; where there is no memory the value is dropped.
     pub fn start(alloc: Global, value: K, parts: u32) -> Result<(Turn<K>, Pass<K>), NoMemory>
         requires { 1 ≤ parts }
         ensures turn { IfOk result (λ r. r.0 ≡ record {
@@ -101,20 +145,7 @@ impl<K: Stepped> Turn<K> {
           receipts = [];
         }) }
     {
-        let words = [0, 0, value.length()];
-        let opening = Opening {
-            value: Snapshot::of(&value),
-            parts: u64::from(parts),
-        };
-        let mut slots = Vec::with_capacity(alloc, 1)?;
-        slots.push_reserved(Slot {
-            value: Some(value),
-            note: None,
-        });
-        match Table::new(alloc, &words, slots, &opening) {
-            Ok((table, seat)) => Ok((Turn { table }, Pass { seat })),
-            Err(Refused { slots: _ }) => Err(NoMemory),
-        }
+        Ok(Turn::start_or_give_back(alloc, value, parts)?)
     }
 
     /// A new pass with one part of this one, which belongs to this turn and has two or more, and with no receipt.

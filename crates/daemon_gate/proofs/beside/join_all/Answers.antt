@@ -1,6 +1,6 @@
 use Rattle.std.proofs.Common.{rules, subst, ◌+◌, ◌≡◌}
 use Rattle.std.proofs.lemmas.List.Elements.{All-push}
-use Rattle.daemon_gate.proofs.lanes.join_all.Goals as goal
+use Rattle.daemon_gate.proofs.beside.join_all.Goals as goal
 
 pub loop-child-preserved : goal.loop-child-preserved
 loop-child-preserved g c =

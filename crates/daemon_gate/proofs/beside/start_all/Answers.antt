@@ -1,6 +1,6 @@
 use Rattle.std.proofs.Common.{rules, ◌+◌, ◌≡◌}
 use Rattle.std.proofs.lemmas.List.Elements.{All-push}
-use Rattle.daemon_gate.proofs.lanes.start_all.Goals as goal
+use Rattle.daemon_gate.proofs.beside.start_all.Goals as goal
 
 pub loop-lane-preserved-in-Ok : goal.loop-lane-preserved-in-Ok
 loop-lane-preserved-in-Ok g c =

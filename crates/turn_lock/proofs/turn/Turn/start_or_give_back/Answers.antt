@@ -1,6 +1,6 @@
 use Rattle.std.proofs.Common.{rules, arith, refl}
 use Rattle.turn_lock.proofs.Seats.{opens}
-use Rattle.turn_lock.proofs.turn.Turn.start.Goals as goal
+use Rattle.turn_lock.proofs.turn.Turn.start_or_give_back.Goals as goal
 
 pub new-requires : goal.new-requires
 new-requires g c =
