@@ -8,7 +8,7 @@ ghost use Rattle.block_engine.specs.Serving.{Served};
 
 use crate::checks::is_outside;
 use crate::replies::{after_write, done, refused};
-use cdb_decode::{be_u16_at, be_u32_at, be_u64_at};
+use tcmu_types::big_endian::{be_u16_at, be_u32_at, be_u64_at};
 use edge::Failed;
 use handler_trait::Medium;
 use scsi_model::senses::{

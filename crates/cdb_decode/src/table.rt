@@ -4,7 +4,8 @@ ghost use Rattle.byteorder.specs.Endian.{big_from};
 ghost use Rattle.scsi_model.specs.Decoding.{decoded, ruled, rule, asks_page, asked_page, inquiry_page, is_vpd_page, is_mode_page, no_high_bits, no_low_bit, no_low_bits, same_count, count6, IsDecoded};
 ghost use Rattle.scsi_model.specs.declared.op.Op.TheVariants.{RequestSense, Inquiry, ModeSense, Capacity16, ReportLuns, Unmap, CompareWrite};
 
-use crate::{be_u16_at, be_u32_at, be_u64_at, opcode};
+use crate::opcode;
+use tcmu_types::big_endian::{be_u16_at, be_u32_at, be_u64_at};
 use scsi_model::{CdbFault, MAXIMUM_WRITE_SAME_LENGTH, Op};
 use tcmu_types::Cdb;
 

@@ -10,7 +10,7 @@ use crate::fields::{
     PAD, PROTECTION_COUNT, READ_LENGTH_FLAG, TMR, TMR_TYPE, UFLAGS,
 };
 use mailbox_bytes::MAILBOX_LEN;
-use mailbox_bytes::fields::{put_bytes, put_u8, put_u16, put_u32, put_u64, put_zeros};
+use tcmu_types::little_endian::{put_bytes, put_u8, put_u16, put_u32, put_u64, put_zeros};
 use tcmu_types::{Cdb, Ids, Iovs, Reply, sense_bytes};
 
 /// The header of an entry: its length with the opcode, and its id.

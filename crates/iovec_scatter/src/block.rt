@@ -3,7 +3,7 @@ ghost use Rattle.std.specs.Prelude.{◌≡◌, ℕ, ◌+◌, ◌-◌, ◌≤◌,
 ghost use Rattle.tcmu_types.specs.ByteFields.{zeros, put};
 ghost use Rattle.region_model.specs.Iovecs.{scattered, gathered, room_of};
 
-use mailbox_bytes::fields::put_bytes;
+use tcmu_types::little_endian::put_bytes;
 use std::alloc::Global;
 use std::marker::Model;
 use tcmu_types::NoMemory;

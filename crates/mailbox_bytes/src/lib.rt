@@ -1,7 +1,6 @@
-//! The mailbox as the first 128 bytes of a region, and numbers among bytes.
+//! The mailbox as the first 128 bytes of a region.
 #![tactic(auto)]
 
-pub mod fields;
 mod laws;
 mod mailbox;
 #[cfg(test)]

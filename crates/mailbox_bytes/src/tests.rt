@@ -1,6 +1,6 @@
 //! The worked bytes of a mailbox, and each fault at its border.
 use super::*;
-use crate::fields::{put_u16, put_u32};
+use tcmu_types::little_endian::{put_u16, put_u32};
 use std::test::Fail;
 
 /// A new device's: completions in any order, and a ring of 4096 bytes.

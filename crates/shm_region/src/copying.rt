@@ -5,7 +5,7 @@ ghost use Rattle.region_model.specs.Iovecs.{EndBelow, total_of, along};
 ghost use Rattle.region_model.specs.Regions.{bytes_of, wrote, copied_in, LieInRegion};
 
 use crate::Region;
-use mailbox_bytes::fields::{put_bytes, put_zeros};
+use tcmu_types::little_endian::{put_bytes, put_zeros};
 use tcmu_types::{Iov, Iovs};
 
 impl Region {

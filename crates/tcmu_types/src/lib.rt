@@ -3,6 +3,7 @@
 #![tactic(auto)]
 
 mod answer;
+pub mod big_endian;
 mod cdb;
 mod command;
 mod copies;
@@ -11,6 +12,7 @@ mod event;
 mod iovec;
 mod laws;
 mod list;
+pub mod little_endian;
 mod name;
 mod reply;
 mod settings;

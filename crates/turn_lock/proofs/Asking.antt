@@ -12,7 +12,8 @@ use Rattle.turn_lock.specs.declared.rule.Receipt.{Receipt}
 use Rattle.turn_lock.specs.declared.rule.Note.{Note}
 use Rattle.turn_lock.specs.declared.rule.Slot.{Slot}
 use Rattle.turn_lock.specs.History.{one_if}
-use Rattle.turn_lock.specs.Lists.{total, Every, EachOnce, StandsOnce}
+use Rattle.turn_lock.specs.Lists.{total, EachOnce, StandsOnce}
+use Rattle.tcmu_types.specs.Lists.{Every}
 use Rattle.turn_lock.specs.Receipts.{tells_of, times, AllBelow, FitsAt}
 use Rattle.turn_lock.specs.Turns.{is_ticket, has_ticket, tickets_at, tickets_in, turns_in, parts_in, times_in, slot_of, Seated, IsOrderly}
 use Rattle.turn_lock.specs.Steps.{receipts_noted, Tells, IsIdle, Draws, Looks, PassesOn, HasTurn, LooksOrTakes, CountsUp, IsUncounted}

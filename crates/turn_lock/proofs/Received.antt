@@ -4,7 +4,8 @@ use mathlib.Core.List.{IsPrefix}
 use mathlib.Core.Logic.{dite}
 use native.Mathlib.Decide.{ℕ_discrete}
 use Rattle.turn_lock.specs.History.{one_if}
-use Rattle.turn_lock.specs.Lists.{Every, StandsOnce}
+use Rattle.turn_lock.specs.Lists.{StandsOnce}
+use Rattle.tcmu_types.specs.Lists.{Every}
 use Rattle.turn_lock.specs.Receipts.{receipt_of, tells_of, times, AllBelow, FitsAt}
 use Rattle.turn_lock.specs.Steps.{receipts_noted, Tells}
 use Rattle.turn_lock.specs.declared.rule.Receipt.{Receipt}

@@ -12,7 +12,8 @@ use Rattle.turn_lock.specs.declared.rule.View.{View}
 use Rattle.turn_lock.specs.declared.rule.Receipt.{Receipt}
 use Rattle.turn_lock.specs.declared.rule.Slot.{Slot}
 use Rattle.turn_lock.specs.History.{one_if}
-use Rattle.turn_lock.specs.Lists.{total, Every, StandsOnce, EachOnce}
+use Rattle.turn_lock.specs.Lists.{total, StandsOnce, EachOnce}
+use Rattle.tcmu_types.specs.Lists.{Every}
 use Rattle.turn_lock.specs.Receipts.{tells_of, times, FitsAt}
 use Rattle.turn_lock.specs.Turns.{is_ticket, tickets_at, tickets_in, turns_in, parts_in, times_in, slot_of, first_view, one_less, one_part, joined_view, spent_view, IsViewOf, IsOrderly}
 use Rattle.turn_lock.proofs.Sums.{total-append, total-set, terms_le, total-zero, total-only, Every-append, StandsOnce-same}

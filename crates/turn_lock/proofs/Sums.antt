@@ -4,7 +4,8 @@ use mathlib.Core.Logic.{dite}
 use mathlib.Core.Option.{some, some-injective, some-ne-none}
 use native.Mathlib.Decide.{dec_le}
 use lib.ListN.{get_elem?}
-use Rattle.turn_lock.specs.Lists.{total, Every, StandsOnce}
+use Rattle.turn_lock.specs.Lists.{total, StandsOnce}
+use Rattle.tcmu_types.specs.Lists.{Every}
 
 module _ {A : Type 0} where
   module _ (g : A → ℕ) where

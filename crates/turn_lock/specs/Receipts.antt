@@ -3,7 +3,8 @@ use Rattle.std.specs.Prelude.{◌≡◌, ℕ, ◌<◌, ◌≤◌, ◌==◌, Bool
 use mathlib.Core.List.{IsPrefix}
 use Rattle.turn_lock.specs.declared.rule.Receipt.{Receipt}
 use Rattle.turn_lock.specs.History.{one_if}
-use Rattle.turn_lock.specs.Lists.{total, Every}
+use Rattle.turn_lock.specs.Lists.{total}
+use Rattle.tcmu_types.specs.Lists.{Every}
 
 module _ {A T : Type 0} where
   abbrev pub receipt_of : ℕ → A → T → Receipt A T

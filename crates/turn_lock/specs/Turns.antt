@@ -7,7 +7,8 @@ use mathlib.Core.List.{IsPrefix}
 use lib.ListN.{get_elem?}
 use Rattle.atomic_table.specs.Table.{State, Me}
 use Rattle.turn_lock.specs.History.{one_if}
-use Rattle.turn_lock.specs.Lists.{total, Every, EachOnce}
+use Rattle.turn_lock.specs.Lists.{total, EachOnce}
+use Rattle.tcmu_types.specs.Lists.{Every}
 use Rattle.turn_lock.specs.Receipts.{times, FitsAt}
 use Rattle.turn_lock.specs.declared.rule.View.{View}
 use Rattle.turn_lock.specs.declared.rule.Note.{Note}

@@ -1,6 +1,7 @@
 //! The turn, and the passes of those who take it.
 ghost use Rattle.std.specs.Prelude.{◌≡◌, ◌+◌, ◌-◌, ◌<◌, ◌≤◌, ◌++◌, [], ◌∷◌, max, length, IsTrue, IfOk, IfErr, OnErr};
-ghost use Rattle.turn_lock.specs.Lists.{Every, EachOnce};
+ghost use Rattle.turn_lock.specs.Lists.{EachOnce};
+ghost use Rattle.tcmu_types.specs.Lists.{Every};
 ghost use Rattle.turn_lock.specs.Receipts.{receipt_of, times, IsAbove, NoneTwice, FitsAt};
 ghost use mathlib.Core.List.{IsPrefix};
 ghost use Rattle.turn_lock.specs.Steps.{IsIdle, IsQueued, KeepsReceipts, HasTurn, Takes, IsUncounted, IsNote, Receives};

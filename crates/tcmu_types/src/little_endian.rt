@@ -3,7 +3,7 @@ ghost use Rattle.std.specs.Prelude.{◌≡◌, ◌+◌, ◌≤◌, length};
 ghost use Rattle.tcmu_types.specs.ByteFields.{le, field, zeros, put};
 
 use byteorder::{ByteOrder, LittleEndian};
-use tcmu_types::overwrite;
+use crate::overwrite;
 
 /// Writes a number over the two bytes from `at` on.
 pub fn put_u16(into: &mut [u8], at: usize, value: u16)
@@ -46,7 +46,7 @@ pub fn put_zeros(into: &mut [u8], at: usize, count: usize)
 }
 
 /// Writes bytes over those from `at` on.
-#[tactic(auto, unfolding(tcmu_types::specs::ByteFields::put))]
+#[tactic(auto, unfolding(crate::specs::ByteFields::put))]
 pub fn put_bytes(into: &mut [u8], at: usize, bytes: &[u8])
     requires { at + length bytes.now ≤ length into.old }
     ensures { into.new ≡ put into.old at bytes.now }
@@ -55,7 +55,7 @@ pub fn put_bytes(into: &mut [u8], at: usize, bytes: &[u8])
 }
 
 /// The number in the two bytes from `at` on.
-#[tactic(auto, unfolding(tcmu_types::specs::ByteFields::field))]
+#[tactic(auto, unfolding(crate::specs::ByteFields::field))]
 pub fn le_u16_at(bytes: &[u8], at: usize) -> u16
     requires { at + 2 ≤ length bytes.now }
     ensures { result ≡ field 2 at bytes.now }
@@ -64,7 +64,7 @@ pub fn le_u16_at(bytes: &[u8], at: usize) -> u16
 }
 
 /// The number in the four bytes from `at` on.
-#[tactic(auto, unfolding(tcmu_types::specs::ByteFields::field))]
+#[tactic(auto, unfolding(crate::specs::ByteFields::field))]
 pub fn le_u32_at(bytes: &[u8], at: usize) -> u32
     requires { at + 4 ≤ length bytes.now }
     ensures { result ≡ field 4 at bytes.now }
@@ -73,7 +73,7 @@ pub fn le_u32_at(bytes: &[u8], at: usize) -> u32
 }
 
 /// The number in the eight bytes from `at` on.
-#[tactic(auto, unfolding(tcmu_types::specs::ByteFields::field))]
+#[tactic(auto, unfolding(crate::specs::ByteFields::field))]
 pub fn le_u64_at(bytes: &[u8], at: usize) -> u64
     requires { at + 8 ≤ length bytes.now }
     ensures { result ≡ field 8 at bytes.now }
@@ -82,7 +82,7 @@ pub fn le_u64_at(bytes: &[u8], at: usize) -> u64
 }
 
 /// The number in the byte at `at`.
-#[tactic(auto, unfolding(tcmu_types::specs::ByteFields::field))]
+#[tactic(auto, unfolding(crate::specs::ByteFields::field))]
 pub fn u8_at(bytes: &[u8], at: usize) -> u8
     requires { at + 1 ≤ length bytes.now }
     ensures { result ≡ field 1 at bytes.now }

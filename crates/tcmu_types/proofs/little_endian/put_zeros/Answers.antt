@@ -2,7 +2,7 @@ use Rattle.std.proofs.Common.{◌≡◌, ℕ, ◌+◌, ◌-◌, ◌≤◌, ◌�
 use Rattle.std.proofs.lemmas.List.{length-take}
 use Rattle.tcmu_types.specs.ByteFields.{zeros}
 use Rattle.tcmu_types.proofs.ByteFields.{length-zeros, part_put}
-use Rattle.mailbox_bytes.proofs.fields.put_zeros.Goals as goal
+use Rattle.tcmu_types.proofs.little_endian.put_zeros.Goals as goal
 
 -- the length of a part
 part : (at k : ℕ) (xs : List ℕ) → at + k ≤ length xs → length (take (at + k - at) (drop at xs)) ≡ k

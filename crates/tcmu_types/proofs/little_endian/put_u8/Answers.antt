@@ -1,7 +1,7 @@
 use Rattle.std.proofs.Common.{◌∙◌, ap, arith}
 use Rattle.tcmu_types.specs.ByteFields.{put}
 use Rattle.tcmu_types.proofs.ByteFields.{le-one}
-use Rattle.mailbox_bytes.proofs.fields.put_u8.Goals as goal
+use Rattle.tcmu_types.proofs.little_endian.put_u8.Goals as goal
 
 pub returns : goal.returns
 returns c =
