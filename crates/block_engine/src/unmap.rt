@@ -8,7 +8,6 @@ ghost use Rattle.block_engine.specs.Serving.{Served};
 
 use crate::checks::is_outside;
 use crate::replies::{after_write, done, refused};
-use tcmu_types::big_endian::{be_u16_at, be_u32_at, be_u64_at};
 use edge::Failed;
 use handler_trait::Medium;
 use scsi_model::senses::{
@@ -17,6 +16,7 @@ use scsi_model::senses::{
 };
 use scsi_model::{Extent, MAXIMUM_UNMAP_DESCRIPTOR_COUNT, MAXIMUM_UNMAP_LBA_COUNT};
 use std::alloc::Global;
+use tcmu_types::big_endian::{be_u16_at, be_u32_at, be_u64_at};
 use tcmu_types::{NoMemory, Reply, Sense};
 
 /// The bytes of a parameter list before its first block descriptor (SBC-3, UNMAP).

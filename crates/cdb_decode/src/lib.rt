@@ -6,5 +6,5 @@ mod table;
 #[cfg(test)]
 mod tests;
 
-pub use table::decode;
 pub use scsi_model::{CdbFault, Op};
+pub use table::decode;

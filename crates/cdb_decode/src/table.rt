@@ -5,9 +5,9 @@ ghost use Rattle.scsi_model.specs.Decoding.{decoded, ruled, rule, asks_page, ask
 ghost use Rattle.scsi_model.specs.declared.op.Op.TheVariants.{RequestSense, Inquiry, ModeSense, Capacity16, ReportLuns, Unmap, CompareWrite};
 
 use crate::opcode;
-use tcmu_types::big_endian::{be_u16_at, be_u32_at, be_u64_at};
 use scsi_model::{CdbFault, MAXIMUM_WRITE_SAME_LENGTH, Op};
 use tcmu_types::Cdb;
+use tcmu_types::big_endian::{be_u16_at, be_u32_at, be_u64_at};
 
 /// What a command descriptor block asks, or why it asks nothing: `Opcode` exactly where its operation code is not in the table,
 /// and `Field` with the lowest byte of which a field breaks its rule (SPC-4 and SBC-3, by the names of the commands).

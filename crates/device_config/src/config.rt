@@ -15,8 +15,8 @@ ghost use Rattle.device_config.specs.Views.{medium_data};
 use crate::fields::{after_word, cut, is_text, name_of, number_of, rising_of};
 use std::alloc::Global;
 use std::marker::Model;
-use text_model::{ConfigFault, Subtype};
 use tcmu_types::{Bytes, Name, NoMemory, Serials};
+use text_model::{ConfigFault, Subtype};
 
 /// What keeps a device's bytes: memory of so many logical blocks of 512 bytes, or the file of this name.
 #[derive(Debug, Drop)]

@@ -9,8 +9,8 @@ use crate::fields::{
     LEAST_COMMAND, LEAST_TMR, PAD, PROTECTION_COUNT, TMR, TMR_TYPE, UFLAGS,
 };
 use mailbox_bytes::MAILBOX_LEN;
-use tcmu_types::little_endian::{le_u16_at, le_u32_at, le_u64_at, u8_at};
 use region_model::{EntryFault, EntryRef, Mailbox, Response};
+use tcmu_types::little_endian::{le_u16_at, le_u32_at, le_u64_at, u8_at};
 use tcmu_types::{Cdb, Iov, PAGE, group_length};
 
 /// The iovec of this number, from 0, of the command's entry at ring offset `at`, which lies in `front`, whatever its bytes say.

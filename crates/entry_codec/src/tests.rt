@@ -1,10 +1,10 @@
 //! The worked bytes of entries, and each fault at its border. The region has a ring of 4096 bytes, its data area begins at byte 8192.
 
 use super::*;
-use tcmu_types::little_endian::{put_u32, put_u64};
 use mailbox_bytes::{Mailbox, read, write};
 use std::alloc::Global;
 use std::test::Fail;
+use tcmu_types::little_endian::{put_u32, put_u64};
 use tcmu_types::{Bytes, Cdb, Ids, Iov, Iovs, NoMemory, Reply, ScsiStatus, Sense};
 
 const DATA_OFF: u64 = 8192;

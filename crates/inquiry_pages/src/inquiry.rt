@@ -4,8 +4,10 @@ ghost use Rattle.scsi_model.specs.Pages.{standard_inquiry, vpd_page, vital_page,
 ghost use Rattle.scsi_model.specs.Decoding.{is_vpd_page};
 
 use byteorder::{BigEndian, ByteOrder};
+use scsi_model::{
+    MAXIMUM_UNMAP_DESCRIPTOR_COUNT, MAXIMUM_UNMAP_LBA_COUNT, MAXIMUM_WRITE_SAME_LENGTH,
+};
 use std::alloc::Global;
-use scsi_model::{MAXIMUM_UNMAP_DESCRIPTOR_COUNT, MAXIMUM_UNMAP_LBA_COUNT, MAXIMUM_WRITE_SAME_LENGTH};
 use tcmu_types::{Bytes, Name, NoMemory};
 
 /// Standard INQUIRY data, 36 bytes (SPC-4): a direct access block device, with VERSION 05h (SPC-3).

@@ -3,10 +3,10 @@ ghost use Rattle.std.specs.Prelude.{◌≡◌, ℕ, ◌+◌, ◌-◌, ◌≤◌,
 ghost use Rattle.tcmu_types.specs.ByteFields.{zeros, put};
 ghost use Rattle.region_model.specs.Iovecs.{scattered, gathered, room_of};
 
-use tcmu_types::little_endian::put_bytes;
 use std::alloc::Global;
 use std::marker::Model;
 use tcmu_types::NoMemory;
+use tcmu_types::little_endian::put_bytes;
 
 /// Makes bytes zero.
 #[tactic(auto, unfolding(tcmu_types::specs::ByteFields::zeros))]

@@ -4,8 +4,8 @@ ghost use Rattle.region_model.specs.Layout.{mailbox_bytes};
 ghost use Rattle.tcmu_types.specs.ByteFields.{put};
 ghost use Rattle.region_model.specs.MailboxReading.{judged, mailbox_read, is_ring_size, ReadsMailbox, IsMailbox};
 
-use tcmu_types::little_endian::{le_u16_at, le_u32_at, put_u16, put_u32, put_zeros};
 use region_model::{Mailbox, MailboxFault};
+use tcmu_types::little_endian::{le_u16_at, le_u32_at, put_u16, put_u32, put_zeros};
 use tcmu_types::{MOST_RING, PAGE};
 
 /// How many bytes a mailbox has; the command ring begins behind them.

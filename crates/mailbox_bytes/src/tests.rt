@@ -1,7 +1,7 @@
 //! The worked bytes of a mailbox, and each fault at its border.
 use super::*;
-use tcmu_types::little_endian::{put_u16, put_u32};
 use std::test::Fail;
+use tcmu_types::little_endian::{put_u16, put_u32};
 
 /// A new device's: completions in any order, and a ring of 4096 bytes.
 const OPENING: Mailbox = Mailbox {

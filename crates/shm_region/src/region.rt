@@ -8,10 +8,10 @@ ghost use Rattle.std.specs.Borrow.{sem};
 ghost use Rattle.shm_region.specs.Places.{LendsHome, LendsBytesIn};
 
 use iovec_scatter::Block;
-use tcmu_types::little_endian::{le_u32_at, put_bytes, put_u32};
 use mailbox_bytes::{HEAD, MAILBOX_LEN, Mailbox, TAIL, write};
 use std::alloc::Global;
 use std::marker::Model;
+use tcmu_types::little_endian::{le_u32_at, put_bytes, put_u32};
 use tcmu_types::{Flags, NoMemory, PAGE, Settings};
 
 /// The front, which is the mailbox and the command ring, and the data blocks, each at home or lent. Contracts see the bytes of both,

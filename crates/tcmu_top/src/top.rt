@@ -23,8 +23,8 @@ use edge::{Files, Sink, Source};
 use media::MakeFault;
 use scenario_text::{Scenario, ScenarioFault, read_scenario};
 use std::alloc::Global;
-use text_model::Why;
 use tcmu_types::Words;
+use text_model::Why;
 
 /// Replays a scenario's lines on its devices and writes the text. However that ends, the devices' files are given back.
 fn replay_opened<K: Sink, F: Files>(

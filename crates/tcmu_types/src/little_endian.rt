@@ -2,8 +2,8 @@
 ghost use Rattle.std.specs.Prelude.{◌≡◌, ◌+◌, ◌≤◌, length};
 ghost use Rattle.tcmu_types.specs.ByteFields.{le, field, zeros, put};
 
-use byteorder::{ByteOrder, LittleEndian};
 use crate::overwrite;
+use byteorder::{ByteOrder, LittleEndian};
 
 /// Writes a number over the two bytes from `at` on.
 pub fn put_u16(into: &mut [u8], at: usize, value: u16)
