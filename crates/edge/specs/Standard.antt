@@ -1,9 +1,16 @@
--- What a source and a sink over std show: the reader or the writer below, and how many calls have failed.
+-- What a source and a sink over std show: the reader or the writer below, and what is counted.
 use Rattle.std.specs.Prelude.{◌≡◌, ℕ, List, ◌++◌, Option}
 use Rattle.std.specs.Io.KnownBytes.{Appends}
 
-pub record Counted (A : Type 0) : Type 0 where
-  pub inner : A
+-- a reader, how many reads were made of it, and how many of them have failed
+pub record CountedReader (R : Type 0) : Type 0 where
+  pub inner : R
+  pub reads : ℕ
+  pub faults : ℕ
+
+-- a writer, and how many calls have failed
+pub record CountedWriter (W : Type 0) : Type 0 where
+  pub inner : W
   pub faults : ℕ
 
 -- a front of the text was appended, where the writer tells

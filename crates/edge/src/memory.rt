@@ -58,6 +58,8 @@ fn copy_front(from: &[u8], into: &mut [u8]) -> usize
 impl Source for MemSource {
     ghost left = { λ s. Some s.left };
 
+    ghost reads = { λ s. s.calls };
+
     ghost faults = { λ s. s.faults };
 
     fn read(&mut self, into: &mut [u8]) -> Result<usize, Failed>
@@ -65,13 +67,13 @@ impl Source for MemSource {
         ensures takes { IfOk result (λ n. Gave (Some self.old.left) (take n into.new) (Some self.new.left)) }
         ensures end { IfOk result (λ n. n ≡ 0 → 0 < length into.new → Tells (Some self.old.left) []) }
         ensures failed { OnErr result (Some self.new.left ≡ Some self.old.left) }
+        ensures reads { self.new.calls ≡ next_call self.old.calls }
         ensures cause { HasCause self.old.faults self.new.faults result }
         ensures count { CountsFailed self.old.faults (is_err result) self.new.faults }
         // As much as fits comes, and the rest of `into` stays. The listed calls fail, and no other.
         ensures most { IfOk result (λ n. n ≡ min (length self.old.left) (length into.old)) }
         ensures rest { IfOk result (λ n. drop n into.new ≡ drop n into.old) }
         ensures exact { is_err result ≡ is_listed self.old.fails self.old.calls }
-        ensures calls { self.new.calls ≡ next_call self.old.calls }
         ensures fails { self.new.fails ≡ self.old.fails }
     {
         self.calls = self.calls.saturating_add(1);

@@ -1,6 +1,6 @@
 //! A source and a sink of bytes, each with a count of faults.
 ghost use Rattle.std.specs.Prelude.{◌≡◌, ◌≤◌, ◌<◌, ℕ, List, [], Option, length, take, is_err, IfOk, OnOk, OnErr};
-ghost use Rattle.tcmu_types.specs.Numbered.{HasCause};
+ghost use Rattle.tcmu_types.specs.Numbered.{HasCause, next_call};
 ghost use Rattle.edge.specs.Outside.{Tells, Gave, Gained, GainedFront, CountsFailed};
 
 use thiserror::Error;
@@ -15,6 +15,9 @@ pub trait Source {
     /// The bytes that are left, where they are told.
     ghost left: { Self → Option (List ℕ) };
 
+    /// How many calls of `read` were made, failed ones too; the count stops at 2^64 - 1.
+    ghost reads: { Self → ℕ };
+
     /// How many calls have failed; the count stops at 2^64 - 1.
     ghost faults: { Self → ℕ };
 
@@ -25,6 +28,7 @@ pub trait Source {
         ensures takes { IfOk result (λ n. Gave (left self.old) (take n into.new) (left self.new)) }
         ensures end { IfOk result (λ n. n ≡ 0 → 0 < length into.new → Tells (left self.old) []) }
         ensures failed { OnErr result (left self.new ≡ left self.old) }
+        ensures reads { reads self.new ≡ next_call (reads self.old) }
         ensures cause { HasCause (faults self.old) (faults self.new) result }
         ensures count { CountsFailed (faults self.old) (is_err result) (faults self.new) };
 }

@@ -2,7 +2,7 @@
 //! no content; what they take from a reader and hand to a writer is told of those that tell it.
 ghost use Rattle.std.specs.Prelude.{◌≡◌, ◌≤◌, ◌<◌, None, length, is_err, IfOk, OnOk, OnErr};
 ghost use Rattle.std.specs.Io.KnownBytes.{Appends, ReadConsumes};
-ghost use Rattle.tcmu_types.specs.Numbered.{HasCause};
+ghost use Rattle.tcmu_types.specs.Numbered.{HasCause, next_call};
 ghost use Rattle.edge.specs.Outside.{CountsFailed};
 ghost use Rattle.edge.specs.Standard.{AppendsFront};
 
@@ -10,32 +10,39 @@ use crate::{Failed, Sink, Source};
 use std::io::{Read, Write};
 use std::marker::Model;
 
-/// A reader as a source, which contracts see as the reader beside its count of faults.
+/// A reader as a source, which contracts see as the reader beside its counts of reads and of faults.
 #[derive(Drop)]
 pub struct StdSource<R: Read> {
     reader: R,
+    reads: u64,
     faults: u64,
 }
 
 impl<R: Read> Model for StdSource<R> {
-    ghost use Rattle.edge.specs.Standard.{Counted};
+    ghost use Rattle.edge.specs.Standard.{CountedReader};
 
-    ghost Value = { Counted R };
+    ghost Value = { CountedReader R };
 
-    ghost view = { λ s. record { inner = s.reader; faults = s.faults } };
+    ghost view = { λ s. record { inner = s.reader; reads = s.reads; faults = s.faults } };
 }
 
 impl<R: Read> StdSource<R> {
-    /// The reader as a source of which no call has failed.
+    /// The reader as a source of which no call was made.
     pub fn new(reader: R) -> StdSource<R>
-        ensures { result ≡ record { inner = reader; faults = 0 } }
+        ensures { result ≡ record { inner = reader; reads = 0; faults = 0 } }
     {
-        StdSource { reader, faults: 0 }
+        StdSource {
+            reader,
+            reads: 0,
+            faults: 0,
+        }
     }
 }
 
 impl<R: Read> Source for StdSource<R> {
     ghost left = { λ _. None };
+
+    ghost reads = { λ s. s.reads };
 
     ghost faults = { λ s. s.faults };
 
@@ -43,10 +50,12 @@ impl<R: Read> Source for StdSource<R> {
     /// of it, and `Ok(0)` for an `into` that is not empty comes only at its end; a failed call took no byte.
     fn read(&mut self, into: &mut [u8]) -> Result<usize, Failed>
         ensures within { IfOk result (λ n. n ≤ length into.new) }
+        ensures reads { self.new.reads ≡ next_call self.old.reads }
         ensures cause { HasCause self.old.faults self.new.faults result }
         ensures count { CountsFailed self.old.faults (is_err result) self.new.faults }
         ensures bytes { ReadConsumes (R.remaining self.old.inner) (R.remaining self.new.inner) result into.new }
     {
+        self.reads = self.reads.saturating_add(1);
         match self.reader.read(into) {
             Ok(count) => Ok(count),
             Err(_) => {
@@ -66,9 +75,9 @@ pub struct StdSink<W: Write> {
 }
 
 impl<W: Write> Model for StdSink<W> {
-    ghost use Rattle.edge.specs.Standard.{Counted};
+    ghost use Rattle.edge.specs.Standard.{CountedWriter};
 
-    ghost Value = { Counted W };
+    ghost Value = { CountedWriter W };
 
     ghost view = { λ s. record { inner = s.writer; faults = s.faults } };
 }
