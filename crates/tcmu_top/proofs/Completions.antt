@@ -11,7 +11,7 @@ use Rattle.tcmu_types.specs.declared.answer.Submit.{Submit}
 use Rattle.tcmu_types.specs.declared.answer.Submit.TheVariants as submit
 use Rattle.tcmu_model.specs.Device.{Unfinished, Delayed, DeviceState, Device, opening}
 use Rattle.tcmu_model.specs.MediumState.{MediumState}
-use Rattle.tcmu_model.specs.Steps.{HandlerRelation, Makes, Run}
+use Rattle.tcmu_model.specs.Steps.{HandlerRelation, Makes, Step, Run}
 use Rattle.tcmu_model.specs.Drain.{drain_event}
 use Rattle.tcmu_model.specs.Events.{is_open}
 use Rattle.tcmu_model.specs.Sound.{open_count, is_open_at, is_delayed_at, times_logged, times_open, IsSound}
@@ -25,19 +25,18 @@ use Rattle.tcmu_model.proofs.Accounts.{log_differs, each_once}
 use Rattle.tcmu_model.proofs.Totals.{open_rest}
 use Rattle.tcmu_model.proofs.Drained as emptied
 use Rattle.tcmu_types.proofs.Everies.{every_at}
-use Rattle.tcmu_model.proofs.Journals.{run_explains}
+use Rattle.tcmu_model.proofs.Journals.{run_explains, entry_explains, handler_asked}
 use Rattle.tcmu_model.proofs.Runs.{sound_run}
 use Rattle.tcmu_types.proofs.Readings.{same_some}
 use Rattle.tcmu_types.proofs.Places.{get_within}
 use Rattle.load_run.specs.Tallies.{size_in, GivesNext, RunNumbers}
 use Rattle.load_run.proofs.Tallying.{numbered, counted}
-use Rattle.edge.specs.Stores.{FilesState}
 use Rattle.text_laws.specs.Replays.{entries_of, OpenAs}
 use Rattle.text_laws.proofs.Accepted.{makes_accepts}
 use Rattle.text_laws.proofs.Carried.{spelled_read}
 use Rattle.text_laws.proofs.OneReading.{opened_sound}
 use Rattle.text_laws.proofs.Replays.{opened_count, replay_asked, replay_journal}
-use Rattle.tcmu_top.specs.Opened.{OpenEach}
+use Rattle.tcmu_top.proofs.Opened.{open_as}
 use Rattle.tcmu_top.specs.Laws.{completions_of, accepts, CompletesOnce, CommandsComplete, DevicesStay}
 use Rattle.tcmu_top.proofs.Legal.{logs_run}
 use Rattle.tcmu_top.proofs.Settings.{settings_stay}
@@ -48,6 +47,20 @@ logs_all : (R : HandlerRelation) (d d' : Device) (js : List Journaled) → RunLo
 logs_all R d d' [] run = ap (λ (x : Device). x.state.log) run ∙ sym (append-nil d.state.log)
 logs_all R d d' (j ∷ js) run =
     logs_all R run.0 d' js run.3 ∙ ap (λ (log : List DoneData). log ++ completions_of js) run.2 ∙ append_assoc d.state.log j.completions (completions_of js)
+
+-- where an entry stands in a run: the devices before and behind it
+record StandsAt (R : HandlerRelation) (d : Device) (before : List Journaled) (j : Journaled) : Type 0 where
+  here : Device
+  next : Device
+  run : RunLogs R d before here
+  step : Step R here j.entry next
+  logged : next.state.log ≡ here.state.log ++ j.completions
+
+stands_at : (R : HandlerRelation) (d d' : Device) (before : List Journaled) (j : Journaled) (rest : List Journaled) → RunLogs R d (before ++ j ∷ rest) d' → StandsAt R d before j
+stands_at R d d' [] j rest h = record { here = d; next = h.0; run = refl; step = h.1; logged = h.2 }
+stands_at R d d' (k ∷ ks) j rest h =
+    let there = stands_at R h.0 d' ks j rest h.3 in
+    record { here = there.here; next = there.next; run = (h.0, h.1, h.2, there.run); step = there.step; logged = there.logged }
 
 -- ---- what is accepted
 
@@ -143,7 +156,7 @@ none_left d sound done attached =
 abbrev OpensAt : DeviceLineData → Device → Type 0
 OpensAt l d = (medium : MediumState) × (d ≡ opening l.settings l.name medium)
 
-pub completes_once : (R : HandlerRelation) (l : DeviceLineData) (d d' : Device) (js : List Journaled) → OpensAt l d → IsSound d.state → drain_event d'.state ≡ None → RunLogs R d js d' → CompletesOnce l js d'
+pub completes_once : (R : HandlerRelation) (l : DeviceLineData) (d d' : Device) (js : List Journaled) → OpensAt l d → IsSound d.state → drain_event d'.state ≡ None → RunLogs R d js d' → CompletesOnce R l js d'
 completes_once R l d d' js opened sound done run =
     let es = entries_of js in
     let made = logs_run R d d' js run in
@@ -157,10 +170,17 @@ completes_once R l d d' js opened sound done run =
     λ s c was.
     let given = accepted_given R d d' es s c numbers was in
     subst (λ (l : List DoneData). times_logged l s + times_open d'.state s ≡ 1) log (each_once d'.state s sound' given.0 given.1) in
+    let at : (before rest : List Journaled) (j : Journaled) → js ≡ before ++ j ∷ rest → StandsAt R d before j =
+    λ before rest j e. stands_at R d d' before j rest (subst (λ (xs : List Journaled). RunLogs R d xs d') e run) in
+    let led : (before : List Journaled) (here : Device) → RunLogs R d before here → Run R (opening l.settings l.name opened.0) (entries_of before) here =
+    λ before here r. subst (λ (x : Device). Run R x (entries_of before) here) opened.1 (logs_run R d here before r) in
     record {
       logged = log;
       differ = subst (λ (l : List DoneData). Differ (map (λ e. e.serial) l)) log (log_differs d'.state sound');
-      explained = subst (λ (x : SettingsData). Every (IsExplained es x.flags.read_len) (completions_of js)) settings (subst (Every (IsExplained es d'.state.settings.flags.read_len)) log explains.log);
+      explained = subst (λ (x : SettingsData). Every (IsExplained es x) (completions_of js)) settings (subst (Every (IsExplained es d'.state.settings)) log explains.log);
+      caused = λ before rest j e. let x = at before rest j e in entry_explains R l.settings l.name opened.0 (entries_of before) x.here x.next j.entry j.completions (led before x.here x.run) x.step x.logged;
+      served = λ before rest j serial reply e made answered. let x = at before rest j e in
+          (x.here.medium, x.next.medium, handler_asked R l.settings l.name opened.0 (entries_of before) x.here x.next j.entry serial reply (led before x.here x.run) x.step made answered);
       once = once;
       complete = λ none s c was. omega (arith, none, once s c was, open_at d'.state s);
       count = omega (arith, ap (λ (l : List DoneData). length l) log, open_rest d'.state sound', accepted_count R d d' es numbers, started);
@@ -168,12 +188,6 @@ completes_once R l d d' js opened sound done run =
     }
 
 -- ---- all devices
-
-pub open_as : (files : Option FilesState) (ls : List DeviceLineData) (ds : List Device) → OpenEach files ls ds → OpenAs ls ds
-open_as files [] [] h = tt
-open_as files [] (d ∷ ds) h = absurd h
-open_as files (l ∷ ls) [] h = absurd h
-open_as files (l ∷ ls) (d ∷ ds) h = ((h.0.0, h.0.2), open_as files ls ds h.1)
 
 opens_at : (ls : List DeviceLineData) (ds : List Device) (at : ℕ) (l : DeviceLineData) (d : Device) → OpenAs ls ds → slice_get ls at ≡ Some l → slice_get ds at ≡ Some d → OpensAt l d
 opens_at [] ds at l d h p q = absurd (cc)
@@ -196,6 +210,6 @@ commands_complete files bytes text s read is at l d named found =
     let asked = replay_asked Serves bytes text s ds read opens is.replay in
     let start = get_within ds at (omega (arith, slice_get_within is.replay.ends at d found, journal.count, opened_count s.devices ds opens)) in
     completes_once Serves l start.0 d (filter (is_of at) is.replay.journal) (opens_at s.devices ds at l start.0 opens named start.1)
-    (every_at (λ (x : Device). IsSound x.state) ds at start.0 (opened_sound s.devices ds (spelled_read bytes s read) opens) start.1)
+    (every_at (λ (x : Device). IsSound x.state) ds at start.0 (opened_sound s.devices ds (spelled_read _ bytes s read) opens) start.1)
     (every_at (λ (x : Device). drain_event x.state ≡ None) is.replay.ends at d asked.rest found)
     (is.replay.legal at start.0 d start.1 found)

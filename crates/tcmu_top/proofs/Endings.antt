@@ -1,5 +1,5 @@
 -- Every replay over several devices can be ended.
-use Rattle.std.proofs.Common.{◌≡◌, ℕ, zero, suc, ◌+◌, ◌≤◌, List, [], ◌∷◌, ◌++◌, length, take, drop, slice_get, slice_set, Some, refl, sym, ap, ◌∙◌, arith, subst, add-one}
+use Rattle.std.proofs.Common.{◌≡◌, ℕ, zero, suc, ◌+◌, ◌≤◌, List, [], ◌∷◌, ◌++◌, length, take, drop, slice_get, slice_set, Some, refl, sym, ap, ◌∙◌, arith, subst, add-one, inl, inr}
 use Rattle.std.proofs.lemmas.List.{map-append, length-set, drop-set-lt, drop_all}
 use Rattle.tcmu_types.specs.Events.{EntryData}
 use Rattle.tcmu_model.specs.Device.{Device}
@@ -13,6 +13,7 @@ use Rattle.text_model.specs.Several.{Journaled, DrainsEach, ReplaysEach}
 use Rattle.tcmu_model.proofs.GoesOn.{drains_run}
 use Rattle.tcmu_model.proofs.Runs.{sound_run}
 use Rattle.tcmu_path.specs.Tasks.{IsFitFor}
+use Rattle.tcmu_top.specs.InPart.{DrainsInPart, DrainsEachInPart}
 use Rattle.tcmu_top.proofs.Each.{Leads, Ending}
 use Rattle.tcmu_top.proofs.Legal.{AreOf, piece_of, legal_none, legal_one, legal_append, drains_own, plays_own}
 use Rattle.tcmu_top.proofs.Places.{agrees}
@@ -24,21 +25,48 @@ use Rattle.text_laws.specs.Replays.{entries_of}
 
 -- ==== drains in order
 
--- the devices from a number on are drained, and those before it stay
+-- the devices from a number on are so, and those before it stay
+abbrev pub From : (List Device → List EntryData → List Device → Type 0) → ℕ → List Device → Leads
+From So at ds es ends = So (drop at ds) es (drop at ends) × (take at ends ≡ take at ds)
+
 abbrev pub DrainsFrom : HandlerRelation → ℕ → List Device → Leads
-DrainsFrom R at ds es ends = DrainsEach R at (drop at ds) es (drop at ends) × (take at ends ≡ take at ds)
+DrainsFrom R at ds = From (DrainsEach R at) at ds
+
+abbrev pub DrainsFromInPart : HandlerRelation → ℕ → List Device → Leads
+DrainsFromInPart R at ds = From (DrainsEachInPart R at) at ds
+
+from_step : (So Next : List Device → List EntryData → List Device → Type 0) (at : ℕ) (ds ends : List Device) (d d' : Device) (es rest : List EntryData) → slice_get ds at ≡ Some d
+    → ((others : List Device) → Next (drop (suc at) ds) rest others → So (d ∷ drop (suc at) ds) (es ++ rest) (d' ∷ others))
+    → From Next (at + 1) (slice_set ds at d') rest ends → From So at ds (es ++ rest) ends
+from_step So Next at ds ends d d' es rest found one h =
+    let kept : drop (at + 1) (slice_set ds at d') ≡ drop (suc at) ds = drop-set-lt (at + 1) ds at d' (omega arith) ∙ ap (λ (n : ℕ). drop n ds) (add-one at) in
+    let front : take (suc at) ends ≡ take (suc at) (slice_set ds at d') = subst (λ (n : ℕ). take n ends ≡ take n (slice_set ds at d')) (add-one at) h.1 in
+    let a = agrees ds ends at d d' found front in
+    let others : Next (drop (suc at) ds) rest (drop (suc at) ends) =
+    subst (λ (l : List Device). Next l rest (drop (suc at) ends)) kept
+    (subst (λ (l : List Device). Next (drop (at + 1) (slice_set ds at d')) rest l) (ap (λ (n : ℕ). drop n ends) (add-one at)) h.0) in (
+      subst (λ (l : List Device). So l (es ++ rest) (drop at ends)) (sym (drop_from ds at d found))
+          (subst (λ (l : List Device). So (d ∷ drop (suc at) ds) (es ++ rest) l) (sym a.from) (one (drop (suc at) ends) others)),
+      a.before,
+    )
 
 pub drains_step : (R : HandlerRelation) (at : ℕ) (ds ends : List Device) (d d' : Device) (es rest : List EntryData) → slice_get ds at ≡ Some d → Drains R at d es d'
     → DrainsFrom R (at + 1) (slice_set ds at d') rest ends → DrainsFrom R at ds (es ++ rest) ends
 drains_step R at ds ends d d' es rest found drain h =
-    let kept : drop (at + 1) (slice_set ds at d') ≡ drop (suc at) ds = drop-set-lt (at + 1) ds at d' (omega arith) ∙ ap (λ (n : ℕ). drop n ds) (add-one at) in
-    let front : take (suc at) ends ≡ take (suc at) (slice_set ds at d') = subst (λ (n : ℕ). take n ends ≡ take n (slice_set ds at d')) (add-one at) h.1 in
-    let a = agrees ds ends at d d' found front in
-    let others : DrainsEach R (at + 1) (drop (suc at) ds) rest (drop (suc at) ends) =
-    subst (λ (l : List Device). DrainsEach R (at + 1) l rest (drop (suc at) ends)) kept
-    (subst (λ (l : List Device). DrainsEach R (at + 1) (drop (at + 1) (slice_set ds at d')) rest l) (ap (λ (n : ℕ). drop n ends) (add-one at)) h.0) in (
-      subst (λ (l : List Device). DrainsEach R at l (es ++ rest) (drop at ends)) (sym (drop_from ds at d found))
-          (subst (λ (l : List Device). DrainsEach R at (d ∷ drop (suc at) ds) (es ++ rest) l) (sym a.from) (es, rest, d', drop (suc at) ends, refl, refl, drain, others)),
+    from_step (DrainsEach R at) (DrainsEach R (at + 1)) at ds ends d d' es rest found (λ others k. (es, rest, d', others, refl, refl, drain, k)) h
+
+pub drains_part_step : (R : HandlerRelation) (at : ℕ) (ds ends : List Device) (d d' : Device) (es rest : List EntryData) → slice_get ds at ≡ Some d → Drains R at d es d'
+    → DrainsFromInPart R (at + 1) (slice_set ds at d') rest ends → DrainsFromInPart R at ds (es ++ rest) ends
+drains_part_step R at ds ends d d' es rest found drain h =
+    from_step (DrainsEachInPart R at) (DrainsEachInPart R (at + 1)) at ds ends d d' es rest found (λ others k. inr (es, rest, d', others, refl, refl, drain, k)) h
+
+-- one device is drained in part, and none behind it
+pub drains_part_stop : (R : HandlerRelation) (at : ℕ) (ds : List Device) (d d' : Device) (es : List EntryData) → slice_get ds at ≡ Some d → DrainsInPart R at d es d' → DrainsFromInPart R at ds es (slice_set ds at d')
+drains_part_stop R at ds d d' es found drain =
+    let a = agrees ds (slice_set ds at d') at d d' found refl in
+    let kept : drop (suc at) (slice_set ds at d') ≡ drop (suc at) ds = drop-set-lt (suc at) ds at d' (omega arith) in (
+      subst (λ (l : List Device). DrainsEachInPart R at l es (drop at (slice_set ds at d'))) (sym (drop_from ds at d found))
+          (subst (λ (l : List Device). DrainsEachInPart R at (d ∷ drop (suc at) ds) es l) (sym a.from) (inl (d', drain, ap (λ (l : List Device). d' ∷ l) kept))),
       a.before,
     )
 

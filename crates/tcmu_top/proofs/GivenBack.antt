@@ -7,8 +7,11 @@ use Rattle.std.proofs.lemmas.List.{take_more, take-append-drop}
 use Rattle.std.proofs.lemmas.Option.{same_Some, slice_get_within}
 use Rattle.tcmu_types.specs.Numbered.{Numbered, next_call}
 use Rattle.edge.specs.Stores.{StoreState, Content, Place, at_home, FilesState, fetch_fails, one_more_fetch}
-use Rattle.tcmu_model.specs.MediumState.{MediumState, file}
-use Rattle.scsi_model.specs.Medium.{opened_medium, file_below}
+use Rattle.tcmu_model.specs.MediumState.{Layer, memory, file, overlay, write_back, MediumState}
+use Rattle.scsi_model.specs.Medium.{has_store, opened_medium, file_below}
+use Rattle.scsi_model.specs.Runs.{clean}
+use Rattle.scsi_model.proofs.Cleared.{cleared_none}
+use Rattle.scsi_model.proofs.Running.{runs_keep}
 use Rattle.scsi_model.specs.Scsi.{Serves}
 use Rattle.tcmu_model.specs.Device.{Device}
 use Rattle.text_model.specs.Config.{MediumData, InMemory, InFile}
@@ -21,7 +24,7 @@ use Rattle.media.specs.declared.make.MakeFault.{MakeFault}
 use Rattle.media.specs.declared.make.MakeFault.TheVariants as fault
 use Rattle.tcmu_top.specs.Opened.{OpensFile, OpensKind, Opens, OpenEach, name_in, file_names, a_fetch_fails, is_named, IsLeftOf, Holds, Kept, FetchedFront, NoneFailed, NextFailed, SameFiles, AsTheyWere, after_fetches, AreOpen, Made, Unopened, OwnFiles, TellFiles, AreOut, Returns, KeepsEach}
 use Rattle.tcmu_top.proofs.Telling.{rose_later}
-use Rattle.tcmu_top.proofs.FileRuns.{run_stays}
+use Rattle.tcmu_top.proofs.FileRuns.{device_runs}
 use Rattle.tcmu_top.proofs.Legal.{legal_none}
 use Rattle.tcmu_top.proofs.Fetching.{names_append, fails_append, fetches_append, fetches_fails, place_free, IsOwn, open_none, open_more, fetch_lacks, own_files}
 use Rattle.tcmu_top.proofs.Keeping.{fetched_out, keeps_one}
@@ -35,20 +38,27 @@ open_at files (k ∷ ls) [] at l h e = absurd h
 open_at files (k ∷ ls) (d ∷ ds) zero l h e = (d, refl, subst (λ (x : DeviceLineData). Opens files x d) (same_Some k l e) h.0)
 open_at files (k ∷ ls) (d ∷ ds) (suc at) l h e = open_at files ls ds at l h.1 e
 
--- a device over a file that is told is told as it opens
-opens_told : (f : FilesState) (l : DeviceLineData) (d : Device) (name : List ℕ) → Opens (Some f) l d → l.config.kind ≡ InFile name → (d.medium.below.layer ≡ file) × (is_some d.medium.below.bytes ≡ true)
+-- the store of a device over a file that is told is told as it opens
+opens_told : (f : FilesState) (l : DeviceLineData) (d : Device) (name : List ℕ) → Opens (Some f) l d → l.config.kind ≡ InFile name → (has_store d.medium.below.layer ≡ true) × (is_some d.medium.below.store.bytes ≡ true)
 opens_told f l d name o kind =
     let x : OpensFile name (Some f) l.config o.0 = subst (λ (k : MediumData). OpensKind k (Some f) l.config o.0) kind o.1 in
-    let medium_is : d.medium ≡ opened_medium (x.store.size / 512) l.config.protected l.config.fails (file_below x.store.bytes x.store.calls) = ap (λ (y : Device). y.medium) o.2 ∙ x.medium in
+    let medium_is : d.medium ≡ opened_medium (x.store.size / 512) l.config.protected l.config.fails (file_below x.store.size x.store.bytes x.store.calls) = ap (λ (y : Device). y.medium) o.2 ∙ x.medium in
     let bytes_are : x.store.bytes ≡ Some x.told.0.bytes = ap (λ (s : StoreState). s.bytes) x.told.2 in
-    (ap (λ (m : MediumState). m.below.layer) medium_is, ap (λ (m : MediumState). is_some m.below.bytes) medium_is ∙ ap (λ (o : Option (List ℕ)). is_some o) bytes_are)
+    (ap (λ (m : MediumState). has_store m.below.layer) medium_is, ap (λ (m : MediumState). is_some m.below.store.bytes) medium_is ∙ ap (λ (o : Option (List ℕ)). is_some o) bytes_are)
+
+-- whether there is a store below goes by the layer, whatever is dirty
+clean_store : (l : Layer) → has_store (clean l) ≡ has_store l
+clean_store memory = refl
+clean_store file = refl
+clean_store overlay = refl
+clean_store (write_back slots dirty) = refl
 
 pub tell_files : (f : FilesState) (ls : List DeviceLineData) (ds ends : List Device) (js : List Journaled) → OpenEach (Some f) ls ds → IsLegalEach Serves ds js ends → TellFiles ls ends
 tell_files f ls ds ends js opens legal at l name e kind d' g =
     let x = open_at (Some f) ls ds at l opens e in
     let first = opens_told f l x.0 name x.2 kind in
-    let run = run_stays x.0 d' (filter (is_of at) js) first.0 (legal at x.0 d' x.1 g) in
-    (run.layer, run.bytes ∙ first.1)
+    let stays = runs_keep x.0.medium d'.medium (device_runs x.0 d' (filter (is_of at) js) (legal at x.0 d' x.1 g)) in
+    (sym (clean_store d'.medium.below.layer) ∙ ap has_store stays.layer ∙ clean_store x.0.medium.below.layer ∙ first.0, stays.stored ∙ first.1)
 
 -- ==== one file
 
@@ -62,7 +72,7 @@ file_again f l d name place o kind h =
     let medium_is = ap (λ (y : Device). y.medium) o.2 ∙ x.medium in
     let left = subst (λ (m : MediumState). IsLeftOf m h.0) medium_is h.2 in
     let was = x.told.0 in
-    let bytes_are : Some h.0.bytes ≡ Some was.bytes = sym left.bytes ∙ ap (λ (s : StoreState). s.bytes) x.told.2 in
+    let bytes_are : Some h.0.bytes ≡ Some was.bytes = ap (λ (xs : List ℕ). Some xs) (sym (cleared_none h.0.bytes)) ∙ sym left.bytes ∙ ap (λ (s : StoreState). s.bytes) x.told.2 in
     let calls_are : h.0.calls ≡ was.calls = left.calls ∙ ap (λ (s : StoreState). s.calls) x.told.2 in
     h.1 ∙ ap (λ (c : Content). at_home c) (content_same h.0 was (same_Some h.0.bytes was.bytes bytes_are) calls_are) ∙ sym x.told.1
 

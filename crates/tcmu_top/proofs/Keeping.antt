@@ -1,13 +1,14 @@
 -- The files are given back one after another, from the last device on.
-use Rattle.std.proofs.Common.{◌≡◌, ℕ, zero, suc, ◌+◌, ◌-◌, ◌<◌, ◌≤◌, Bool, true, false, List, [], ◌∷◌, length, take, slice_get, Option, Some, None, IfSome, is_some, bytes_eq, refl, sym, ap, ◌∙◌, arith, subst, ⊎_elim}
+use Rattle.std.proofs.Common.{◌≡◌, ℕ, zero, suc, ◌+◌, ◌-◌, ◌<◌, ◌≤◌, false, List, [], ◌∷◌, length, take, slice_get, Option, Some, None, IfSome, is_some, bytes_eq, refl, sym, ap, ◌∙◌, arith, subst, ⊎_elim}
 use Rattle.std.specs.List.{list_any}
 use Rattle.std.specs.Option.{option_map}
 use Rattle.std.proofs.lemmas.Bool.{cases_eq, or_parts, false≢true}
 use Rattle.std.proofs.lemmas.List.{length-map, length-take-le, take-take, take-map}
 use Rattle.std.proofs.lemmas.Option.{same_Some, slice_get_within}
 use Rattle.edge.specs.Stores.{StoreState, Content, store_of, out, at_home, FilesState, after_fetch, given_back, after_keep}
-use Rattle.tcmu_model.specs.MediumState.{Layer, memory, file, overlay, write_back, MediumState}
-use Rattle.scsi_model.specs.Medium.{blanked}
+use Rattle.tcmu_model.specs.MediumState.{MediumState}
+use Rattle.scsi_model.specs.Base.{cleared}
+use Rattle.scsi_model.specs.Medium.{has_store}
 use Rattle.tcmu_model.specs.Device.{Device}
 use Rattle.text_model.specs.Config.{MediumData, InMemory, InFile}
 use Rattle.text_model.specs.ScenarioData.{DeviceLineData}
@@ -132,22 +133,16 @@ pub returned_file : (name : List ℕ) (s : StoreState) (m : MediumState) (old ne
 returned_file name s m old new sized stored kept layer told = by s.bytes refl
   where
     by : (o : Option (List ℕ)) → s.bytes ≡ o → (c : Content) × IsLeftOf m c × (new ≡ option_map (after_keep name c) old)
-    by None e = let none : is_some m.below.bytes ≡ false = ap (λ (o : Option (List ℕ)). is_some o) (stored.bytes ∙ ap (option_map (blanked m.below.lost)) e) in absurd (false≢true (sym none ∙ told))
+    by None e = let none : is_some m.below.store.bytes ≡ false = ap (λ (o : Option (List ℕ)). is_some o) (stored.bytes ∙ ap (option_map (cleared m.below.store.free)) e) in absurd (false≢true (sym none ∙ told))
     by (Some bs) e =
         let long = subst (λ (o : Option (List ℕ)). IfSome o (λ bs. length bs ≡ s.size)) e sized in
         let c : Content = record { bytes = bs; calls = s.calls } in
-        (c, record { size = long ∙ stored.size; bytes = stored.bytes ∙ ap (option_map (blanked m.below.lost)) e; calls = sym stored.calls }, kept c (file_of s bs e long))
-
-abbrev is_memory : Layer → Bool
-is_memory memory = true
-is_memory file = false
-is_memory overlay = false
-is_memory (write_back slots dirty) = false
+        (c, record { size = long ∙ stored.size; bytes = stored.bytes ∙ ap (option_map (cleared m.below.store.free)) e; calls = stored.calls }, kept c (file_of s bs e long))
 
 -- a medium in memory is in no file
-pub returned_none : (k : MediumData) (m : MediumState) (old : Option FilesState) → m.below.layer ≡ memory → Returns k m old old
+pub returned_none : (k : MediumData) (m : MediumState) (old : Option FilesState) → has_store m.below.layer ≡ false → Returns k m old old
 returned_none (InMemory blocks) m old e = refl
-returned_none (InFile name) m old e = λ layer told. absurd (false≢true (ap is_memory (sym layer ∙ e)))
+returned_none (InFile name) m old e = λ layer told. absurd (false≢true (sym e ∙ layer))
 
 -- the files behind the devices that were given back so far
 abbrev pub KeptFrom : List DeviceLineData → List Device → Option FilesState → Option FilesState → ℕ → Type 0

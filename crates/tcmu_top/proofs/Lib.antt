@@ -2,12 +2,14 @@ pub mod Telling
 pub mod RunTexts
 pub mod Outcomes
 pub mod Playing
+pub mod InPart
 pub mod Places
 pub mod Legal
 pub mod Each
 pub mod Endings
 pub mod Going
 pub mod Sets
+pub mod Opened
 pub mod Whole
 pub mod Fetching
 pub mod FileRuns
@@ -18,4 +20,5 @@ pub mod Agreed
 pub mod Settings
 pub mod Completions
 pub mod OneLine
+pub mod OneJournal
 pub mod OverFiles

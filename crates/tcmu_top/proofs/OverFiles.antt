@@ -1,26 +1,36 @@
 -- Over files whose stores list no failing call a scenario has one text.
-use Rattle.std.proofs.Common.{◌≡◌, inl, inr, ℕ, suc, ◌/◌, Bool, true, false, ◌||◌, List, [], ◌∷◌, length, slice_get, bytes_eq, Some, is_some, refl, sym, ap, ◌∙◌, subst, arith}
-use Rattle.std.specs.List.{list_any}
+use Rattle.std.proofs.Common.{◌≡◌, inl, inr, ℕ, suc, ◌*◌, ◌/◌, Bool, true, false, ◌||◌, List, [], ◌∷◌, length, slice_get, bytes_eq, Option, Some, None, IfSome, is_some, ⊎_elim, refl, sym, ap, ◌∙◌, subst, arith}
+use Rattle.std.specs.List.{list_any, filter}
+use Rattle.std.specs.Option.{option_map}
+use Rattle.std.proofs.lemmas.Bool.{cases_Bool, false≢true}
 use Rattle.std.proofs.lemmas.Option.{slice_get_within}
 use Rattle.tcmu_types.specs.Numbered.{Numbered}
 use Rattle.edge.specs.Stores.{Content, StoreState, store_of, Place, at_home, FilesState}
-use Rattle.tcmu_model.specs.MediumState.{Span, MediumState}
-use Rattle.scsi_model.specs.Medium.{blanked, opened_medium, file_below}
+use Rattle.tcmu_model.specs.MediumState.{MediumState}
+use Rattle.scsi_model.specs.Base.{cleared}
+use Rattle.scsi_model.specs.Medium.{lies_in, empty_span, blanked, opened_medium, file_below}
+use Rattle.scsi_model.specs.Runs.{ShowsFile}
+use Rattle.scsi_model.proofs.Cleared.{hidden, get_cleared}
+use Rattle.scsi_model.proofs.FileRuns.{runs_show_file}
 use Rattle.tcmu_model.specs.Device.{Device, opening}
 use Rattle.text_model.specs.Config.{ConfigData, MediumData, InMemory, InFile}
 use Rattle.text_model.specs.ScenarioData.{DeviceLineData}
 use Rattle.scsi_model.specs.Scsi.{Serves}
-use Rattle.text_model.specs.Several.{IsReplayOf, ReplaysEach}
+use Rattle.text_model.specs.Several.{Journaled, is_of, IsLegalEach, IsReplayOf, ReplaysEach}
 use Rattle.tcmu_types.specs.Lists.{Every}
+use Rattle.tcmu_types.specs.Numbers.{is_among}
 use Rattle.tcmu_types.proofs.Everies.{every_at}
 use Rattle.tcmu_types.proofs.Readings.{same_some, same_bytes}
-use Rattle.tcmu_types.proofs.Places.{get_within}
+use Rattle.tcmu_types.proofs.Places.{get_within, same_list}
 use Rattle.block_engine.specs.Determined.{LosesNothing}
 use Rattle.text_laws.specs.Replays.{entries_of}
 use Rattle.text_laws.proofs.Settled.{one_replay, one_text}
-use Rattle.tcmu_top.specs.Opened.{OpensKind, OpenEach, after_fetches, file_names, name_in, is_named, IsLeftOf, Holds, SameFiles, Kept, KeptFiles}
+use Rattle.tcmu_top.specs.Opened.{OpensFile, OpensKind, Opens, OpenEach, EachFile, after_fetches, file_names, name_in, is_named, IsLeftOf, Holds, SameFiles, Kept, KeptFiles}
 use Rattle.tcmu_top.specs.Laws.{ListsNone, ListNone, HasOneTextOverFiles, LeavesTheSameFiles}
-use Rattle.tcmu_top.proofs.Completions.{open_as, devices_stay}
+use Rattle.tcmu_top.proofs.Completions.{devices_stay}
+use Rattle.tcmu_top.proofs.Opened.{open_as}
+use Rattle.tcmu_top.proofs.FileRuns.{device_runs}
+use Rattle.tcmu_top.proofs.GivenBack.{open_at}
 
 -- ---- one medium
 
@@ -33,7 +43,7 @@ one_medium f (InMemory blocks) c m n h k = h ∙ sym k
 one_medium f (InFile name) c m n h k =
     let content : h.told.0 ≡ k.told.0 = same_content h.told.0 k.told.0 (sym h.told.1 ∙ k.told.1) in
     let store : h.store ≡ k.store = h.told.2 ∙ ap (λ (x : Content). store_of x) content ∙ sym k.told.2 in
-    h.medium ∙ ap (λ (s : StoreState). opened_medium (s.size / 512) c.protected c.fails (file_below s.bytes s.calls)) store ∙ sym k.medium
+    h.medium ∙ ap (λ (s : StoreState). opened_medium (s.size / 512) c.protected c.fails (file_below s.size s.bytes s.calls)) store ∙ sym k.medium
 
 loses_nothing : (f : FilesState) (kind : MediumData) (c : ConfigData) (m : MediumState) → ListsNone f kind → OpensKind kind (Some f) c m → LosesNothing m
 loses_nothing f (InMemory blocks) c m none h =
@@ -94,19 +104,65 @@ named_at (l ∷ ls) name e = go l.config.kind refl e (named_at ls name)
     go (InMemory blocks) kind e rest = later (rest e)
     go (InFile other) kind e rest = first other kind (bytes_eq name other) refl e rest
 
+-- where nothing is lost of a medium that shows its file, no block of its store is free
+none_free : (m : MediumState) → m.below.lost ≡ empty_span → ShowsFile m → (xs : List ℕ) → cleared m.below.store.free xs ≡ xs
+none_free m e s xs = same_list _ _ (λ i. get_cleared m.below.store.free xs i ∙ ap (λ b. hidden b (slice_get xs i)) (away i))
+  where
+    away : (i : ℕ) → is_among m.below.store.free (i / 512) ≡ false
+    away i =
+        ⊎_elim
+        (λ (t : is_among m.below.store.free (i / 512) ≡ true).
+        let seen : lies_in m.below.lost i ≡ true = s.free i t in
+        let hid : lies_in m.below.lost i ≡ false = rw e (grind arith) in
+        absurd (false≢true (sym hid ∙ seen)))
+        (λ (f : is_among m.below.store.free (i / 512) ≡ false). f)
+        (cases_Bool (is_among m.below.store.free (i / 512)))
+
 -- a medium that loses nothing leaves one content
-one_content : (m : MediumState) (a b : Content) → LosesNothing m → IsLeftOf m a → IsLeftOf m b → a ≡ b
-one_content m a b keeps p q =
-    let blanks : blanked m.below.lost a.bytes ≡ blanked m.below.lost b.bytes = same_some (blanked m.below.lost a.bytes) (blanked m.below.lost b.bytes) (sym p.bytes ∙ q.bytes) in
-    let bytes : a.bytes ≡ b.bytes = subst (λ (lost : Span). blanked lost a.bytes ≡ blanked lost b.bytes) keeps.lost blanks in
+one_content : (m : MediumState) (a b : Content) → LosesNothing m → ShowsFile m → IsLeftOf m a → IsLeftOf m b → a ≡ b
+one_content m a b keeps shows p q =
+    let hidden_same : cleared m.below.store.free a.bytes ≡ cleared m.below.store.free b.bytes = same_some _ _ (sym p.bytes ∙ q.bytes) in
+    let bytes : a.bytes ≡ b.bytes = sym (none_free m keeps.lost shows a.bytes) ∙ hidden_same ∙ none_free m keeps.lost shows b.bytes in
     ap (λ (xs : List ℕ). record { bytes = xs; calls = a.calls }) bytes ∙ ap (λ (c : Numbered). record { bytes = b.bytes; calls = c }) (p.calls ∙ sym q.calls)
 
-one_place : (m : MediumState) (p q : Place) → LosesNothing m → Holds m p → Holds m q → q ≡ p
-one_place m p q keeps h k = k.1 ∙ ap (λ (c : Content). at_home c) (one_content m k.0 h.0 keeps k.2 h.2) ∙ sym h.1
+one_place : (m : MediumState) (p q : Place) → LosesNothing m → ShowsFile m → Holds m p → Holds m q → q ≡ p
+one_place m p q keeps shows h k = k.1 ∙ ap (λ (c : Content). at_home c) (one_content m k.0 h.0 keeps shows k.2 h.2) ∙ sym h.1
+
+-- the device of each file shows it, behind its run as when it opened
+abbrev ShowFiles : List DeviceLineData → List Device → Type 0
+ShowFiles ls ds = EachFile ls (λ at name. (d : Device) → slice_get ds at ≡ Some d → ShowsFile d.medium)
+
+opens_showing : (f : FilesState) (l : DeviceLineData) (d : Device) (name : List ℕ) → Opens (Some f) l d → l.config.kind ≡ InFile name → ShowsFile d.medium
+opens_showing f l d name o kind =
+    let x : OpensFile name (Some f) l.config o.0 = subst (λ (k : MediumData). OpensKind k (Some f) l.config o.0) kind o.1 in
+    let store = x.told.2 in
+    let m = opened_medium (x.store.size / 512) l.config.protected l.config.fails (file_below x.store.size x.store.bytes x.store.calls) in
+    let medium_is : d.medium ≡ m = ap (λ (y : Device). y.medium) o.2 ∙ x.medium in
+    let size : x.store.size ≡ 512 * (x.store.size / 512) = omega (arith, x.whole) in
+    let long : IfSome x.store.bytes (λ xs. length xs ≡ x.store.size) = rw store refl in
+    let opened : ShowsFile m = record {
+      layer = refl;
+      size = size;
+      long = long;
+      ordered = omega arith;
+      inside = omega arith;
+      bytes = sym (blanked_none x.store.bytes);
+      free = λ i e. absurd (false≢true e);
+    } in
+    subst ShowsFile (sym medium_is) opened
+  where
+    blanked_none : (o : Option (List ℕ)) → option_map (blanked empty_span) o ≡ o
+    blanked_none None = refl
+    blanked_none (Some xs) = refl
+
+pub show_files : (f : FilesState) (ls : List DeviceLineData) (ds ends : List Device) (js : List Journaled) → OpenEach (Some f) ls ds → IsLegalEach Serves ds js ends → ShowFiles ls ends
+show_files f ls ds ends js opens legal at l name e kind d' g =
+    let x = open_at (Some f) ls ds at l opens e in
+    runs_show_file x.0.medium d'.medium (device_runs x.0 d' (filter (is_of at) js) (legal at x.0 d' x.1 g)) (opens_showing f l x.0 name x.2 kind)
 
 same_places : (ls : List DeviceLineData) (ends : List Device) (count : ℕ) (f g h : FilesState) → length ends ≡ length ls → Every (λ d. LosesNothing d.medium) ends
-    → Kept ls ends count f g → Kept ls ends count f h → (name : List ℕ) → h.places name ≡ g.places name
-same_places ls ends count f g h all keeps p q name = go (is_named ls name) refl
+    → ShowFiles ls ends → Kept ls ends count f g → Kept ls ends count f h → (name : List ℕ) → h.places name ≡ g.places name
+same_places ls ends count f g h all keeps shows p q name = go (is_named ls name) refl
   where
     go : (b : Bool) → is_named ls name ≡ b → h.places name ≡ g.places name
     go false e = q.others name e ∙ sym (p.others name e)
@@ -114,15 +170,16 @@ same_places ls ends count f g h all keeps p q name = go (is_named ls name) refl
         let x = named_at ls name e in
         let d = get_within ends x.at (omega (arith, slice_get_within ls x.at x.line x.found, all)) in
         one_place d.0.medium (g.places name) (h.places name) (every_at (λ d. LosesNothing d.medium) ends x.at d.0 keeps d.1)
+        (shows x.at x.line name x.found x.kind d.0 d.1)
         (p.named x.at x.line name x.found x.kind d.0 d.1) (q.named x.at x.line name x.found x.kind d.0 d.1)
 
 same_files : (ls : List DeviceLineData) (ends : List Device) (f g h : FilesState) → length ends ≡ length ls → Every (λ d. LosesNothing d.medium) ends
-    → KeptFiles ls ends (Some f) (Some g) → KeptFiles ls ends (Some f) (Some h) → SameFiles g h × (h.fetches ≡ g.fetches)
-same_files ls ends f g h all keeps p q =
+    → ShowFiles ls ends → KeptFiles ls ends (Some f) (Some g) → KeptFiles ls ends (Some f) (Some h) → SameFiles g h × (h.fetches ≡ g.fetches)
+same_files ls ends f g h all keeps shows p q =
     let count = (after_fetches (file_names ls) f).fetches in
     let first : Kept ls ends count f g = subst (λ (x : FilesState). Kept ls ends count f x) (sym (same_some g p.0 p.1)) p.2 in
     let other : Kept ls ends count f h = subst (λ (x : FilesState). Kept ls ends count f x) (sym (same_some h q.0 q.1)) q.2 in
-    (record { places = same_places ls ends count f g h all keeps first other; fails = other.fails ∙ sym first.fails }, other.fetches ∙ sym first.fetches)
+    (record { places = same_places ls ends count f g h all keeps shows first other; fails = other.fails ∙ sym first.fails }, other.fetches ∙ sym first.fetches)
 
 pub leaves_the_same_files : LeavesTheSameFiles
 leaves_the_same_files f g h bytes t u s read none is it p q =
@@ -131,4 +188,5 @@ leaves_the_same_files f g h bytes t u s read none is it p q =
     let lose = lose_nothing f s.devices it.opened none it.opens in
     let one = one_replay it.opened s.lines (entries_of is.replay.journal) (entries_of it.replay.journal) is.replay.ends it.replay.ends lose replays it.replay.replays in
     let kept = subst (λ (x : List Device). KeptFiles s.devices x (Some f) (Some g)) one.1 p in
-    same_files s.devices it.replay.ends f g h (devices_stay (Some f) bytes u s read it).ends one.2 kept q
+    same_files s.devices it.replay.ends f g h (devices_stay (Some f) bytes u s read it).ends one.2
+    (show_files f s.devices it.opened it.replay.ends it.replay.journal it.opens it.replay.legal) kept q

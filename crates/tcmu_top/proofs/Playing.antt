@@ -23,7 +23,9 @@ use Rattle.text_model.specs.Text.{entry_text}
 use Rattle.tcmu_model.proofs.Draining.{work_falls}
 use Rattle.tcmu_model.proofs.GoesOn.{goes_on_first, goes_on_more, drains_run}
 use Rattle.tcmu_model.proofs.Logs.{makes_grows}
-use Rattle.tcmu_top.specs.Playing.{event_lines, run_text, MadeEvent, Played, Stopped, Wrote, RunAllButLast, WroteFront}
+use Rattle.tcmu_top.specs.InPart.{DrainsInPart, PlaysInPart}
+use Rattle.tcmu_top.proofs.InPart.{drains_part_more}
+use Rattle.tcmu_top.specs.Playing.{event_lines, run_text, MadeEvent, Played, Stopped, Wrote, RunAllButLast, CanEnd, WroteFront}
 use Rattle.text_model.specs.ScenarioRules.{IsEvent}
 use Rattle.tcmu_path.specs.Tasks.{IsFit}
 use Rattle.tcmu_top.proofs.Telling.{gained_none, gained_more, gained_as, front_none, front_whole, front_behind}
@@ -112,22 +114,25 @@ plays_total R at d line.DumpLine outcomes sound fit = absurd fit
 pub record Draining (R : HandlerRelation) (at : ℕ) (l : DeviceLineData) (start d : Device) (old now : Option (List ℕ)) : Type 0 where
   pub sofar : List EntryData
   pub run : Run R start sofar d
+  pub asked : DrainsInPart R at start sofar d
   pub goes_on : DrainGoesOn R at start sofar d
   pub wrote : Gained old (run_text l start sofar d) now
   pub sound : IsSound d.state
 
 pub draining_first : (R : HandlerRelation) (at : ℕ) (l : DeviceLineData) (d : Device) (old : Option (List ℕ)) → IsSound d.state → Draining R at l d d old old
-draining_first R at l d old sound = record { sofar = []; run = refl; goes_on = goes_on_first R at d; wrote = gained_none old; sound = sound }
+draining_first R at l d old sound = record { sofar = []; run = refl; asked = refl; goes_on = goes_on_first R at d; wrote = gained_none old; sound = sound }
 
 pub draining_more : (R : HandlerRelation) (at : ℕ) (l : DeviceLineData) (start d d' : Device) (event : EventData) (old mid now : Option (List ℕ))
     → Draining R at l start d old mid → drain_event d.state ≡ Some event → Played R at l event d d' mid now → Draining R at l start d' old now
 draining_more R at l start d d' event old mid now so picked told =
     let m = told.made in
     let one = run_one R d d' m.entry m.step in
+    let chosen = picked ∙ ap (λ (x : EventData). Some x) (sym m.is) in
     record {
       sofar = so.sofar ++ m.entry ∷ [];
       run = run_append R start d d' so.sofar (m.entry ∷ []) so.run one;
-      goes_on = goes_on_more R at start d d' so.sofar m.entry m.device (picked ∙ ap (λ (x : EventData). Some x) (sym m.is)) m.step so.goes_on;
+      asked = drains_part_more R at start d d' so.sofar m.entry so.asked m.device chosen m.step;
+      goes_on = goes_on_more R at start d d' so.sofar m.entry m.device chosen m.step so.goes_on;
       wrote = gained_as old now _ _ (sym (text_more R l start d d' so.sofar (m.entry ∷ []) so.run one)) (gained_more old mid now _ _ so.wrote told.wrote);
       sound = sound_step R d d' m.entry so.sound m.step;
     }
@@ -177,37 +182,37 @@ one_part_told R l start d d' es e old mid now run one g f =
       second = one;
     }
 
-pub draining_stopped : (R : HandlerRelation) (at : ℕ) (l : DeviceLineData) (start d d' : Device) (event : EventData) (old mid now : Option (List ℕ)) → HasOutcomes R
-    → Draining R at l start d old mid → drain_event d.state ≡ Some event → Stopped R at l event d d' mid now → WroteFront R l (Drains R at start) start d' old now
-draining_stopped R at l start d d' event old mid now outcomes so picked (inl nothing) =
-    let rest = drained R at d outcomes so.sound in
-    let front : WroteFront R l (Drains R at start) start d old mid =
+-- what is left of a drain can be made
+drain_can_end : (R : HandlerRelation) (at : ℕ) (start d : Device) (es : List EntryData) → DrainGoesOn R at start es d → IsSound d.state → HasOutcomes R → CanEnd R (Drains R at start) es d
+drain_can_end R at start d es goes sound outcomes =
+    let rest = drained R at d outcomes sound in
+    record { rest = rest.0; end = rest.1; right = goes (rest.0) (rest.1) (rest.2); more = drains_run R at d (rest.1) (rest.0) (rest.2) }
+
+pub draining_stopped : (R : HandlerRelation) (at : ℕ) (l : DeviceLineData) (start d d' : Device) (event : EventData) (old mid now : Option (List ℕ))
+    → Draining R at l start d old mid → drain_event d.state ≡ Some event → Stopped R at l event d d' mid now → WroteFront R l (DrainsInPart R at start) (Drains R at start) start d' old now
+draining_stopped R at l start d d' event old mid now so picked (inl nothing) =
+    let front : WroteFront R l (DrainsInPart R at start) (Drains R at start) start d old mid =
     record {
       made = so.sofar;
-      rest = rest.0;
-      end = rest.1;
-      right = so.goes_on (rest.0) (rest.1) (rest.2);
+      asked = so.asked;
       run = so.run;
-      more = drains_run R at d (rest.1) (rest.0) (rest.2);
       wrote = front_whole old mid _ [] _ (sym (append-nil (run_text l start so.sofar d))) so.wrote;
       stopped = all_told R l start d so.sofar old mid so.run so.wrote;
+      ends = drain_can_end R at start d so.sofar so.goes_on so.sound;
     } in
-    subst (λ (w : Option (List ℕ)). WroteFront R l (Drains R at start) start d' old w) (sym nothing.wrote)
-    (subst (λ (x : Device). WroteFront R l (Drains R at start) start x old mid) (sym nothing.device) front)
-draining_stopped R at l start d d' event old mid now outcomes so picked (inr told) =
+    subst (λ (w : Option (List ℕ)). WroteFront R l (DrainsInPart R at start) (Drains R at start) start d' old w) (sym nothing.wrote)
+    (subst (λ (x : Device). WroteFront R l (DrainsInPart R at start) (Drains R at start) start x old mid) (sym nothing.device) front)
+draining_stopped R at l start d d' event old mid now so picked (inr told) =
     let m = told.made in
     let one = run_one R d d' m.entry m.step in
-    let goes : DrainGoesOn R at start (so.sofar ++ m.entry ∷ []) d' = goes_on_more R at start d d' so.sofar m.entry m.device (picked ∙ ap (λ (x : EventData). Some x) (sym m.is)) m.step so.goes_on in
-    let rest = drained R at d' outcomes (sound_step R d d' m.entry so.sound m.step) in
+    let chosen = picked ∙ ap (λ (x : EventData). Some x) (sym m.is) in
     record {
       made = so.sofar ++ m.entry ∷ [];
-      rest = rest.0;
-      end = rest.1;
-      right = goes (rest.0) (rest.1) (rest.2);
+      asked = drains_part_more R at start d d' so.sofar m.entry so.asked m.device chosen m.step;
       run = run_append R start d d' so.sofar (m.entry ∷ []) so.run one;
-      more = drains_run R at d' (rest.1) (rest.0) (rest.2);
       wrote = front_behind old mid now (run_text l start so.sofar d) (run_text l d (m.entry ∷ []) d') _ (text_more R l start d d' so.sofar (m.entry ∷ []) so.run one) so.wrote told.wrote;
       stopped = one_part_told R l start d d' so.sofar m.entry old mid now so.run one so.wrote told.wrote;
+      ends = drain_can_end R at start d' (so.sofar ++ m.entry ∷ []) (goes_on_more R at start d d' so.sofar m.entry m.device chosen m.step so.goes_on) (sound_step R d d' m.entry so.sound m.step);
     }
 
 -- each event of a drain leaves less to do
@@ -280,33 +285,30 @@ told_wrote R at l d d' event old now told =
       wrote = told.wrote;
     }
 
-pub stopped_front : (R : HandlerRelation) (at : ℕ) (l : DeviceLineData) (d d' : Device) (event : EventData) (old now : Option (List ℕ)) → HasOutcomes R → IsSound d.state → IsEvent event → Stopped R at l event d d' old now
-    → WroteFront R l (Plays R at d (line.EventLine event)) d d' old now
-stopped_front R at l d d' event old now outcomes sound fit (inl nothing) =
-    let m = event_made R at d event outcomes sound fit in
-    let front : WroteFront R l (Plays R at d (line.EventLine event)) d d old old =
+pub stopped_front : (R : HandlerRelation) (at : ℕ) (l : DeviceLineData) (d d' : Device) (event : EventData) (old now : Option (List ℕ)) → IsSound d.state → IsEvent event → Stopped R at l event d d' old now
+    → WroteFront R l (PlaysInPart R at d (line.EventLine event)) (Plays R at d (line.EventLine event)) d d' old now
+stopped_front R at l d d' event old now sound fit (inl nothing) =
+    let front : WroteFront R l (PlaysInPart R at d (line.EventLine event)) (Plays R at d (line.EventLine event)) d d old old =
     record {
       made = [];
-      rest = m.1.entry ∷ [];
-      end = m.0;
-      right = plays_made R at d (m.0) event (m.1);
+      asked = inl (refl, refl);
       run = refl;
-      more = run_one R d (m.0) m.1.entry m.1.step;
       wrote = front_none old [];
       stopped = all_told R l d d [] old old refl (gained_none old);
+      ends = λ outcomes.
+          let m = event_made R at d event outcomes sound fit in
+          record { rest = m.1.entry ∷ []; end = m.0; right = plays_made R at d (m.0) event (m.1); more = run_one R d (m.0) m.1.entry m.1.step };
     } in
-    subst (λ (w : Option (List ℕ)). WroteFront R l (Plays R at d (line.EventLine event)) d d' old w) (sym nothing.wrote)
-    (subst (λ (x : Device). WroteFront R l (Plays R at d (line.EventLine event)) d x old old) (sym nothing.device) front)
-stopped_front R at l d d' event old now outcomes sound fit (inr told) =
+    subst (λ (w : Option (List ℕ)). WroteFront R l (PlaysInPart R at d (line.EventLine event)) (Plays R at d (line.EventLine event)) d d' old w) (sym nothing.wrote)
+    (subst (λ (x : Device). WroteFront R l (PlaysInPart R at d (line.EventLine event)) (Plays R at d (line.EventLine event)) d x old old) (sym nothing.device) front)
+stopped_front R at l d d' event old now sound fit (inr told) =
     record {
       made = told.made.entry ∷ [];
-      rest = [];
-      end = d';
-      right = plays_made R at d d' event told.made;
+      asked = inr (plays_made R at d d' event told.made);
       run = run_one R d d' told.made.entry told.made.step;
-      more = refl;
       wrote = told.wrote;
       stopped = one_part_told R l d d d' [] told.made.entry old old now refl (run_one R d d' told.made.entry told.made.step) (gained_none old) told.wrote;
+      ends = λ outcomes. record { rest = []; end = d'; right = plays_made R at d d' event told.made; more = refl };
     }
 
 -- ==== from what the code finds
@@ -316,15 +318,15 @@ pub told_task : (R : HandlerRelation) (at : ℕ) (l : DeviceLineData) (d d' : De
 told_task R at l d d' event task old now is told =
     subst (λ (t : LineWhat). Wrote R l (λ es. Plays R at d t es d') d d' old now) (sym is) (told_wrote R at l d d' event old now told)
 
-pub stopped_task : (R : HandlerRelation) (at : ℕ) (l : DeviceLineData) (d d' : Device) (event : EventData) (task : LineWhat) (old now : Option (List ℕ)) → task ≡ line.EventLine event → HasOutcomes R → IsSound d.state → IsFit task → Stopped R at l event d d' old now
-    → WroteFront R l (Plays R at d task) d d' old now
-stopped_task R at l d d' event task old now is outcomes sound fit stopped =
-    subst (λ (t : LineWhat). WroteFront R l (Plays R at d t) d d' old now) (sym is) (stopped_front R at l d d' event old now outcomes sound (subst IsFit is fit) stopped)
+pub stopped_task : (R : HandlerRelation) (at : ℕ) (l : DeviceLineData) (d d' : Device) (event : EventData) (task : LineWhat) (old now : Option (List ℕ)) → task ≡ line.EventLine event → IsSound d.state → IsFit task → Stopped R at l event d d' old now
+    → WroteFront R l (PlaysInPart R at d task) (Plays R at d task) d d' old now
+stopped_task R at l d d' event task old now is sound fit stopped =
+    subst (λ (t : LineWhat). WroteFront R l (PlaysInPart R at d t) (Plays R at d t) d d' old now) (sym is) (stopped_front R at l d d' event old now sound (subst IsFit is fit) stopped)
 
 pub drained_task : (R : HandlerRelation) (at : ℕ) (l : DeviceLineData) (d d' : Device) (task : LineWhat) (old now : Option (List ℕ)) → task ≡ line.DrainLine → Wrote R l (λ es. Drains R at d es d') d d' old now
     → Wrote R l (λ es. Plays R at d task es d') d d' old now
 drained_task R at l d d' task old now is w = subst (λ (t : LineWhat). Wrote R l (λ es. Plays R at d t es d') d d' old now) (sym is) w
 
-pub drained_task_front : (R : HandlerRelation) (at : ℕ) (l : DeviceLineData) (d d' : Device) (task : LineWhat) (old now : Option (List ℕ)) → task ≡ line.DrainLine → WroteFront R l (Drains R at d) d d' old now
-    → WroteFront R l (Plays R at d task) d d' old now
-drained_task_front R at l d d' task old now is w = subst (λ (t : LineWhat). WroteFront R l (Plays R at d t) d d' old now) (sym is) w
+pub drained_task_front : (R : HandlerRelation) (at : ℕ) (l : DeviceLineData) (d d' : Device) (task : LineWhat) (old now : Option (List ℕ)) → task ≡ line.DrainLine → WroteFront R l (DrainsInPart R at d) (Drains R at d) d d' old now
+    → WroteFront R l (PlaysInPart R at d task) (Plays R at d task) d d' old now
+drained_task_front R at l d d' task old now is w = subst (λ (t : LineWhat). WroteFront R l (PlaysInPart R at d t) (Plays R at d t) d d' old now) (sym is) w

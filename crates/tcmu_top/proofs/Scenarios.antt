@@ -1,5 +1,5 @@
 -- How the replay of a scenario ends, from what its parts say.
-use Rattle.std.proofs.Common.{◌≡◌, ℕ, ◌<◌, false, List, [], ◌∷◌, length, Option, Some, None, Err, IfSome, refl, sym, ap, ◌∙◌, subst, inl}
+use Rattle.std.proofs.Common.{◌≡◌, ℕ, ◌<◌, false, List, length, Option, Some, None, Err, IfSome, refl, sym, ap, ◌∙◌, subst, inl}
 use Rattle.std.specs.List.{AllPairs}
 use Rattle.std.proofs.lemmas.Bool.{lt-ltb}
 use Rattle.tcmu_types.specs.Numbered.{Rose}
@@ -8,28 +8,20 @@ use Rattle.scsi_model.specs.Scsi.{Serves}
 use Rattle.tcmu_model.specs.Device.{Device}
 use Rattle.text_model.specs.Said.{same_file}
 use Rattle.text_model.specs.ScenarioData.{DeviceLineData, ScenarioData}
-use Rattle.text_model.specs.Scenario.{Bad, scenario_of}
+use Rattle.text_model.specs.Scenario.{Bad, scenario_within, scenario_of}
 use Rattle.text_model.specs.ScenarioRules.{IsScenario}
 use Rattle.text_model.specs.Several.{Journaled, IsLegalEach}
 use Rattle.text_model.specs.declared.faults.Why.TheVariants as why
 use Rattle.tcmu_top.specs.declared.status.Status.{Status}
 use Rattle.tcmu_top.specs.declared.status.Status.TheVariants as status
 use Rattle.tcmu_top.specs.Calls.{TookFront, outside}
-use Rattle.tcmu_top.specs.Playing.{AreOpened}
-use Rattle.tcmu_top.specs.Opened.{OpenEach, file_names, NoneFailed, AsTheyWere, KeptFiles, after_fetches, AreOpen, OpenFailed, KeepsEach}
-use Rattle.tcmu_top.specs.Top.{Replayed, ReplayedInPart, TextWritten, CutShort, StoppedByMemory, NotOpened, too_long, ScenarioEnds, Ends}
+use Rattle.tcmu_top.specs.Opened.{file_names, NoneFailed, AsTheyWere, KeptFiles, after_fetches, AreOpen, OpenFailed, KeepsEach}
+use Rattle.tcmu_top.specs.Top.{Replayed, ReplayedInPart, Outcome, Outcomes, TextWritten, CutShort, StoppedByMemory, NotOpened, too_long, ScenarioEnds, Ends}
 use Rattle.tcmu_top.proofs.Fetching.{place_free, fetches_fails, own_files}
 use Rattle.tcmu_top.proofs.Keeping.{fetched_out}
 use Rattle.tcmu_top.proofs.GivenBack.{tell_files}
-use Rattle.tcmu_top.proofs.Whole.{opened_count}
-
--- ==== devices as they open
-
-pub open_opened : (files : Option FilesState) (ls : List DeviceLineData) (ds : List Device) → OpenEach files ls ds → AreOpened ls ds
-open_opened files [] [] h = tt
-open_opened files [] (d ∷ ds) h = absurd h
-open_opened files (l ∷ ls) [] h = absurd h
-open_opened files (l ∷ ls) (d ∷ ds) h = (ap (λ (x : Device). x.name) h.0.2, ap (λ (x : Device). x.state) h.0.2, open_opened files ls ds h.1)
+use Rattle.tcmu_top.proofs.Opened.{open_as}
+use Rattle.text_laws.proofs.Replays.{opened_count}
 
 -- ==== the scenario
 
@@ -62,11 +54,11 @@ text_written s files mid files' ds ends old new rules h r k =
 pub cut_short : (s : ScenarioData) (files mid files' : Option FilesState) (ds ends : List Device) (old new : Option (List ℕ)) → IsScenario s → AreOpen files mid s.devices ds
     → length ends ≡ length ds → ReplayedInPart Serves s.devices ds s.lines ends old new → KeepsEach s.devices ends mid files' → CutShort files files' s old new
 cut_short s files mid files' ds ends old new rules h count r k =
-    let each : length ends ≡ length s.devices = count ∙ sym (opened_count s.devices ds (open_opened files s.devices ds h.opens)) in
-    record { opened = ds; opens = h.opens; ends = ends; count = each; replay = r; fetched = h.fetched.none; kept = kept_files files mid files' s.devices ds ends r.made rules.files h r.legal k }
+    let each : length ends ≡ length s.devices = count ∙ opened_count s.devices ds (open_as files s.devices ds h.opens) in
+    record { opened = ds; opens = h.opens; ends = ends; count = each; replay = r; fetched = h.fetched.none; kept = kept_files files mid files' s.devices ds ends r.part.made rules.files h r.part.legal k }
 
-pub wanting_early : (s : ScenarioData) (files files' : Option FilesState) (old : Option (List ℕ)) → AsTheyWere NoneFailed s.devices files files' → StoppedByMemory files files' s old old
-wanting_early s files files' old same = inl (record { nothing = refl; same = same })
+pub wanting_early : (OnTheWay : Outcome) (s : ScenarioData) (files files' : Option FilesState) (old : Option (List ℕ)) → AsTheyWere NoneFailed s.devices files files' → StoppedByMemory OnTheWay files files' s old old
+wanting_early OnTheWay s files files' old same = inl (record { nothing = refl; same = same })
 
 pub not_opened : (s : ScenarioData) (files files' : Option FilesState) (faults faults' : ℕ) (old : Option (List ℕ)) → OpenFailed s.devices files files' faults faults' → Rose faults faults' × NotOpened files files' s old old
 not_opened s files files' faults faults' old h = (h.rose, record { fails = h.fails; nothing = refl; same = h.same })
@@ -75,7 +67,7 @@ not_opened s files files' faults faults' old h = (h.rose, record { fails = h.fai
 
 -- more bytes than a scenario has are refused for that
 pub long_is : (bytes : List ℕ) → 4194304 < length bytes → scenario_of bytes ≡ Err too_long
-unfolding scenario_of
+unfolding scenario_within
 long_is bytes h = rw (lt-ltb 4194304 (length bytes) h) refl
 
 pub long_left : (left : Option (List ℕ)) → IfSome left (λ bytes. 4194304 < length bytes) → IfSome left (λ bytes. scenario_of bytes ≡ Err too_long)
@@ -92,9 +84,9 @@ bad_of status.BadWords = too_long
 bad_of status.OpenFault = too_long
 
 -- the source had more
-pub ends_too_long : (left left' : Option (List ℕ)) (read read' opened wrote : ℕ) (files : Option FilesState) (old : Option (List ℕ)) → IfSome left (λ bytes. 4194304 < length bytes)
-    → TookFront left left' → read' ≡ read → Ends (outside left read files opened old wrote) (outside left' read' files opened old wrote) (status.BadScenario 0 why.TooLong)
-ends_too_long left left' read read' opened wrote files old h took calm =
+pub ends_too_long : (run : Outcomes) (left left' : Option (List ℕ)) (reads reads' read read' opened wrote : ℕ) (files : Option FilesState) (old : Option (List ℕ)) → IfSome left (λ bytes. 4194304 < length bytes)
+    → TookFront left left' reads reads' → read' ≡ read → Ends run (outside left reads read files opened old wrote) (outside left' reads' read' files opened old wrote) (status.BadScenario 0 why.TooLong)
+ends_too_long run left left' reads reads' read read' opened wrote files old h took calm =
     record {
       ok = λ e. absurd (cc);
       read_fault = λ e. absurd (cc);
@@ -111,22 +103,22 @@ ends_too_long left left' read read' opened wrote files old h took calm =
 
 -- ==== the statuses of a scenario
 
-pub scenario_ok : (s : ScenarioData) (files files' : Option FilesState) (opened opened' : ℕ) (old new : Option (List ℕ)) (wrote wrote' : ℕ) → opened' ≡ opened → wrote' ≡ wrote → TextWritten files files' s old new
-    → ScenarioEnds s files files' opened opened' old new wrote wrote' status.Ok
-scenario_ok s files files' opened opened' old new wrote wrote' calm still h =
+pub scenario_ok : (run : Outcomes) (s : ScenarioData) (files files' : Option FilesState) (opened opened' : ℕ) (old new : Option (List ℕ)) (wrote wrote' : ℕ) → opened' ≡ opened → wrote' ≡ wrote → run.whole files files' s old new
+    → ScenarioEnds run s files files' opened opened' old new wrote wrote' status.Ok
+scenario_ok run s files files' opened opened' old new wrote wrote' calm still h =
     record { ok = λ e. h; write_fault = λ e. absurd (cc); no_memory = λ e. absurd (cc); open_fault = λ e. absurd (cc); reads = λ e. absurd (cc); scenario = λ line reason e. absurd (cc); words = λ e. absurd (cc); calm_files = λ ne. calm; calm_sink = λ ne. still }
 
-pub scenario_cut : (s : ScenarioData) (files files' : Option FilesState) (opened opened' : ℕ) (old new : Option (List ℕ)) (wrote wrote' : ℕ) → opened' ≡ opened → Rose wrote wrote' → CutShort files files' s old new
-    → ScenarioEnds s files files' opened opened' old new wrote wrote' status.WriteFault
-scenario_cut s files files' opened opened' old new wrote wrote' calm rose h =
+pub scenario_cut : (run : Outcomes) (s : ScenarioData) (files files' : Option FilesState) (opened opened' : ℕ) (old new : Option (List ℕ)) (wrote wrote' : ℕ) → opened' ≡ opened → Rose wrote wrote' → run.cut_short files files' s old new
+    → ScenarioEnds run s files files' opened opened' old new wrote wrote' status.WriteFault
+scenario_cut run s files files' opened opened' old new wrote wrote' calm rose h =
     record { ok = λ e. absurd (cc); write_fault = λ e. (rose, h); no_memory = λ e. absurd (cc); open_fault = λ e. absurd (cc); reads = λ e. absurd (cc); scenario = λ line reason e. absurd (cc); words = λ e. absurd (cc); calm_files = λ ne. calm; calm_sink = λ ne. absurd (ne refl) }
 
-pub scenario_wanting : (s : ScenarioData) (files files' : Option FilesState) (opened opened' : ℕ) (old new : Option (List ℕ)) (wrote wrote' : ℕ) → opened' ≡ opened → wrote' ≡ wrote → StoppedByMemory files files' s old new
-    → ScenarioEnds s files files' opened opened' old new wrote wrote' status.NoMemory
-scenario_wanting s files files' opened opened' old new wrote wrote' calm still h =
+pub scenario_wanting : (run : Outcomes) (s : ScenarioData) (files files' : Option FilesState) (opened opened' : ℕ) (old new : Option (List ℕ)) (wrote wrote' : ℕ) → opened' ≡ opened → wrote' ≡ wrote → StoppedByMemory run.stopped files files' s old new
+    → ScenarioEnds run s files files' opened opened' old new wrote wrote' status.NoMemory
+scenario_wanting run s files files' opened opened' old new wrote wrote' calm still h =
     record { ok = λ e. absurd (cc); write_fault = λ e. absurd (cc); no_memory = λ e. h; open_fault = λ e. absurd (cc); reads = λ e. absurd (cc); scenario = λ line reason e. absurd (cc); words = λ e. absurd (cc); calm_files = λ ne. calm; calm_sink = λ ne. still }
 
-pub scenario_not_opened : (s : ScenarioData) (files files' : Option FilesState) (opened opened' : ℕ) (old new : Option (List ℕ)) (wrote wrote' : ℕ) → wrote' ≡ wrote → Rose opened opened' × NotOpened files files' s old new
-    → ScenarioEnds s files files' opened opened' old new wrote wrote' status.OpenFault
-scenario_not_opened s files files' opened opened' old new wrote wrote' still h =
+pub scenario_not_opened : (run : Outcomes) (s : ScenarioData) (files files' : Option FilesState) (opened opened' : ℕ) (old new : Option (List ℕ)) (wrote wrote' : ℕ) → wrote' ≡ wrote → Rose opened opened' × NotOpened files files' s old new
+    → ScenarioEnds run s files files' opened opened' old new wrote wrote' status.OpenFault
+scenario_not_opened run s files files' opened opened' old new wrote wrote' still h =
     record { ok = λ e. absurd (cc); write_fault = λ e. absurd (cc); no_memory = λ e. absurd (cc); open_fault = λ e. h; reads = λ e. absurd (cc); scenario = λ line reason e. absurd (cc); words = λ e. absurd (cc); calm_files = λ ne. absurd (ne refl); calm_sink = λ ne. still }

@@ -38,10 +38,10 @@ wrote_on device R ls at n so es l p p' old new named found accepts w =
       accepts = accepts;
     }
 
-pub wrote_on_front : {P : Type 0} (device : P → Device) (R : HandlerRelation) (ls : List DeviceLineData) (at : ℕ) (so : Device → List EntryData → Device → Type 0) (es : List (List ℕ × P)) (l : DeviceLineData) (p p' : P) (old new : Option (List ℕ))
-    → slice_get ls at ≡ Some l → slice_get (devices es) at ≡ Some p → WroteFront R l (so (device p)) (device p) (device p') old new
-    → WroteOnFront R ls at so (states_of device es) (states_of device (with_device es at p')) old new
-wrote_on_front device R ls at so es l p p' old new named found w =
+pub wrote_on_front : {P : Type 0} (device : P → Device) (R : HandlerRelation) (ls : List DeviceLineData) (at : ℕ) (part so : Device → List EntryData → Device → Type 0) (es : List (List ℕ × P)) (l : DeviceLineData) (p p' : P) (old new : Option (List ℕ))
+    → slice_get ls at ≡ Some l → slice_get (devices es) at ≡ Some p → WroteFront R l (part (device p)) (so (device p)) (device p) (device p') old new
+    → WroteOnFront R ls at part so (states_of device es) (states_of device (with_device es at p')) old new
+wrote_on_front device R ls at part so es l p p' old new named found w =
     record {
       line = l;
       before = device p;

@@ -18,8 +18,14 @@ pub gave_more : (old mid new : Option (List ℕ)) (xs ys zs : List ℕ) → Gave
 gave_more old mid new xs ys zs e f z = e ∙ ap (option_map (λ l. xs ++ l)) f ∙ map_twice xs ys new ∙ ap (λ (l : List ℕ). option_map (λ r. l ++ r) new) (sym z)
 
 -- two pieces were taken, of a scenario's length and of one read
-pub took_two : (old mid new : Option (List ℕ)) (xs ys : List ℕ) → length xs ≤ 4194304 → length ys ≤ 4096 → Gave old xs mid → Gave mid ys new → TookFront old new
-took_two old mid new xs ys long few e f = record { piece = xs ++ ys; gave = gave_more old mid new xs ys (xs ++ ys) e f refl; most = omega (arith, long, few, length-append xs ys) }
+pub took_two : (old mid new : Option (List ℕ)) (xs ys : List ℕ) (before now : ℕ) → length xs ≤ 4194304 → length ys ≤ 4096 → Gave old xs mid → Gave mid ys new → now ≤ before + length xs + 1 → TookFront old new before now
+took_two old mid new xs ys before now long few e f reads =
+    record {
+      piece = xs ++ ys;
+      gave = gave_more old mid new xs ys (xs ++ ys) e f refl;
+      most = omega (arith, long, few, length-append xs ys);
+      few = omega (arith, long, reads, length-append xs ys);
+    }
 
 -- at the end, what was given is all
 pub gave_all : (old mid : Option (List ℕ)) (xs : List ℕ) → Gave old xs mid → Tells mid [] → Tells old xs

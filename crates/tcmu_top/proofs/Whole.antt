@@ -1,11 +1,11 @@
 -- The text of a whole replay of several devices, and fronts of one.
-use Rattle.std.proofs.Common.{◌≡◌, ℕ, zero, suc, ◌+◌, ◌<◌, ◌≤◌, true, false, List, [], ◌∷◌, ◌++◌, length, take, drop, slice_get, Option, Some, refl, sym, ap, ◌∙◌, arith, subst, append_assoc, inl, inr, add-one}
+use Rattle.std.proofs.Common.{◌≡◌, ℕ, zero, suc, ◌+◌, ◌<◌, true, false, List, [], ◌∷◌, ◌++◌, length, take, drop, slice_get, Option, Some, refl, sym, ap, ◌∙◌, arith, subst, append_assoc, inl, inr, add-one}
 use Rattle.std.specs.List.{flat_map, All}
 use Rattle.std.proofs.lemmas.List.{append-nil}
 use Rattle.std.proofs.lemmas.List.Concat.{flat_map-append}
 use Rattle.std.proofs.lemmas.List.Elements.{All-tail}
 use Rattle.edge.specs.Outside.{Gained, GainedFront}
-use Rattle.tcmu_model.specs.Device.{Device, DeviceState}
+use Rattle.tcmu_model.specs.Device.{Device}
 use Rattle.tcmu_model.specs.Steps.{HandlerRelation}
 use Rattle.tcmu_model.specs.Sound.{IsSound, open_count}
 use Rattle.tcmu_types.specs.Lists.{Every}
@@ -13,13 +13,14 @@ use Rattle.tcmu_model.specs.Work.{HasOutcomes}
 use Rattle.text_model.specs.ScenarioData.{DeviceLineData, LineData, LineWhat}
 use Rattle.text_model.specs.ScenarioData as line
 use Rattle.text_model.specs.Scenario.{is_dump}
-use Rattle.text_model.specs.ScenarioRules.{IsDeviceLine, IsLine, IsWhat}
+use Rattle.text_model.specs.ScenarioRules.{IsLine, IsWhat}
 use Rattle.text_model.specs.Several.{Journaled, ReplaysEach, IsLegalEach, journaled_text, ends_text, IsReplayOf}
 use Rattle.text_model.specs.Text.{device_text, end_text}
-use Rattle.tcmu_model.proofs.SoundEvents.{sound_opening}
-use Rattle.tcmu_top.specs.Playing.{AreOpened, WroteEach, WroteEachFront}
+use Rattle.tcmu_top.specs.Playing.{WroteEach, WroteEachFront}
 use Rattle.tcmu_path.specs.Tasks.{IsFit, IsFitFor}
-use Rattle.tcmu_top.specs.Top.{Replayed, ReplayedInPart}
+use Rattle.tcmu_top.specs.InPart.{ReplaysEachInPart}
+use Rattle.tcmu_top.specs.Top.{Replayed, MadeInPart, ReplayedInPart}
+use Rattle.tcmu_top.proofs.InPart.{none_replayed, all_replayed}
 use Rattle.tcmu_top.proofs.Endings.{ending_lines}
 use Rattle.tcmu_top.proofs.Legal.{legal_none}
 use Rattle.tcmu_top.proofs.Telling.{gained_more, gained_as, front_first, front_more, front_behind}
@@ -38,39 +39,33 @@ abbrev is_text : (R : HandlerRelation) (ls : List DeviceLineData) (ds ends : Lis
 is_text R ls ds ends lines js h k = record { journal = js; ends = ends; replays = h; legal = k; whole = refl }
 
 -- the device lines were written in part
-pub front_of_ready : (R : HandlerRelation) (ls : List DeviceLineData) (ds : List Device) (lines : List LineData) (old new : Option (List ℕ)) → HasOutcomes R → Every (λ d. IsSound d.state) ds
-    → Every (IsFitFor (length ds)) lines → GainedFront old (lines_text ls) new → ReplayedInPart R ls ds lines ds old new
-front_of_ready R ls ds lines old new outcomes sound fit f =
+abbrev pub made_of_ready : (R : HandlerRelation) (ls : List DeviceLineData) (ds : List Device) (lines : List LineData) (old new : Option (List ℕ)) → Every (IsFitFor (length ds)) lines → GainedFront old (lines_text ls) new
+    → MadeInPart R ls ds lines ds old new
+made_of_ready R ls ds lines old new fit f =
+    record { made = []; asked = none_replayed R ds lines fit; legal = legal_none R ds; told = inl (front_first old new (lines_text ls) [] _ refl f); stopped = inl refl }
+
+pub front_of_ready : (R : HandlerRelation) (ls : List DeviceLineData) (ds : List Device) (lines : List LineData) (old new : Option (List ℕ)) → Every (λ d. IsSound d.state) ds
+    → Every (IsFitFor (length ds)) lines → GainedFront old (lines_text ls) new → HasOutcomes R → ReplayedInPart R ls ds lines ds old new
+front_of_ready R ls ds lines old new sound fit f outcomes =
     let e = ending_lines R ds lines outcomes sound fit in
     record {
+      part = made_of_ready R ls ds lines old new fit f;
       text = lines_text ls ++ journal_of ls e.journal ++ ends_text ls e.ends;
       is = is_text R ls ds e.ends lines e.journal e.right e.legal;
-      made = [];
       rest = e.journal;
       order = refl;
-      legal = legal_none R ds;
-      told = inr (front_first old new (lines_text ls) [] _ refl f);
       gained = front_first old new (lines_text ls) (journal_of ls e.journal ++ ends_text ls e.ends) _ (append_assoc (lines_text ls) (journal_of ls e.journal) (ends_text ls e.ends)) f;
-      stopped = inl refl;
     }
 
 -- the journal was
-pub front_of_run : (R : HandlerRelation) (ls : List DeviceLineData) (ds ds' : List Device) (lines : List LineData) (old mid new : Option (List ℕ)) → Gained old (lines_text ls) mid
-    → WroteEachFront R ls (ReplaysEach R ds lines) ds ds' mid new → ReplayedInPart R ls ds lines ds' old new
-front_of_run R ls ds ds' lines old mid new g w =
-    let made = journal_of ls w.made in
-    let rest = journal_of ls w.rest in
-    let last = ends_text ls w.ends in
+abbrev pub made_of_run : (R : HandlerRelation) (ls : List DeviceLineData) (ds ds' : List Device) (lines : List LineData) (old mid new : Option (List ℕ)) → Gained old (lines_text ls) mid
+    → WroteEachFront R ls (ReplaysEachInPart R ds lines) (ReplaysEach R ds lines) ds ds' mid new → MadeInPart R ls ds lines ds' old new
+made_of_run R ls ds ds' lines old mid new g w =
     record {
-      text = lines_text ls ++ journal_of ls (w.made ++ w.rest) ++ last;
-      is = is_text R ls ds w.ends lines (w.made ++ w.rest) w.right w.whole;
       made = w.made;
-      rest = w.rest;
-      order = refl;
+      asked = w.asked;
       legal = w.legal;
-      told = inr (front_behind old mid new (lines_text ls) made _ refl g w.wrote);
-      gained = front_more old mid new (lines_text ls) made (rest ++ last) _
-          (ap (λ (x : List ℕ). lines_text ls ++ x ++ last) (flat_map-append (journaled_text ls) w.made w.rest) ∙ regroup (lines_text ls) made rest last) g w.wrote;
+      told = inl (front_behind old mid new (lines_text ls) (journal_of ls w.made) _ refl g w.wrote);
       stopped = inr (record {
         written = w.stopped.written;
         last = w.stopped.last;
@@ -80,23 +75,36 @@ front_of_run R ls ds ds' lines old mid new g w =
         gained = gained_as old new _ _ (sym (append_assoc (lines_text ls) (journal_of ls w.stopped.written) w.stopped.piece)) (gained_more old mid new _ _ g w.stopped.gained);
       });
     }
+
+pub front_of_run : (R : HandlerRelation) (ls : List DeviceLineData) (ds ds' : List Device) (lines : List LineData) (old mid new : Option (List ℕ)) → Gained old (lines_text ls) mid
+    → WroteEachFront R ls (ReplaysEachInPart R ds lines) (ReplaysEach R ds lines) ds ds' mid new → HasOutcomes R → ReplayedInPart R ls ds lines ds' old new
+front_of_run R ls ds ds' lines old mid new g w outcomes =
+    let x = w.ends outcomes in
+    let made = journal_of ls w.made in
+    let rest = journal_of ls x.rest in
+    let last = ends_text ls x.ends in
+    record {
+      part = made_of_run R ls ds ds' lines old mid new g w;
+      text = lines_text ls ++ journal_of ls (w.made ++ x.rest) ++ last;
+      is = is_text R ls ds x.ends lines (w.made ++ x.rest) x.right x.legal;
+      rest = x.rest;
+      order = refl;
+      gained = front_more old mid new (lines_text ls) made (rest ++ last) _
+          (ap (λ (y : List ℕ). lines_text ls ++ y ++ last) (flat_map-append (journaled_text ls) w.made x.rest) ∙ regroup (lines_text ls) made rest last) g w.wrote;
+    }
   where
     regroup : (a b c e : List ℕ) → a ++ (b ++ c) ++ e ≡ a ++ (b ++ (c ++ e))
     regroup a b c e = append_assoc a (b ++ c) e ∙ ap (λ (x : List ℕ). a ++ x) (append_assoc b c e)
 
 -- the end lines were
-pub front_of_last : (R : HandlerRelation) (ls : List DeviceLineData) (ds ds' : List Device) (lines : List LineData) (old m1 m2 new : Option (List ℕ)) → Gained old (lines_text ls) m1
-    → WroteEach R ls (ReplaysEach R ds lines) ds ds' m1 m2 → GainedFront m2 (ends_text ls ds') new → ReplayedInPart R ls ds lines ds' old new
-front_of_last R ls ds ds' lines old m1 m2 new g w f =
+abbrev pub made_of_last : (R : HandlerRelation) (ls : List DeviceLineData) (ds ds' : List Device) (lines : List LineData) (old m1 m2 new : Option (List ℕ)) → Gained old (lines_text ls) m1
+    → WroteEach R ls (ReplaysEach R ds lines) ds ds' m1 m2 → GainedFront m2 (ends_text ls ds') new → MadeInPart R ls ds lines ds' old new
+made_of_last R ls ds ds' lines old m1 m2 new g w f =
     record {
-      text = lines_text ls ++ journal_of ls w.journal ++ ends_text ls ds';
-      is = is_text R ls ds ds' lines w.journal w.right w.legal;
       made = w.journal;
-      rest = [];
-      order = sym (append-nil w.journal);
+      asked = all_replayed R ds lines (entries_of w.journal) ds' w.right;
       legal = w.legal;
-      told = inl refl;
-      gained = front_behind old m2 new (lines_text ls ++ journal_of ls w.journal) (ends_text ls ds') _ refl (gained_more old m1 m2 _ _ g w.wrote) f;
+      told = inr (w.right, front_behind old m2 new (lines_text ls ++ journal_of ls w.journal) (ends_text ls ds') _ refl (gained_more old m1 m2 _ _ g w.wrote) f);
       stopped = inr (record {
         written = w.journal;
         last = [];
@@ -105,6 +113,18 @@ front_of_last R ls ds ds' lines old m1 m2 new g w f =
         piece = f.0;
         gained = gained_more old m2 new _ _ (gained_more old m1 m2 _ _ g w.wrote) f.3;
       });
+    }
+
+pub front_of_last : (R : HandlerRelation) (ls : List DeviceLineData) (ds ds' : List Device) (lines : List LineData) (old m1 m2 new : Option (List ℕ)) → Gained old (lines_text ls) m1
+    → WroteEach R ls (ReplaysEach R ds lines) ds ds' m1 m2 → GainedFront m2 (ends_text ls ds') new → ReplayedInPart R ls ds lines ds' old new
+front_of_last R ls ds ds' lines old m1 m2 new g w f =
+    record {
+      part = made_of_last R ls ds ds' lines old m1 m2 new g w f;
+      text = lines_text ls ++ journal_of ls w.journal ++ ends_text ls ds';
+      is = is_text R ls ds ds' lines w.journal w.right w.legal;
+      rest = [];
+      order = sym (append-nil w.journal);
+      gained = front_behind old m2 new (lines_text ls ++ journal_of ls w.journal) (ends_text ls ds') _ refl (gained_more old m1 m2 _ _ g w.wrote) f;
     }
 
 pub whole : (R : HandlerRelation) (ls : List DeviceLineData) (ds ds' : List Device) (lines : List LineData) (old m1 m2 new : Option (List ℕ)) → Gained old (lines_text ls) m1
@@ -143,27 +163,6 @@ ends_at (k ∷ ls) (e ∷ ds) zero l d g h =
 ends_at (k ∷ ls) (e ∷ ds) (suc at) l d g h =
     ap (λ (x : List ℕ). last_text k e ++ x) (ends_at ls ds at l d g h)
     ∙ sym (append_assoc (last_text k e) (ends_text (take at ls) (take at ds)) (last_text l d ++ ends_text (drop (suc at) ls) (drop (suc at) ds)))
-
--- ==== devices as they open
-
-pub opened_count : (ls : List DeviceLineData) (ds : List Device) → AreOpened ls ds → length ls ≡ length ds
-opened_count [] [] h = refl
-opened_count [] (d ∷ ds) h = absurd h
-opened_count (l ∷ ls) [] h = absurd h
-opened_count (l ∷ ls) (d ∷ ds) h = ap suc (opened_count ls ds h.2)
-
-pub opened_sound : (ls : List DeviceLineData) (ds : List Device) → All IsDeviceLine ls → AreOpened ls ds → Every (λ d. IsSound d.state) ds
-opened_sound [] [] k h = tt
-opened_sound [] (d ∷ ds) k h = absurd h
-opened_sound (l ∷ ls) [] k h = absurd h
-opened_sound (l ∷ ls) (d ∷ ds) k h =
-    (subst IsSound (sym h.1) (sound_opening l.settings (k 0 l (omega arith)).settings), opened_sound ls ds (All-tail IsDeviceLine l ls k) h.2)
-
-pub opened_none : (n : ℕ) (ls : List DeviceLineData) (ds : List Device) → AreOpened ls ds → Every (λ d. d.state.accepted ≤ n) ds
-opened_none n [] [] h = tt
-opened_none n [] (d ∷ ds) h = absurd h
-opened_none n (l ∷ ls) [] h = absurd h
-opened_none n (l ∷ ls) (d ∷ ds) h = (let none : d.state.accepted ≡ 0 = ap (λ (x : DeviceState). x.accepted) h.1 in omega (arith, none), opened_none n ls ds h.2)
 
 -- ==== lines
 

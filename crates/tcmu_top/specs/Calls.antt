@@ -1,5 +1,5 @@
 -- What a run does to the outside: what it sees of it, what it takes of a source, and that it passes no fault over.
-use Rattle.std.specs.Prelude.{◌≡◌, ◌≢◌, ℕ, ◌+◌, ◌≤◌, List, length, Option, Result, OnOk, IsErrOf}
+use Rattle.std.specs.Prelude.{◌≡◌, ◌≢◌, ℕ, ◌+◌, ◌≤◌, min, List, length, Option, Result, OnOk, IsErrOf}
 use Rattle.tcmu_types.specs.Numbered.{Rose}
 use Rattle.edge.specs.Outside.{Gave}
 use Rattle.edge.specs.Stores.{FilesState}
@@ -7,18 +7,21 @@ use Rattle.tcmu_top.specs.declared.status.Status.{Status}
 use Rattle.tcmu_top.specs.declared.writing.Stop.{Stop}
 use Rattle.tcmu_top.specs.declared.writing.Stop.TheVariants as stop
 
--- The outside at one moment, as far as it tells: what the source has left, the files, what the sink has, and each one's count of faults.
+-- The outside at one moment, as far as it tells: what the source has left and how many reads were made of it, the files, what the sink has,
+-- and each one's count of faults.
 pub record Outside : Type 0 where
   pub left : Option (List ℕ)
+  pub reads : ℕ
   pub source_faults : ℕ
   pub files : Option FilesState
   pub files_faults : ℕ
   pub written : Option (List ℕ)
   pub sink_faults : ℕ
 
-abbrev pub outside : Option (List ℕ) → ℕ → Option FilesState → ℕ → Option (List ℕ) → ℕ → Outside
-outside left source_faults files files_faults written sink_faults = record {
+abbrev pub outside : Option (List ℕ) → ℕ → ℕ → Option FilesState → ℕ → Option (List ℕ) → ℕ → Outside
+outside left reads source_faults files files_faults written sink_faults = record {
   left = left;
+  reads = reads;
   source_faults = source_faults;
   files = files;
   files_faults = files_faults;
@@ -26,11 +29,14 @@ outside left source_faults files files_faults written sink_faults = record {
   sink_faults = sink_faults;
 }
 
--- A front of what the source had left was taken, and nothing else: at most 4,194,304 bytes and one piece of 4,096 more.
-pub record TookFront (left left' : Option (List ℕ)) : Type 0 where
+-- A front of what the source had left was taken, and nothing else: at most 4,194,304 bytes and one piece of 4,096 more. Each read but the
+-- last gave a byte at least, of the first 4,194,304. So it is over every source, also one that gives a byte a read: no read is made behind
+-- one that found the end, nor behind one that made the text too long.
+pub record TookFront (left left' : Option (List ℕ)) (reads reads' : ℕ) : Type 0 where
   pub piece : List ℕ
   pub gave : Gave left piece left'
   pub most : length piece ≤ 4194304 + 4096
+  pub few : reads' ≤ reads + min (length piece) 4194304 + 1
 
 -- where a run ended otherwise than by this fault, the count of such faults is as it was
 abbrev pub Calm : Status → Status → ℕ → ℕ → Type 0

@@ -1,10 +1,14 @@
 -- Laws of what a replay and a load write: the texts over media in memory and over files, the completions of a journal, and the line of a load.
-use Rattle.std.specs.Prelude.{◌≡◌, ℕ, ◌+◌, ◌<◌, Bool, true, false, List, [], length, map, Option, Some, Ok, slice_get}
+use Rattle.std.specs.Prelude.{◌≡◌, ℕ, ◌+◌, ◌<◌, Bool, true, false, List, [], ◌∷◌, ◌++◌, length, map, Option, Some, Ok, slice_get}
 use Rattle.std.specs.List.{filter, flat_map, count_by}
-use Rattle.tcmu_types.specs.Data.{CommandData, DoneData}
+use Rattle.tcmu_types.specs.Data.{CommandData, ReplyData, DoneData}
 use Rattle.tcmu_types.specs.Events.{AnswerData}
 use Rattle.tcmu_types.specs.Events as ev
 use Rattle.tcmu_types.specs.declared.answer.Submit.TheVariants as submit
+use Rattle.tcmu_types.specs.declared.answer.Handle.TheVariants as handle
+use Rattle.tcmu_model.specs.MediumState.{MediumState}
+use Rattle.tcmu_model.specs.Steps.{HandlerRelation}
+use Rattle.scsi_model.specs.Scsi.{Serves}
 use Rattle.edge.specs.Stores.{Content, at_home, FilesState}
 use Rattle.load_run.specs.Loading.{IsLoadText}
 use Rattle.tcmu_model.specs.Device.{Device}
@@ -13,7 +17,7 @@ use Rattle.text_model.specs.ScenarioData.{DeviceLineData, ScenarioData}
 use Rattle.text_model.specs.Scenario.{scenario_of}
 use Rattle.tcmu_model.specs.Sound.{open_count, times_logged, times_open}
 use Rattle.text_model.specs.Several.{Journaled, is_of}
-use Rattle.tcmu_model.specs.Journals.{WasAccepted, IsExplained}
+use Rattle.tcmu_model.specs.Journals.{WasAccepted, IsExplained, IsExplainedAt, WasAsked}
 use Rattle.tcmu_types.specs.Numbers.{Differ}
 use Rattle.tcmu_types.specs.Lists.{Every}
 use Rattle.text_laws.specs.InMemory as memory
@@ -60,6 +64,16 @@ LeavesTheSameFiles =
     → KeptFiles s.devices is.replay.ends (Some f) (Some g) → KeptFiles s.devices it.replay.ends (Some f) (Some h)
     → SameFiles g h × (h.fetches ≡ g.fetches)
 
+-- ==== texts over any media
+
+-- Texts of scenarios' replays that are the same, whatever the files, are of the same devices, and of the same journal: the same entries, with
+-- the same answers and the same completions.
+abbrev pub HasOneJournal : Type 0
+HasOneJournal =
+    (files others : Option FilesState) (bytes more text : List ℕ) (s t : ScenarioData)
+    → scenario_of bytes ≡ Ok s → scenario_of more ≡ Ok t → (is : IsTextOf files s text) → (it : IsTextOf others t text)
+    → (s.devices ≡ t.devices) × (is.replay.journal ≡ it.replay.journal)
+
 -- ==== completions
 
 -- the completions that these entries logged
@@ -72,14 +86,23 @@ accepts (ev.Submitted (submit.Queued serial)) = true
 accepts (ev.Submitted (submit.Delayed serial)) = true
 accepts answer = false
 
+-- the handler of this serial's command was asked for just what its initiator sent, at the device's name and medium, and gave this reply
+abbrev pub WasServed : HandlerRelation → DeviceLineData → List Journaled → ℕ → ReplyData → Type 0
+WasServed R l before serial reply = (medium after : MediumState) × WasAsked R (entries_of before) l.name medium serial reply after
+
 -- What the completions of a device owe to its journal: this is its line, these are its entries, and it ends so.
-pub record CompletesOnce (l : DeviceLineData) (js : List Journaled) (d : Device) : Type 0 where
+pub record CompletesOnce (R : HandlerRelation) (l : DeviceLineData) (js : List Journaled) (d : Device) : Type 0 where
   -- they are all that the device logged
   pub logged : d.state.log ≡ completions_of js
   -- no serial is completed twice
   pub differ : Differ (map (λ e. e.serial) (completions_of js))
   -- each completion is of a command that was accepted, and carries its own handler's reply or a fixed status
-  pub explained : Every (IsExplained (entries_of js) l.settings.flags.read_len) (completions_of js)
+  pub explained : Every (IsExplained (entries_of js) l.settings) (completions_of js)
+  -- the entry that logs a completion is its cause: a clean or a reset that finds the reply, the tick to its moment, or a reset that ends it
+  pub caused : (before rest : List Journaled) (j : Journaled) → js ≡ before ++ j ∷ rest → Every (IsExplainedAt l.settings (entries_of before) j.entry) j.completions
+  -- a handler gets its initiator's bytes
+  pub served : (before rest : List Journaled) (j : Journaled) (serial : ℕ) (reply : ReplyData) → js ≡ before ++ j ∷ rest
+      → j.entry.event ≡ ev.Handle serial → j.entry.answer ≡ ev.Answered (handle.Done reply) → WasServed R l before serial reply
   -- each command that was accepted is completed once, or is open
   pub once : (serial : ℕ) (c : CommandData) → WasAccepted (entries_of js) serial c → times_logged (completions_of js) serial + times_open d.state serial ≡ 1
   -- and it is completed where none is open
@@ -94,7 +117,7 @@ abbrev pub CommandsComplete : Type 0
 CommandsComplete =
     (files : Option FilesState) (bytes text : List ℕ) (s : ScenarioData) → scenario_of bytes ≡ Ok s → (is : IsTextOf files s text)
     → (at : ℕ) (l : DeviceLineData) (d : Device) → slice_get s.devices at ≡ Some l → slice_get is.replay.ends at ≡ Some d
-    → CompletesOnce l (filter (is_of at) is.replay.journal) d
+    → CompletesOnce Serves l (filter (is_of at) is.replay.journal) d
 
 -- the devices of a replay: one for each device line as they open and as they end, and each entry is of one of them
 pub record HasItsDevices (files : Option FilesState) (s : ScenarioData) (text : List ℕ) (is : IsTextOf files s text) : Type 0 where

@@ -1,4 +1,5 @@
 pub mod Playing
+pub mod InPart
 pub mod Opened
 pub mod Words
 pub mod Calls

@@ -1,5 +1,5 @@
 -- The devices of a scenario as they open over files, and the files as the devices leave them.
-use Rattle.std.specs.Prelude.{◌≡◌, ◌≢◌, ℕ, ◌/◌, ◌%◌, ◌^◌, ◌≤◌, Bool, true, false, ◌||◌, List, [], ◌∷◌, ◌++◌, ◌*◌, length, Option, Some, IfSome, is_some, slice_get, bytes_eq}
+use Rattle.std.specs.Prelude.{◌≡◌, ◌≢◌, ℕ, ◌/◌, ◌%◌, ◌^◌, ◌≤◌, Bool, true, false, ◌||◌, List, [], ◌∷◌, ◌++◌, length, Option, Some, IfSome, is_some, slice_get, bytes_eq}
 use Rattle.std.specs.List.{list_any}
 use Rattle.std.specs.Option.{option_map}
 use Rattle.tcmu_types.specs.Numbered.{Rose, next_call}
@@ -7,8 +7,9 @@ use Rattle.edge.specs.Stores.{StoreState, Content, store_of, Place, out, at_home
 use Rattle.media.specs.Opening as medium
 use Rattle.media.specs.declared.make.MakeFault.{MakeFault}
 use Rattle.media.specs.declared.make.MakeFault.TheVariants as fault
-use Rattle.tcmu_model.specs.MediumState.{MediumState, file}
-use Rattle.scsi_model.specs.Medium.{blanked, opened_medium, memory_below, file_below}
+use Rattle.tcmu_model.specs.MediumState.{MediumState}
+use Rattle.scsi_model.specs.Base.{cleared}
+use Rattle.scsi_model.specs.Medium.{has_store, opened_medium, memory_below, file_below}
 use Rattle.tcmu_model.specs.Device.{Device, opening}
 use Rattle.text_model.specs.Config.{ConfigData, MediumData, InMemory, InFile}
 use Rattle.text_model.specs.ScenarioData.{DeviceLineData}
@@ -26,7 +27,7 @@ pub record OpensFile (name : List ℕ) (files : Option FilesState) (c : ConfigDa
   pub some : 512 ≤ store.size
   pub most : store.size ≤ 2 ^ 44
   pub told : IfSome files (λ f. (content : Content) × (f.places name ≡ at_home content) × (store ≡ store_of content))
-  pub medium : m ≡ opened_medium (store.size / 512) c.protected c.fails (file_below store.bytes store.calls)
+  pub medium : m ≡ opened_medium (store.size / 512) c.protected c.fails (file_below store.size store.bytes store.calls)
 
 -- by what bears the medium: memory, or a file
 abbrev pub OpensKind : MediumData → Option FilesState → ConfigData → MediumState → Type 0
@@ -75,11 +76,12 @@ is_named ls name = list_any (bytes_eq name) (file_names ls)
 abbrev pub EachFile : List DeviceLineData → (ℕ → List ℕ → Type 0) → Type 0
 EachFile ls P = (at : ℕ) (l : DeviceLineData) (name : List ℕ) → slice_get ls at ≡ Some l → l.config.kind ≡ InFile name → P at name
 
--- A file holds what a medium left in it: as many bytes as before, the medium's but for the lost range, and the calls that its store has made.
+-- A file holds what a medium left in its store: as many bytes, which are the store's but for the free blocks, and the calls that were
+-- made.
 pub record IsLeftOf (m : MediumState) (content : Content) : Type 0 where
-  pub size : length content.bytes ≡ 512 * m.blocks
-  pub bytes : m.below.bytes ≡ Some (blanked m.below.lost content.bytes)
-  pub calls : content.calls ≡ m.below.store
+  pub size : length content.bytes ≡ m.below.store.size
+  pub bytes : m.below.store.bytes ≡ Some (cleared m.below.store.free content.bytes)
+  pub calls : content.calls ≡ m.below.store.calls
 
 -- a file stands there that holds what a medium left in it
 abbrev pub Holds : MediumState → Place → Type 0
@@ -161,19 +163,19 @@ abbrev pub Unopened : MakeFault → List DeviceLineData → Option FilesState �
 Unopened fault.Open ls files files' faults faults' = OpenFailed ls files files' faults faults'
 Unopened fault.NoMemory ls files files' faults faults' = AsTheyWere NoneFailed ls files files'
 
--- What is given back of a device: nothing of one in memory. The file of another, where it tells its bytes, is what the medium left.
+-- What is given back of a device: nothing of one in memory. The file of another, where its store tells its bytes, is what the medium left.
 abbrev pub Returns : MediumData → MediumState → Option FilesState → Option FilesState → Type 0
 Returns (InMemory blocks) m old new = new ≡ old
 Returns (InFile name) m old new =
-    m.below.layer ≡ file → is_some m.below.bytes ≡ true → (c : Content) × IsLeftOf m c × (new ≡ option_map (after_keep name c) old)
+    has_store m.below.layer ≡ true → is_some m.below.store.bytes ≡ true → (c : Content) × IsLeftOf m c × (new ≡ option_map (after_keep name c) old)
 
 -- no two device lines name one file
 abbrev pub OwnFiles : List DeviceLineData → Type 0
 OwnFiles ls = EachFile ls (λ i a. EachFile ls (λ j b. i ≢ j → bytes_eq a b ≡ false))
 
--- each device over a file tells its bytes
+-- the store of each device over a file tells its bytes
 abbrev pub TellFiles : List DeviceLineData → List Device → Type 0
-TellFiles ls ends = EachFile ls (λ at name. (d : Device) → slice_get ends at ≡ Some d → (d.medium.below.layer ≡ file) × (is_some d.medium.below.bytes ≡ true))
+TellFiles ls ends = EachFile ls (λ at name. (d : Device) → slice_get ends at ≡ Some d → (has_store d.medium.below.layer ≡ true) × (is_some d.medium.below.store.bytes ≡ true))
 
 -- the file of each device line is out
 abbrev pub AreOut : List DeviceLineData → FilesState → Type 0

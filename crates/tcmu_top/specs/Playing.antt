@@ -4,10 +4,11 @@ use Rattle.std.specs.List.{flat_map}
 use Rattle.tcmu_types.specs.Data.{DoneData}
 use Rattle.tcmu_types.specs.Events.{EventData, AnswerData, EntryData}
 use Rattle.edge.specs.Outside.{Gained, GainedFront}
-use Rattle.tcmu_model.specs.Device.{Device, opening_state}
+use Rattle.tcmu_model.specs.Device.{Device}
 use Rattle.tcmu_model.specs.Sound.{IsSound}
 use Rattle.tcmu_types.specs.Lists.{Every}
 use Rattle.tcmu_model.specs.Steps.{HandlerRelation, Step, Run}
+use Rattle.tcmu_model.specs.Work.{HasOutcomes}
 use Rattle.text_model.specs.ScenarioData.{DeviceLineData}
 use Rattle.text_model.specs.Text.{entries_text, event_line, completion_text}
 use Rattle.text_model.specs.Several.{Journaled, IsLegalEach, journaled_text}
@@ -70,16 +71,21 @@ pub record RunAllButLast (R : HandlerRelation) (l : DeviceLineData) (made : List
   pub first : Run R d parts.written before
   pub second : Run R before parts.last d'
 
--- Entries were made, of which a front is written. Others can follow them, so that all are as they are to be, and end in a device.
-pub record WroteFront (R : HandlerRelation) (l : DeviceLineData) (so : List EntryData → Device → Type 0) (d d' : Device) (old new : Option (List ℕ)) : Type 0 where
-  pub made : List EntryData
+-- others can follow these entries, so that all are as they are to be, and end in a device
+pub record CanEnd (R : HandlerRelation) (so : List EntryData → Device → Type 0) (made : List EntryData) (d' : Device) : Type 0 where
   pub rest : List EntryData
   pub end : Device
   pub right : so (made ++ rest) end
-  pub run : Run R d made d'
   pub more : Run R d' rest end
+
+-- A part of what is asked for was made, of which a front is written. Where the handler can answer each request, the rest can follow.
+pub record WroteFront (R : HandlerRelation) (l : DeviceLineData) (part so : List EntryData → Device → Type 0) (d d' : Device) (old new : Option (List ℕ)) : Type 0 where
+  pub made : List EntryData
+  pub asked : part made d'
+  pub run : Run R d made d'
   pub wrote : GainedFront old (run_text l d made d') new
   pub stopped : RunAllButLast R l made d d' old new
+  pub ends : HasOutcomes R → CanEnd R so made d'
 
 -- ==== one of several devices
 
@@ -108,22 +114,16 @@ pub record WroteOn (R : HandlerRelation) (ls : List DeviceLineData) (at accepted
   pub accepts : Accepts accepted before after
 
 -- the same, where they were made and written in part
-pub record WroteOnFront (R : HandlerRelation) (ls : List DeviceLineData) (at : ℕ) (so : Device → List EntryData → Device → Type 0) (ds ds' : List Device) (old new : Option (List ℕ)) : Type 0 where
+pub record WroteOnFront (R : HandlerRelation) (ls : List DeviceLineData) (at : ℕ) (part so : Device → List EntryData → Device → Type 0) (ds ds' : List Device) (old new : Option (List ℕ)) : Type 0 where
   pub line : DeviceLineData
   pub before : Device
   pub after : Device
   pub named : slice_get ls at ≡ Some line
   pub found : slice_get ds at ≡ Some before
   pub others : ds' ≡ slice_set ds at after
-  pub wrote : WroteFront R line (so before) before after old new
+  pub wrote : WroteFront R line (part before) (so before) before after old new
 
 -- ==== all devices
-
--- each device is as its device line has it opened
-abbrev pub AreOpened : List DeviceLineData → List Device → Type 0
-AreOpened [] [] = Unit {0}
-AreOpened (l ∷ ls) (d ∷ ds) = (d.name ≡ l.name) × (d.state ≡ opening_state l.settings) × AreOpened ls ds
-AreOpened _ _ = ⊥
 
 -- a journal that is so was made of these devices and written, each entry under the name of its device
 pub record WroteEach (R : HandlerRelation) (ls : List DeviceLineData) (so : List EntryData → List Device → Type 0) (ds ds' : List Device) (old new : Option (List ℕ)) : Type 0 where
@@ -132,13 +132,19 @@ pub record WroteEach (R : HandlerRelation) (ls : List DeviceLineData) (so : List
   pub legal : IsLegalEach R ds journal ds'
   pub wrote : Gained old (flat_map (journaled_text ls) journal) new
 
--- A journal was made, of which a front is written. More can follow it, so that all is as it is to be.
-pub record WroteEachFront (R : HandlerRelation) (ls : List DeviceLineData) (so : List EntryData → List Device → Type 0) (ds ds' : List Device) (old new : Option (List ℕ)) : Type 0 where
-  pub made : List Journaled
+-- more can follow a journal, so that all is as it is to be
+pub record CanEndEach (R : HandlerRelation) (so : List EntryData → List Device → Type 0) (ds : List Device) (made : List Journaled) : Type 0 where
   pub rest : List Journaled
   pub ends : List Device
   pub right : so (map (λ j. j.entry) (made ++ rest)) ends
+  pub legal : IsLegalEach R ds (made ++ rest) ends
+
+-- The journal of a part of what is asked for was made, of which a front is written. Where the handler can answer each request, the rest can
+-- follow.
+pub record WroteEachFront (R : HandlerRelation) (ls : List DeviceLineData) (part so : List EntryData → List Device → Type 0) (ds ds' : List Device) (old new : Option (List ℕ)) : Type 0 where
+  pub made : List Journaled
+  pub asked : part (map (λ j. j.entry) made) ds'
   pub legal : IsLegalEach R ds made ds'
-  pub whole : IsLegalEach R ds (made ++ rest) ends
   pub wrote : GainedFront old (flat_map (journaled_text ls) made) new
   pub stopped : AllButLast made (flat_map (journaled_text ls)) old new
+  pub ends : HasOutcomes R → CanEndEach R so ds made

@@ -1,5 +1,5 @@
 -- What the top call says of what it read and wrote.
-use Rattle.std.specs.Prelude.{◌≡◌, ◌≢◌, ◌⊎◌, ℕ, true, false, List, [], ◌∷◌, ◌++◌, Option, Some, None, IfSome, Ok, Err, length, codes}
+use Rattle.std.specs.Prelude.{◌≡◌, ◌≢◌, ◌⊎◌, ℕ, true, false, List, [], ◌∷◌, ◌++◌, map, Option, Some, None, IfSome, Ok, Err, length, codes}
 use Rattle.std.specs.List.{flat_map}
 use Rattle.std.specs.Fmt.{decimal}
 use Rattle.tcmu_types.specs.Numbered.{Rose}
@@ -12,13 +12,14 @@ use Rattle.text_model.specs.ScenarioData.{DeviceLineData, LineData, ScenarioData
 use Rattle.text_model.specs.Scenario.{Bad, scenario_of}
 use Rattle.text_model.specs.Text.{device_text}
 use Rattle.text_model.specs.Words.{why_word}
-use Rattle.text_model.specs.Several.{Journaled, IsLegalEach, journaled_text, IsReplayOf}
+use Rattle.text_model.specs.Several.{Journaled, ReplaysEach, IsLegalEach, journaled_text, ends_text, IsReplayOf}
 use Rattle.text_model.specs.declared.faults.Why.{Why}
 use Rattle.text_model.specs.declared.faults.Why.TheVariants as why
 use Rattle.tcmu_top.specs.Opened.{OpenEach, file_names, a_fetch_fails, KeptFiles, NoneFailed, NextFailed, AsTheyWere}
 use Rattle.tcmu_top.specs.Loads.{LoadEnds}
 use Rattle.tcmu_top.specs.Calls.{Outside, TookFront, Calm}
 use Rattle.tcmu_top.specs.Playing.{AllButLast}
+use Rattle.tcmu_top.specs.InPart.{ReplaysEachInPart}
 use Rattle.tcmu_top.specs.declared.words.Task.{Task}
 use Rattle.tcmu_top.specs.declared.words.Task.TheVariants as task
 use Rattle.tcmu_top.specs.declared.status.Status.{Status}
@@ -33,21 +34,37 @@ pub record Replayed (R : HandlerRelation) (ls : List DeviceLineData) (opened : L
   pub ends : is.ends ≡ ds'
   pub gained : Gained old text new
 
--- A front of such a text was written. Each device is the end of the run of its own entries that were made, and what was written is a
+-- A part of what the lines ask for was made, and each device is the end of the run of its own entries that were made. What was written is a
 -- front of the device lines and the lines of these entries; the end lines come once all is made. Of what was made all is written whole but
 -- the last entry: a sink that fails stops the replay at once.
-pub record ReplayedInPart (R : HandlerRelation) (ls : List DeviceLineData) (opened : List Device) (lines : List LineData) (ds' : List Device) (old new : Option (List ℕ)) : Type 0 where
-  pub text : List ℕ
-  pub is : IsReplayOf R ls opened lines text
+pub record MadeInPart (R : HandlerRelation) (ls : List DeviceLineData) (opened : List Device) (lines : List LineData) (ds' : List Device) (old new : Option (List ℕ)) : Type 0 where
   pub made : List Journaled
-  pub rest : List Journaled
-  pub order : is.journal ≡ made ++ rest
+  pub asked : ReplaysEachInPart R opened lines (map (λ j. j.entry) made) ds'
   pub legal : IsLegalEach R opened made ds'
-  pub told : (rest ≡ []) ⊎ GainedFront old (flat_map device_text ls ++ flat_map (journaled_text ls) made) new
-  pub gained : GainedFront old text new
+  pub told : GainedFront old (flat_map device_text ls ++ flat_map (journaled_text ls) made) new
+      ⊎ (ReplaysEach R opened lines (map (λ j. j.entry) made) ds' × GainedFront old (flat_map device_text ls ++ flat_map (journaled_text ls) made ++ ends_text ls ds') new)
   pub stopped : (made ≡ []) ⊎ AllButLast made (λ js. flat_map device_text ls ++ flat_map (journaled_text ls) js) old new
 
+-- And what was written is a front of a whole text, whose journal goes on behind what was made.
+pub record ReplayedInPart (R : HandlerRelation) (ls : List DeviceLineData) (opened : List Device) (lines : List LineData) (ds' : List Device) (old new : Option (List ℕ)) : Type 0 where
+  pub part : MadeInPart R ls opened lines ds' old new
+  pub text : List ℕ
+  pub is : IsReplayOf R ls opened lines text
+  pub rest : List Journaled
+  pub order : is.journal ≡ part.made ++ rest
+  pub gained : GainedFront old text new
+
 -- ==== a scenario
+
+-- what came of a scenario: by the files before and after, and what the sink had and has
+abbrev pub Outcome : Type 1
+Outcome = Option FilesState → Option FilesState → ScenarioData → Option (List ℕ) → Option (List ℕ) → Type 0
+
+-- What may come of a scenario in one kind of run: all was done; or it was stopped on the way, as the sink failed, or as memory was wanting.
+pub record Outcomes : Type 1 where
+  pub whole : Outcome
+  pub cut_short : Outcome
+  pub stopped : Outcome
 
 -- the text is that of a replay of a scenario, on its devices as they open over these files
 pub record IsTextOf (files : Option FilesState) (s : ScenarioData) (text : List ℕ) : Type 0 where
@@ -81,8 +98,8 @@ pub record NotBegun (files files' : Option FilesState) (s : ScenarioData) (old n
   pub same : AsTheyWere NoneFailed s.devices files files'
 
 -- want of memory stopped it, before it began or on the way
-abbrev pub StoppedByMemory : Option FilesState → Option FilesState → ScenarioData → Option (List ℕ) → Option (List ℕ) → Type 0
-StoppedByMemory files files' s old new = NotBegun files files' s old new ⊎ CutShort files files' s old new
+abbrev pub StoppedByMemory : Outcome → Outcome
+StoppedByMemory OnTheWay files files' s old new = NotBegun files files' s old new ⊎ OnTheWay files files' s old new
 
 -- A file could not be fetched: its fetch is the last that was made, and the first that failed. Nothing was written, and each file is as
 -- it was.
@@ -90,6 +107,10 @@ pub record NotOpened (files files' : Option FilesState) (s : ScenarioData) (old 
   pub fails : IfSome files (λ f. a_fetch_fails (file_names s.devices) f ≡ true)
   pub nothing : new ≡ old
   pub same : AsTheyWere NextFailed s.devices files files'
+
+-- in a replay
+abbrev pub replay : Outcomes
+replay = record { whole = TextWritten; cut_short = CutShort; stopped = CutShort }
 
 -- ==== what the source had
 
@@ -101,7 +122,7 @@ pub record HadScenario (left left' : Option (List ℕ)) (s : ScenarioData) : Typ
   pub reads : scenario_of bytes ≡ Ok s
 
 -- all that the source had is a scenario, of which this holds between two moments: by the files, and by what the sink has
-abbrev pub Had : (Option FilesState → Option FilesState → ScenarioData → Option (List ℕ) → Option (List ℕ) → Type 0) → Outside → Outside → Type 0
+abbrev pub Had : Outcome → Outside → Outside → Type 0
 Had So before after = (s : ScenarioData) × HadScenario before.left after.left s × So before.files after.files s before.written after.written
 
 -- the fault of bytes that are more than a scenario has
@@ -134,16 +155,16 @@ pub record Untouched (files files' : Option FilesState) (old new : Option (List 
 abbrev pub NothingDone : Outside → Outside → Type 0
 NothingDone before after = Untouched before.files after.files before.written after.written
 
--- How a replay ends, and what it wrote: by the outside before and after it, and the status.
-pub record Ends (before after : Outside) (ended : Status) : Type 0 where
-  -- the whole text of a replay of the scenario that the source had was written
-  pub ok : ended ≡ status.Ok → Had TextWritten before after
+-- How such a run ends, and what it wrote: by the outside before and after it, and the status.
+pub record Ends (run : Outcomes) (before after : Outside) (ended : Status) : Type 0 where
+  -- all was done of the scenario that the source had
+  pub ok : ended ≡ status.Ok → Had run.whole before after
   -- the source failed, and nothing was written
   pub read_fault : ended ≡ status.ReadFault → Rose before.source_faults after.source_faults × NothingDone before after
   -- the sink failed
-  pub write_fault : ended ≡ status.WriteFault → Rose before.sink_faults after.sink_faults × Had CutShort before after
+  pub write_fault : ended ≡ status.WriteFault → Rose before.sink_faults after.sink_faults × Had run.cut_short before after
   -- memory was wanting: before the scenario was read, or later
-  pub no_memory : ended ≡ status.NoMemory → NothingDone before after ⊎ Had StoppedByMemory before after
+  pub no_memory : ended ≡ status.NoMemory → NothingDone before after ⊎ Had (StoppedByMemory run.stopped) before after
   -- what the source had is no scenario, and nothing was written
   pub bad_scenario : (line : ℕ) (reason : Why) → ended ≡ status.BadScenario line reason → IsNoScenario before.left after.left (record { line = line; why = reason }) × NothingDone before after
   -- a file could not be fetched, and nothing was written
@@ -151,17 +172,17 @@ pub record Ends (before after : Outside) (ended : Status) : Type 0 where
   -- the words are not its own
   pub words : ended ≢ status.BadWords
   -- however it ends, nothing but a front was taken of what the source had
-  pub taken : TookFront before.left after.left
+  pub taken : TookFront before.left after.left before.reads after.reads
   -- no fault of the source, of the files or of the sink is passed over
   pub calm_source : Calm status.ReadFault ended before.source_faults after.source_faults
   pub calm_files : Calm status.OpenFault ended before.files_faults after.files_faults
   pub calm_sink : Calm status.WriteFault ended before.sink_faults after.sink_faults
 
 -- the same, where the scenario is at hand
-pub record ScenarioEnds (s : ScenarioData) (files files' : Option FilesState) (opened opened' : ℕ) (old new : Option (List ℕ)) (wrote wrote' : ℕ) (ended : Status) : Type 0 where
-  pub ok : ended ≡ status.Ok → TextWritten files files' s old new
-  pub write_fault : ended ≡ status.WriteFault → Rose wrote wrote' × CutShort files files' s old new
-  pub no_memory : ended ≡ status.NoMemory → StoppedByMemory files files' s old new
+pub record ScenarioEnds (run : Outcomes) (s : ScenarioData) (files files' : Option FilesState) (opened opened' : ℕ) (old new : Option (List ℕ)) (wrote wrote' : ℕ) (ended : Status) : Type 0 where
+  pub ok : ended ≡ status.Ok → run.whole files files' s old new
+  pub write_fault : ended ≡ status.WriteFault → Rose wrote wrote' × run.cut_short files files' s old new
+  pub no_memory : ended ≡ status.NoMemory → StoppedByMemory run.stopped files files' s old new
   pub open_fault : ended ≡ status.OpenFault → Rose opened opened' × NotOpened files files' s old new
   pub reads : ended ≢ status.ReadFault
   pub scenario : (line : ℕ) (reason : Why) → ended ≢ status.BadScenario line reason
@@ -174,10 +195,10 @@ abbrev pub Spells : List ℕ → (ScenarioData → Type 0) → Type 0
 Spells bytes So = (s : ScenarioData) × (scenario_of bytes ≡ Ok s) × So s
 
 -- the same, where the bytes are at hand
-pub record BytesEnd (bytes : List ℕ) (files files' : Option FilesState) (opened opened' : ℕ) (old new : Option (List ℕ)) (wrote wrote' : ℕ) (ended : Status) : Type 0 where
-  pub ok : ended ≡ status.Ok → Spells bytes (λ s. TextWritten files files' s old new)
-  pub write_fault : ended ≡ status.WriteFault → Rose wrote wrote' × Spells bytes (λ s. CutShort files files' s old new)
-  pub no_memory : ended ≡ status.NoMemory → Untouched files files' old new ⊎ Spells bytes (λ s. StoppedByMemory files files' s old new)
+pub record BytesEnd (run : Outcomes) (bytes : List ℕ) (files files' : Option FilesState) (opened opened' : ℕ) (old new : Option (List ℕ)) (wrote wrote' : ℕ) (ended : Status) : Type 0 where
+  pub ok : ended ≡ status.Ok → Spells bytes (λ s. run.whole files files' s old new)
+  pub write_fault : ended ≡ status.WriteFault → Rose wrote wrote' × Spells bytes (λ s. run.cut_short files files' s old new)
+  pub no_memory : ended ≡ status.NoMemory → Untouched files files' old new ⊎ Spells bytes (λ s. StoppedByMemory run.stopped files files' s old new)
   pub bad_scenario : (line : ℕ) (reason : Why) → ended ≡ status.BadScenario line reason → (scenario_of bytes ≡ Err (record { line = line; why = reason })) × Untouched files files' old new
   pub open_fault : ended ≡ status.OpenFault → Rose opened opened' × Spells bytes (λ s. NotOpened files files' s old new)
   pub words : ended ≢ status.BadWords
@@ -194,7 +215,7 @@ pub record LoadAlone (seed count : ℕ) (before after : Outside) (ended : Status
 
 -- How the program ends, by what its words ask for: a replay; a load; or nothing, where they are none that it knows.
 abbrev pub TaskEnds : Option Task → Outside → Outside → Status → Type 0
-TaskEnds (Some task.Replay) before after ended = Ends before after ended
+TaskEnds (Some task.Replay) before after ended = Ends replay before after ended
 TaskEnds (Some (task.Load seed count)) before after ended = LoadAlone seed count before after ended
 TaskEnds None before after ended = (ended ≡ status.BadWords) × (after ≡ before)
 

@@ -1,7 +1,7 @@
 //! The laws of texts: what holds of the text of every scenario over media in memory and over files, of the completions in the journal of every
 //! scenario, and of the line of every load.
-ghost use Rattle.tcmu_top.specs.Laws.{TextsAgree, HasOneTextOverFiles, LeavesTheSameFiles, CommandsComplete, DevicesStay, HasOneLine};
-ghost use Rattle.text_laws.specs.InMemory.{LawOfReplay, LawOfJournals, HasOneText, HasOneJournal};
+ghost use Rattle.tcmu_top.specs.Laws.{TextsAgree, HasOneJournal, HasOneTextOverFiles, LeavesTheSameFiles, CommandsComplete, DevicesStay, HasOneLine};
+ghost use Rattle.text_laws.specs.InMemory.{LawOfReplay, LawOfJournals, HasOneText};
 
 /// The law of replay. The text of a replay without dumps is a scenario where it has at most 4,194,304 bytes and the replay has at
 /// most 20,000 events, and the text of that scenario's own replay is the same text. So is the text of every journal that leaves
@@ -13,8 +13,8 @@ pub fn replay_law()
     text_laws::replay_in_memory_law()
 }
 
-/// The text of a scenario's replay is a function of the scenario's bytes. It has one reading: the device lines, and the journal with
-/// its answers and completions.
+/// Over media in memory the text of a scenario's replay is a function of the scenario's bytes. Over all media, and whatever the files, it has
+/// one reading: the device lines, and the journal with its answers and completions.
 pub fn text_law()
     ensures text { HasOneText }
     ensures journal { HasOneJournal }
@@ -37,7 +37,7 @@ pub fn files_law()
 
 /// In the journal of a replay, whatever the files, each command that a device accepted completes once, or is open as the end line
 /// counts it; none is open on a device that ends with its user side attached. A completion carries its own handler's reply, or a fixed
-/// status that no handler answered.
+/// status that no handler answered, and the entry that logs it is its cause. A handler gets what its command's initiator sent.
 pub fn completions_law()
     ensures completions { CommandsComplete }
     ensures devices { DevicesStay }

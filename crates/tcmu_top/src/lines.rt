@@ -5,12 +5,12 @@ ghost use Rattle.tcmu_types.specs.Views.{event_data, answer_data};
 ghost use Rattle.tcmu_model.specs.Steps.{Makes, most_accepted};
 ghost use Rattle.tcmu_model.specs.Drain.{chosen, Drains};
 ghost use Rattle.tcmu_model.specs.Sound.{IsSound};
-ghost use Rattle.tcmu_model.specs.Work.{HasOutcomes};
 ghost use Rattle.text_model.specs.Replay.{Plays};
 ghost use Rattle.tcmu_path.specs.Calls.{Accepts};
 ghost use Rattle.tcmu_path.specs.Tasks.{CanBeMade, IsFit};
 ghost use Rattle.tcmu_top.specs.Calls.{SinkFaults};
 ghost use Rattle.tcmu_top.specs.Playing.{Played, Stopped, Wrote, WroteFront};
+ghost use Rattle.tcmu_top.specs.InPart.{DrainsInPart, PlaysInPart};
 
 use crate::writing::{Stop, write_entry};
 use edge::Sink;
@@ -57,9 +57,8 @@ pub fn drain<P: Path, K: Sink>(
 ) -> Result<(), Stop>
     requires few { (P.device path.old).state.accepted < 2 ^ 63 }
     requires sound { IsSound (P.device path.old).state }
-    requires outcomes { HasOutcomes P.relation }
     ensures ok { OnOk result ((at : ℕ) → Wrote P.relation device.now (λ es. Drains P.relation at (P.device path.old) es (P.device path.new)) (P.device path.old) (P.device path.new) (K.written out.old) (K.written out.new)) }
-    ensures err { OnErr result ((at : ℕ) → WroteFront P.relation device.now (Drains P.relation at (P.device path.old)) (P.device path.old) (P.device path.new) (K.written out.old) (K.written out.new)) }
+    ensures err { OnErr result ((at : ℕ) → WroteFront P.relation device.now (DrainsInPart P.relation at (P.device path.old)) (Drains P.relation at (P.device path.old)) (P.device path.old) (P.device path.new) (K.written out.old) (K.written out.new)) }
     ensures faults { SinkFaults (K.faults out.old) (K.faults out.new) result }
     ensures accepts { Accepts 0 (P.device path.old) (P.device path.new) }
 {
@@ -79,10 +78,9 @@ pub fn play_line<P: Path, K: Sink>(
 ) -> Result<(), Stop>
     requires few { (P.device path.old).state.accepted < 2 ^ 63 }
     requires sound { IsSound (P.device path.old).state }
-    requires outcomes { HasOutcomes P.relation }
     requires fit { IsFit line.now.what }
     ensures ok { OnOk result ((at : ℕ) → Wrote P.relation device.now (λ es. Plays P.relation at (P.device path.old) line.now.what es (P.device path.new)) (P.device path.old) (P.device path.new) (K.written out.old) (K.written out.new)) }
-    ensures err { OnErr result ((at : ℕ) → WroteFront P.relation device.now (Plays P.relation at (P.device path.old) line.now.what) (P.device path.old) (P.device path.new) (K.written out.old) (K.written out.new)) }
+    ensures err { OnErr result ((at : ℕ) → WroteFront P.relation device.now (PlaysInPart P.relation at (P.device path.old) line.now.what) (Plays P.relation at (P.device path.old) line.now.what) (P.device path.old) (P.device path.new) (K.written out.old) (K.written out.new)) }
     ensures faults { SinkFaults (K.faults out.old) (K.faults out.new) result }
     ensures accepts { Accepts 1 (P.device path.old) (P.device path.new) }
 {

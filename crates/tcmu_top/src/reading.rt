@@ -38,7 +38,7 @@ pub fn read_all<S: Source>(alloc: Global, src: &mut S) -> Result<Vec<u8>, Unread
     ensures calm { OnOk result (S.faults src.new ≡ S.faults src.old) }
     ensures calm_long { IsErrOf result Unread.TooLong → S.faults src.new ≡ S.faults src.old }
     ensures wanting { IsErrOf result Unread.NoMemory → S.faults src.new ≡ S.faults src.old }
-    ensures taken { TookFront (S.left src.old) (S.left src.new) }
+    ensures taken { TookFront (S.left src.old) (S.left src.new) (S.reads src.old) (S.reads src.new) }
 {
     let mut bytes = Vec::new(alloc);
     let mut piece = [0u8; 4096];

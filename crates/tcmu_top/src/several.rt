@@ -7,11 +7,13 @@ ghost use Rattle.tcmu_model.specs.Work.{HasOutcomes};
 ghost use Rattle.text_model.specs.Replay.{Plays};
 ghost use Rattle.text_model.specs.Several.{DrainsEach, ReplaysEach, ends_text};
 ghost use Rattle.text_model.specs.ScenarioRules.{IsScenario, IsServed};
+ghost use Rattle.text_laws.specs.Replays.{OpenAs};
 ghost use Rattle.device_set.specs.Sets.{names};
 ghost use Rattle.tcmu_path.specs.Tasks.{IsFitFor};
 ghost use Rattle.tcmu_top.specs.Calls.{SinkFaults};
-ghost use Rattle.tcmu_top.specs.Playing.{states_of, AreSound, CanGoOn, AreOpened, WroteOn, WroteOnFront, WroteEach, WroteEachFront};
-ghost use Rattle.tcmu_top.specs.Top.{Replayed, ReplayedInPart};
+ghost use Rattle.tcmu_top.specs.Playing.{states_of, AreSound, CanGoOn, WroteOn, WroteOnFront, WroteEach, WroteEachFront};
+ghost use Rattle.tcmu_top.specs.InPart.{DrainsInPart, PlaysInPart, DrainsEachInPart, ReplaysEachInPart};
+ghost use Rattle.tcmu_top.specs.Top.{Replayed, MadeInPart, ReplayedInPart};
 
 use crate::lines::{drain, play_line};
 use crate::writing::{Stop, write_end, write_readies};
@@ -33,9 +35,8 @@ fn drain_on<P: Path, K: Sink>(
     requires lines { length devices.now ≡ length set.old }
     requires few { CanGoOn (states_of P.device set.old) }
     requires sound { AreSound (states_of P.device set.old) }
-    requires outcomes { HasOutcomes P.relation }
     ensures ok { OnOk result (WroteOn P.relation devices.now at 0 (Drains P.relation at) (states_of P.device set.old) (states_of P.device set.new) (K.written out.old) (K.written out.new)) }
-    ensures err { OnErr result (WroteOnFront P.relation devices.now at (Drains P.relation at) (states_of P.device set.old) (states_of P.device set.new) (K.written out.old) (K.written out.new)) }
+    ensures err { OnErr result (WroteOnFront P.relation devices.now at (DrainsInPart P.relation at) (Drains P.relation at) (states_of P.device set.old) (states_of P.device set.new) (K.written out.old) (K.written out.new)) }
     ensures faults { SinkFaults (K.faults out.old) (K.faults out.new) result }
     ensures count { length set.new ≡ length set.old }
     ensures names { names set.new ≡ names set.old }
@@ -55,9 +56,8 @@ fn play_on<P: Path, K: Sink>(
     requires fit { IsFitFor (length set.old) line.now }
     requires few { CanGoOn (states_of P.device set.old) }
     requires sound { AreSound (states_of P.device set.old) }
-    requires outcomes { HasOutcomes P.relation }
     ensures ok { OnOk result (WroteOn P.relation devices.now line.now.device 1 (λ d es d'. Plays P.relation line.now.device d line.now.what es d') (states_of P.device set.old) (states_of P.device set.new) (K.written out.old) (K.written out.new)) }
-    ensures err { OnErr result (WroteOnFront P.relation devices.now line.now.device (λ d es d'. Plays P.relation line.now.device d line.now.what es d') (states_of P.device set.old) (states_of P.device set.new) (K.written out.old) (K.written out.new)) }
+    ensures err { OnErr result (WroteOnFront P.relation devices.now line.now.device (λ d es d'. PlaysInPart P.relation line.now.device d line.now.what es d') (λ d es d'. Plays P.relation line.now.device d line.now.what es d') (states_of P.device set.old) (states_of P.device set.new) (K.written out.old) (K.written out.new)) }
     ensures faults { SinkFaults (K.faults out.old) (K.faults out.new) result }
     ensures count { length set.new ≡ length set.old }
     ensures names { names set.new ≡ names set.old }
@@ -76,9 +76,8 @@ fn drain_each<P: Path, K: Sink>(
     requires lines { length devices.now ≡ length set.old }
     requires few { CanGoOn (states_of P.device set.old) }
     requires sound { AreSound (states_of P.device set.old) }
-    requires outcomes { HasOutcomes P.relation }
     ensures ok { OnOk result (WroteEach P.relation devices.now (DrainsEach P.relation 0 (states_of P.device set.old)) (states_of P.device set.old) (states_of P.device set.new) (K.written out.old) (K.written out.new)) }
-    ensures err { OnErr result (WroteEachFront P.relation devices.now (DrainsEach P.relation 0 (states_of P.device set.old)) (states_of P.device set.old) (states_of P.device set.new) (K.written out.old) (K.written out.new)) }
+    ensures err { OnErr result (WroteEachFront P.relation devices.now (DrainsEachInPart P.relation 0 (states_of P.device set.old)) (DrainsEach P.relation 0 (states_of P.device set.old)) (states_of P.device set.old) (states_of P.device set.new) (K.written out.old) (K.written out.new)) }
     ensures faults { SinkFaults (K.faults out.old) (K.faults out.new) result }
     ensures count { length set.new ≡ length set.old }
     ensures names { names set.new ≡ names set.old }
@@ -103,9 +102,8 @@ fn replay_lines<P: Path, K: Sink>(
     requires fit { Every (IsFitFor (length set.old)) lines.now }
     requires few { Every (λ d. d.state.accepted + length lines.now < 2 ^ 63) (states_of P.device set.old) }
     requires sound { AreSound (states_of P.device set.old) }
-    requires outcomes { HasOutcomes P.relation }
     ensures ok { OnOk result (WroteEach P.relation devices.now (ReplaysEach P.relation (states_of P.device set.old) lines.now) (states_of P.device set.old) (states_of P.device set.new) (K.written out.old) (K.written out.new)) }
-    ensures err { OnErr result (WroteEachFront P.relation devices.now (ReplaysEach P.relation (states_of P.device set.old) lines.now) (states_of P.device set.old) (states_of P.device set.new) (K.written out.old) (K.written out.new)) }
+    ensures err { OnErr result (WroteEachFront P.relation devices.now (ReplaysEachInPart P.relation (states_of P.device set.old) lines.now) (ReplaysEach P.relation (states_of P.device set.old) lines.now) (states_of P.device set.old) (states_of P.device set.new) (K.written out.old) (K.written out.new)) }
     ensures faults { SinkFaults (K.faults out.old) (K.faults out.new) result }
     ensures count { length set.new ≡ length set.old }
     ensures names { names set.new ≡ names set.old }
@@ -146,12 +144,12 @@ pub fn replay_devices<P: Path, K: Sink>(
     set: &mut DeviceSet<P>,
     out: &mut K,
 ) -> Result<(), Stop>
-    requires opened { AreOpened scenario.now.devices (states_of P.device set.old) }
+    requires opened { OpenAs scenario.now.devices (states_of P.device set.old) }
     requires limits { IsScenario scenario.now }
     requires served { IsServed scenario.now }
-    requires outcomes { HasOutcomes P.relation }
     ensures ok { OnOk result (Replayed P.relation scenario.now.devices (states_of P.device set.old) scenario.now.lines (states_of P.device set.new) (K.written out.old) (K.written out.new)) }
-    ensures err { OnErr result (ReplayedInPart P.relation scenario.now.devices (states_of P.device set.old) scenario.now.lines (states_of P.device set.new) (K.written out.old) (K.written out.new)) }
+    ensures err { OnErr result (MadeInPart P.relation scenario.now.devices (states_of P.device set.old) scenario.now.lines (states_of P.device set.new) (K.written out.old) (K.written out.new)) }
+    ensures front { HasOutcomes P.relation → OnErr result (ReplayedInPart P.relation scenario.now.devices (states_of P.device set.old) scenario.now.lines (states_of P.device set.new) (K.written out.old) (K.written out.new)) }
     ensures faults { SinkFaults (K.faults out.old) (K.faults out.new) result }
     ensures count { length set.new ≡ length set.old }
     ensures names { names set.new ≡ names set.old }

@@ -4,11 +4,12 @@ ghost use Rattle.tcmu_types.specs.Data.{texts_of};
 ghost use Rattle.tcmu_types.specs.Numbered.{Rose};
 ghost use Rattle.edge.specs.Stores.{FilesState};
 ghost use Rattle.text_model.specs.ScenarioRules.{IsScenario, IsServed};
+ghost use Rattle.text_laws.specs.Replays.{OpenAs};
 ghost use Rattle.tcmu_top.specs.Opened.{AreOpen};
-ghost use Rattle.tcmu_top.specs.Playing.{AreOpened, states_of};
+ghost use Rattle.tcmu_top.specs.Playing.{states_of};
 ghost use Rattle.tcmu_top.specs.Calls.{outside};
 ghost use Rattle.tcmu_top.specs.Words.{task_of};
-ghost use Rattle.tcmu_top.specs.Top.{ScenarioEnds, BytesEnd, Ends, TaskEnds, fault_text, Reported};
+ghost use Rattle.tcmu_top.specs.Top.{replay, ScenarioEnds, BytesEnd, Ends, TaskEnds, fault_text, Reported};
 
 use crate::faults::report;
 use crate::load::run_load;
@@ -36,9 +37,9 @@ fn replay_opened<K: Sink, F: Files>(
 ) -> Status
     requires limits { IsScenario scenario.now }
     requires served { IsServed scenario.now }
-    requires opened { AreOpened scenario.now.devices (states_of (λ d. d) set) }
+    requires opened { OpenAs scenario.now.devices (states_of (λ d. d) set) }
     ensures ends { (entry : Option FilesState) (before after : ℕ) → after ≡ before → AreOpen entry (F.state files.old) scenario.now.devices (states_of (λ d. d) set)
-        → ScenarioEnds scenario.now entry (F.state files.new) before after (K.written out.old) (K.written out.new) (K.faults out.old) (K.faults out.new) result }
+        → ScenarioEnds replay scenario.now entry (F.state files.new) before after (K.written out.old) (K.written out.new) (K.faults out.old) (K.faults out.new) result }
     ensures same { F.faults files.new ≡ F.faults files.old }
     ensures wrote { K.faults out.old ≤ K.faults out.new }
 {
@@ -60,7 +61,7 @@ fn replay_scenario<K: Sink, F: Files>(
 ) -> Status
     requires limits { IsScenario scenario.now }
     requires served { IsServed scenario.now }
-    ensures ends { ScenarioEnds scenario.now (F.state files.old) (F.state files.new) (F.faults files.old) (F.faults files.new) (K.written out.old) (K.written out.new) (K.faults out.old) (K.faults out.new) result }
+    ensures ends { ScenarioEnds replay scenario.now (F.state files.old) (F.state files.new) (F.faults files.old) (F.faults files.new) (K.written out.old) (K.written out.new) (K.faults out.old) (K.faults out.new) result }
     ensures opened { F.faults files.old ≤ F.faults files.new }
     ensures wrote { K.faults out.old ≤ K.faults out.new }
 {
@@ -79,7 +80,7 @@ fn replay_bytes<K: Sink, F: Files>(
     out: &mut K,
     files: &mut F,
 ) -> Status
-    ensures ends { BytesEnd bytes.now (F.state files.old) (F.state files.new) (F.faults files.old) (F.faults files.new) (K.written out.old) (K.written out.new) (K.faults out.old) (K.faults out.new) result }
+    ensures ends { BytesEnd replay bytes.now (F.state files.old) (F.state files.new) (F.faults files.old) (F.faults files.new) (K.written out.old) (K.written out.new) (K.faults out.old) (K.faults out.new) result }
     ensures opened { F.faults files.old ≤ F.faults files.new }
     ensures wrote { K.faults out.old ≤ K.faults out.new }
 {
@@ -98,9 +99,9 @@ pub fn run_replay<S: Source, K: Sink, F: Files>(
     out: &mut K,
     files: &mut F,
 ) -> Status
-    ensures ends { Ends
-        (outside (S.left src.old) (S.faults src.old) (F.state files.old) (F.faults files.old) (K.written out.old) (K.faults out.old))
-        (outside (S.left src.new) (S.faults src.new) (F.state files.new) (F.faults files.new) (K.written out.new) (K.faults out.new))
+    ensures ends { Ends replay
+        (outside (S.left src.old) (S.reads src.old) (S.faults src.old) (F.state files.old) (F.faults files.old) (K.written out.old) (K.faults out.old))
+        (outside (S.left src.new) (S.reads src.new) (S.faults src.new) (F.state files.new) (F.faults files.new) (K.written out.new) (K.faults out.new))
         result }
     ensures read { S.faults src.old ≤ S.faults src.new }
     ensures opened { F.faults files.old ≤ F.faults files.new }
@@ -126,8 +127,8 @@ fn run<S: Source, K: Sink, F: Files>(
     files: &mut F,
 ) -> Status
     ensures ends { TaskEnds (task_of (texts_of words.now.items))
-        (outside (S.left src.old) (S.faults src.old) (F.state files.old) (F.faults files.old) (K.written out.old) (K.faults out.old))
-        (outside (S.left src.new) (S.faults src.new) (F.state files.new) (F.faults files.new) (K.written out.new) (K.faults out.new))
+        (outside (S.left src.old) (S.reads src.old) (S.faults src.old) (F.state files.old) (F.faults files.old) (K.written out.old) (K.faults out.old))
+        (outside (S.left src.new) (S.reads src.new) (S.faults src.new) (F.state files.new) (F.faults files.new) (K.written out.new) (K.faults out.new))
         result }
     ensures read { S.faults src.old ≤ S.faults src.new }
     ensures opened { F.faults files.old ≤ F.faults files.new }
@@ -151,8 +152,8 @@ pub fn tcmu_top<S: Source, K: Sink, E: Sink, F: Files>(
     files: &mut F,
 ) -> Status
     ensures ends { TaskEnds (task_of (texts_of words.now.items))
-        (outside (S.left src.old) (S.faults src.old) (F.state files.old) (F.faults files.old) (K.written out.old) (K.faults out.old))
-        (outside (S.left src.new) (S.faults src.new) (F.state files.new) (F.faults files.new) (K.written out.new) (K.faults out.new))
+        (outside (S.left src.old) (S.reads src.old) (S.faults src.old) (F.state files.old) (F.faults files.old) (K.written out.old) (K.faults out.old))
+        (outside (S.left src.new) (S.reads src.new) (S.faults src.new) (F.state files.new) (F.faults files.new) (K.written out.new) (K.faults out.new))
         result }
     ensures reported { Reported result (E.written err.old) (E.written err.new) (Rose (E.faults err.old) (E.faults err.new)) }
     ensures silent { fault_text result ≡ [] → E.faults err.new ≡ E.faults err.old }

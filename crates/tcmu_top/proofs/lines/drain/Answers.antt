@@ -18,7 +18,7 @@ loop-event-init g c =
 pub returns-in_err-play-clause-err : goal.returns-in_err-play-clause-err
 returns-in_err-play-clause-err g c =
     let picked = picked_by (g.P.Path.device c.loop-event.path).state _ (Some c.in-Some.event) c.todo.ensures c.in-Some.ensures.value in
-    on_err c.from_residual.result (λ at. draining_stopped g.P.Path.relation at c.args.device.now _ (g.P.Path.device c.loop-event.path) _ (event_data c.in-Some.event) _ _ _ c.requires.outcomes (c.loop-event.invariant.sofar at) picked (c.in_err-play.ensures.err at))
+    on_err c.from_residual.result (λ at. draining_stopped g.P.Path.relation at c.args.device.now _ (g.P.Path.device c.loop-event.path) _ (event_data c.in-Some.event) _ _ _ (c.loop-event.invariant.sofar at) picked (c.in_err-play.ensures.err at))
 
 pub loop-event-smaller : goal.loop-event-smaller
 loop-event-smaller g c =

@@ -20,7 +20,7 @@ returns-in-Event-clause-ok g c =
 pub returns-in-Event-clause-err : goal.returns-in-Event-clause-err
 returns-in-Event-clause-err g c =
     let is = sym (ap (λ (x : LineData). x.what) c.line.view_is) ∙ ap kind_data c.in-Event.is in
-    on_err_weaker c.play.result (λ h at. stopped_task g.P.Path.relation at c.args.device.now _ _ (event_data c.in-Event.event) _ _ _ is c.requires.outcomes c.requires.sound c.requires.fit (h at)) c.play.ensures.err
+    on_err_weaker c.play.result (λ h at. stopped_task g.P.Path.relation at c.args.device.now _ _ (event_data c.in-Event.event) _ _ _ is c.requires.sound c.requires.fit (h at)) c.play.ensures.err
 
 pub returns-in-Drain-clause-ok : goal.returns-in-Drain-clause-ok
 returns-in-Drain-clause-ok g c =

@@ -6,6 +6,7 @@ use Rattle.tcmu_model.specs.Drain.{Drains}
 use Rattle.tcmu_model.specs.Sound.{IsSound}
 use Rattle.device_set.proofs.Places.{length-with_device, names-with_device}
 use Rattle.tcmu_top.specs.Playing.{states_of}
+use Rattle.tcmu_top.specs.InPart.{DrainsInPart}
 use Rattle.tcmu_top.proofs.Sets.{states_get, wrote_on, wrote_on_front}
 use Rattle.tcmu_top.proofs.several.drain_on.Goals as goal
 use Rattle.tcmu_types.proofs.Everies.{every_at}
@@ -33,7 +34,7 @@ returns-clause-err g c =
     let ls = c.args.devices.now in
     let named = slice_get_read ls (length ls) c.args.at c.index-devices-at.result refl (omega (arith, c.requires.there, c.requires.lines)) c.index-devices-at.is in
     on_err_weaker c.drain.result
-    (λ h. wrote_on_front g.P.Path.device g.P.Path.relation ls c.args.at (Drains g.P.Path.relation c.args.at) c.args.set.now c.index-devices-at.result c.get_mut.result.now c.drain.new.path _ _ named c.get_mut.ensures.value (h c.args.at))
+    (λ h. wrote_on_front g.P.Path.device g.P.Path.relation ls c.args.at (DrainsInPart g.P.Path.relation c.args.at) (Drains g.P.Path.relation c.args.at) c.args.set.now c.index-devices-at.result c.get_mut.result.now c.drain.new.path _ _ named c.get_mut.ensures.value (h c.args.at))
     c.drain.ensures.err
 
 pub returns-clause-count : goal.returns-clause-count

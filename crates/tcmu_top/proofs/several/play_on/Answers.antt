@@ -8,6 +8,7 @@ use Rattle.tcmu_model.specs.Sound.{IsSound}
 use Rattle.device_set.specs.Sets.{with_device}
 use Rattle.device_set.proofs.Places.{length-with_device, names-with_device}
 use Rattle.tcmu_top.specs.Playing.{states_of, WroteOn, WroteOnFront}
+use Rattle.tcmu_top.specs.InPart.{PlaysInPart}
 use Rattle.tcmu_top.proofs.Sets.{states_get, wrote_on, wrote_on_front}
 use Rattle.tcmu_top.proofs.several.play_on.Goals as goal
 use Rattle.tcmu_types.proofs.Everies.{every_at}
@@ -46,8 +47,8 @@ returns-clause-err g c =
     let named = slice_get_read ls (length ls) at c.index-devices-at.result refl (omega (arith, is, c.requires.fit.device, c.requires.lines)) c.index-devices-at.is in
     let set' = with_device c.args.set.now at c.play_line.new.path in
     on_err_weaker c.play_line.result
-    (λ h. subst (λ (n : ℕ). WroteOnFront R ls n (λ d es d'. Plays R n d what es d') (states_of g.P.Path.device c.args.set.now) (states_of g.P.Path.device set') (g.K.Sink.written c.args.out.now) (g.K.Sink.written c.play_line.new.out)) is
-    (wrote_on_front g.P.Path.device R ls at (λ d es d'. Plays R at d what es d') c.args.set.now c.index-devices-at.result c.get_mut.result.now c.play_line.new.path _ _ named c.get_mut.ensures.value (h at)))
+    (λ h. subst (λ (n : ℕ). WroteOnFront R ls n (λ d es d'. PlaysInPart R n d what es d') (λ d es d'. Plays R n d what es d') (states_of g.P.Path.device c.args.set.now) (states_of g.P.Path.device set') (g.K.Sink.written c.args.out.now) (g.K.Sink.written c.play_line.new.out)) is
+    (wrote_on_front g.P.Path.device R ls at (λ d es d'. PlaysInPart R at d what es d') (λ d es d'. Plays R at d what es d') c.args.set.now c.index-devices-at.result c.get_mut.result.now c.play_line.new.path _ _ named c.get_mut.ensures.value (h at)))
     c.play_line.ensures.err
 
 pub returns-clause-count : goal.returns-clause-count

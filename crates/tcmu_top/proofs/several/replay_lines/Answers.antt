@@ -3,12 +3,11 @@ use Rattle.std.proofs.lemmas.List.{drop_all}
 use Rattle.std.proofs.lemmas.Result.{on_ok_weaker, on_err_weaker}
 use Rattle.tcmu_model.specs.Device.{Device}
 use Rattle.tcmu_types.specs.Lists.{Every}
-use Rattle.text_model.specs.Several.{DrainsEach, ReplaysEach}
 use Rattle.tcmu_types.proofs.Everies.{every-weaker}
 use Rattle.tcmu_path.specs.Tasks.{IsFitFor}
 use Rattle.tcmu_top.specs.Playing.{states_of}
 use Rattle.tcmu_top.proofs.Each.{sofar_then, sofar_then_front}
-use Rattle.tcmu_top.proofs.Going.{PlaysLine, every_turned, count_kept, played_more, played_stopped}
+use Rattle.tcmu_top.proofs.Going.{drains_each, replays_each, PlaysLine, every_turned, count_kept, played_more, played_stopped}
 use Rattle.tcmu_top.proofs.Sets.{states_count}
 use Rattle.tcmu_top.proofs.Telling.{on_err}
 use Rattle.tcmu_top.proofs.several.replay_lines.Goals as goal
@@ -36,7 +35,7 @@ returns-in_err-play_on-clause-err g c =
     let so = rw at at c.loop-line.invariant.sofar in
     let fit = rw at at c.loop-line.invariant.fit in
     let count : length c.args.set.now ≡ length ds = sym (states_count g.P.Path.device c.loop-line.set ∙ c.loop-line.invariant.count) in
-    on_err c.from_residual.result (played_stopped R c.args.devices.now c.line-item.result (drop (i + 1) ls) (ReplaysEach R (states_of g.P.Path.device c.args.set.now) ls) _ ds _ _ _ _ c.requires.outcomes
+    on_err c.from_residual.result (played_stopped R c.args.devices.now c.line-item.result (drop (i + 1) ls) (replays_each R (states_of g.P.Path.device c.args.set.now) ls) _ ds _ _ _ _
     (subst (λ n. Every (IsFitFor n) (drop (i + 1) ls)) count fit.1) so c.in_err-play_on.ensures.err)
 
 pub loop-line-preserved : goal.loop-line-preserved
@@ -53,7 +52,7 @@ loop-line-preserved g c =
     let fit = rw at at c.loop-line.invariant.fit in
     let w = c.in_ok-play_on.ensures.ok in
     record {
-      sofar = played_more R c.args.devices.now l (drop (i + 1) ls) (ReplaysEach R (states_of g.P.Path.device c.args.set.now) ls) _ ds ds' _ _ _ so w;
+      sofar = played_more R c.args.devices.now l (drop (i + 1) ls) (replays_each R (states_of g.P.Path.device c.args.set.now) ls) _ ds ds' _ _ _ so w;
       fit = fit.1;
       few = every_turned (λ (d : Device). d.state.accepted + n < 2 ^ 63 + i) (λ (d : Device). d.state.accepted + n < 2 ^ 63 + (i + 1)) R c.args.devices.now l.device 1 (PlaysLine R l) ds ds' _ _ w
           (λ d h. omega (arith, h)) (λ h. omega (arith, h, w.accepts.most)) c.loop-line.invariant.few;
@@ -73,11 +72,11 @@ returns-clause-ok g c =
     let R = g.P.Path.relation in
     let none = drop_all c.loop-line.line-index c.args.lines.now c.loop-line-test.false in
     let so = rw none at c.loop-line.invariant.sofar in
-    on_ok_weaker c.drain_each.result (λ h. sofar_then R c.args.devices.now (DrainsEach R 0 (states_of g.P.Path.device c.loop-line.set)) (ReplaysEach R (states_of g.P.Path.device c.args.set.now) c.args.lines.now) _ _ _ _ _ _ so h) c.drain_each.ensures.ok
+    on_ok_weaker c.drain_each.result (λ h. sofar_then R c.args.devices.now (drains_each R 0 (states_of g.P.Path.device c.loop-line.set)) (replays_each R (states_of g.P.Path.device c.args.set.now) c.args.lines.now) _ _ _ _ _ _ so h) c.drain_each.ensures.ok
 
 pub returns-clause-err : goal.returns-clause-err
 returns-clause-err g c =
     let R = g.P.Path.relation in
     let none = drop_all c.loop-line.line-index c.args.lines.now c.loop-line-test.false in
     let so = rw none at c.loop-line.invariant.sofar in
-    on_err_weaker c.drain_each.result (λ h. sofar_then_front R c.args.devices.now (DrainsEach R 0 (states_of g.P.Path.device c.loop-line.set)) (ReplaysEach R (states_of g.P.Path.device c.args.set.now) c.args.lines.now) _ _ _ _ _ _ so h) c.drain_each.ensures.err
+    on_err_weaker c.drain_each.result (λ h. sofar_then_front R c.args.devices.now (drains_each R 0 (states_of g.P.Path.device c.loop-line.set)) (replays_each R (states_of g.P.Path.device c.args.set.now) c.args.lines.now) _ _ _ _ _ _ so h) c.drain_each.ensures.err
