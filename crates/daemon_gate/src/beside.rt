@@ -10,12 +10,12 @@ use std::thread::{Promise, PromisedHandle, Scope, Threads};
 use tcmu_types::NoMemory;
 
 /// One loop: what it begins with, and what it gives back when it ends. All loops of a run share what they are about.
-pub trait Lane: Send + Drop {
+pub trait Lane: Drop {
     /// What the loops share, as the turn of their device.
     type About;
 
     /// What a loop gives back, as its pass.
-    type Done: Send + Drop;
+    type Done: Drop;
 
     // What is true of a loop before it runs.
     ghost ready: { Self.About → Self → Type 0 };
@@ -90,13 +90,14 @@ impl<L: Lane> Lanes<L> {
 /// Runs all loops and, when the last has ended, answers what they gave back: as many results as there were loops, each as `done` says,
 /// in no order. A loop that gets no thread is run here, so no loop is lost. In which order they start has no clause: the code starts them
 /// in their order, and runs one that gets no thread before it starts the next.
-pub fn run_all<L: Lane, R: Threads + Wait + Sync>(
+pub fn run_all<L: Lane + Send, R: Threads + Wait + Sync>(
     rt: &R,
     about: &L::About,
     lanes: Lanes<L>,
 ) -> Vec<L::Done>
 where
     L::About: Sync,
+    L::Done: Send,
     requires { All (L.ready about.now) lanes.items }
     ensures len { vec_len result ≡ length lanes.items }
     ensures each { All (L.done about.now) result.items }
@@ -110,7 +111,7 @@ where
 }
 
 /// Runs all loops, where there is room for their threads and for what they give back.
-fn run_in<L: Lane, R: Threads + Wait + Sync>(
+fn run_in<L: Lane + Send, R: Threads + Wait + Sync>(
     rt: &R,
     about: &L::About,
     lanes: Vec<L>,
@@ -119,6 +120,7 @@ fn run_in<L: Lane, R: Threads + Wait + Sync>(
 ) -> Vec<L::Done>
 where
     L::About: Sync,
+    L::Done: Send,
     requires ready { All (L.ready about.now) lanes.items }
     requires running { (vec_len running ≡ 0) × (vec_len lanes ≤ vec_capacity running) }
     requires dones { (vec_len dones ≡ 0) × (vec_len lanes ≤ vec_capacity dones) }
@@ -141,7 +143,7 @@ where
 }
 
 /// Starts each loop, or runs it here.
-fn start_all<'s, E: 's, L: Lane + 's, R: Threads + Wait + Sync>(
+fn start_all<'s, E: 's, L: Lane + Send + 's, R: Threads + Wait + Sync>(
     rt: &'s R,
     scope: &'s Scope<'s, E>,
     about: &'s L::About,
@@ -151,6 +153,7 @@ fn start_all<'s, E: 's, L: Lane + 's, R: Threads + Wait + Sync>(
 ) -> (Vec<PromisedHandle<L::Done, DoneOf<L>>>, Vec<L::Done>)
 where
     L::About: Sync,
+    L::Done: Send,
     requires ready { All (L.ready about.now) lanes.items }
     requires running { (vec_len running ≡ 0) × (vec_len lanes ≤ vec_capacity running) }
     requires dones { (vec_len dones ≡ 0) × (vec_len lanes ≤ vec_capacity dones) }
@@ -169,7 +172,7 @@ where
 }
 
 /// Starts a loop in a thread of its own. Where none can be made it runs the loop here, and answers what that gave back.
-fn start<'s, E: 's, L: Lane + 's, R: Threads + Wait + Sync>(
+fn start<'s, E: 's, L: Lane + Send + 's, R: Threads + Wait + Sync>(
     rt: &'s R,
     scope: &'s Scope<'s, E>,
     about: &'s L::About,
@@ -177,6 +180,7 @@ fn start<'s, E: 's, L: Lane + 's, R: Threads + Wait + Sync>(
 ) -> Result<PromisedHandle<L::Done, DoneOf<L>>, L::Done>
 where
     L::About: Sync,
+    L::Done: Send,
     requires { L.ready about.now lane }
     ensures started { IfOk result (λ h. h.promise.about.value ≡ about.now) }
     ensures ran { IfErr result (λ done. L.done about.now done) }
