@@ -1,12 +1,11 @@
 -- Worked causes: the tick that lets a command expire or leave, and none before it or behind it.
-use Rattle.std.proofs.Common.{◌≡◌, ◌⊎◌, inl, inr, ℕ, ◌+◌, ◌≤◌, ◌<◌, List, [], ◌∷◌, ◌++◌, None, refl, sym, ap, ◌∙◌, subst, arith, ⊎_elim}
+use Rattle.std.proofs.Common.{◌≡◌, ◌⊎◌, inl, inr, ℕ, ◌+◌, ◌≤◌, ◌<◌, List, [], ◌∷◌, ◌++◌, refl, sym, ap, ◌∙◌, subst, arith, ⊎_elim}
 use Rattle.tcmu_types.specs.Data.{CommandData, DoneData, SettingsData}
 use Rattle.tcmu_types.specs.Events.{EventData, AnswerData, EntryData}
 use Rattle.tcmu_types.specs.Events as ev
 use Rattle.tcmu_types.specs.declared.answer.Submit.TheVariants as submit
 use Rattle.tcmu_types.specs.declared.answer.Enter.TheVariants as enter
-use Rattle.tcmu_model.specs.Events.{closing, check_condition}
-use Rattle.tcmu_model.specs.Journals.{Has, WasAccepted, HasReplied, moment, MadeAt, WasDelayedAt, WasLaidAt, Reaches, IsAnswered, DoesReset, Logs, cleaned, reset_cleaned, expired, left, reset, IsExplainedAt}
+use Rattle.tcmu_model.specs.Journals.{Has, HasReplied, moment, MadeAt, WasDelayedAt, WasLaidAt, Reaches, Logs, cleaned, reset_cleaned, expired, left, reset, IsExplainedAt}
 use Rattle.tcmu_model.specs.Examples.{flags_ooo, dev, read_one, entry, queued_one, delayed_two, ticked, was_cleaned, timed_out, left_full, small, ExpiresInTime, ExpiresNotEarly, ExpiresNotLate, CleanExpiresNone, LeavesInTime, LeavesNotEarly, LeavesNotLate}
 use Rattle.tcmu_model.proofs.Moments.{has_within}
 

@@ -4,16 +4,14 @@ use Rattle.std.proofs.lemmas.List.{append-nil}
 use Rattle.tcmu_types.specs.Data.{CommandData, ReplyData, DoneData}
 use Rattle.tcmu_types.specs.Events.{EventData, AnswerData}
 use Rattle.tcmu_types.specs.declared.answer.Submit.{Submit}
-use Rattle.tcmu_types.specs.declared.answer.Submit.TheVariants as submit
 use Rattle.tcmu_types.specs.declared.answer.Tmr.{Tmr}
-use Rattle.tcmu_types.specs.declared.answer.Tmr.TheVariants as tmr
 use Rattle.tcmu_model.specs.declared.state.CommandState.TheVariants.{Placed}
 use Rattle.tcmu_types.specs.Lists.{first_of, without_first}
 use Rattle.tcmu_model.specs.Device.{Unfinished, DeviceState, Device, is_at}
 use Rattle.tcmu_model.specs.Events.{after_submit, with_command, with_delayed, after_handle, Books, finish, finish_all, books, answered, completions, after_clean, after_tick, after_block, emptied, count_in_hand, after_reset, after_restart, with_note, after_tmr}
 use Rattle.tcmu_model.specs.Steps.{HandlerRelation, Makes}
 use Rattle.tcmu_model.proofs.KeptByEvents.{KeptByEvents, made}
-use Rattle.tcmu_model.proofs.Unnamed.{enter_kept, dispatch_kept, respond_kept, publish_kept}
+use Rattle.tcmu_model.proofs.Unnamed.{submit_kept, enter_kept, dispatch_kept, respond_kept, publish_kept, tmr_kept}
 
 -- the later log is the earlier one with more behind it
 abbrev pub Grows : List DoneData → List DoneData → Type 0
@@ -26,13 +24,8 @@ then : (a b c : List DoneData) → Grows a b → Grows b c → Grows a c
 then a b c g h = (g.0 ++ h.0, h.1 ∙ ap (λ (l : List DoneData). l ++ h.0) g.1 ∙ append_assoc a g.0 h.0)
 
 pub after_submit_same : (d : DeviceState) (c : CommandData) (a : Submit) → (after_submit d c a).log ≡ d.log
-unfolding after_submit with_command with_delayed
-after_submit_same d c (submit.Queued s) = refl
-after_submit_same d c (submit.Delayed s) = refl
-after_submit_same d c submit.Busy = refl
-after_submit_same d c (submit.TooBig have limit) = refl
-after_submit_same d c (submit.FullRing need free) = refl
-after_submit_same d c (submit.FullBlocks need free) = refl
+unfolding with_command with_delayed
+after_submit_same d c a = submit_kept (λ x. x.log) d c a (λ s. refl) (λ s. refl)
 
 finish_grows : (read_len : Bool) (b : Books) (s : ℕ) → Grows b.log (finish read_len b s).log
 finish_grows read_len b s = go (first_of (is_at s Placed) b.unfinished)
@@ -63,12 +56,8 @@ after_reset_grows d level = go (d.blocked && nat_eq (count_in_hand d) 0)
     go false = same d.log d.log refl
 
 pub after_tmr_same : (d : DeviceState) (kind : ℕ) (ss : List ℕ) (a : Tmr) → (after_tmr d kind ss a).log ≡ d.log
-unfolding after_tmr with_note
-after_tmr_same d kind ss tmr.Noted = refl
-after_tmr_same d kind ss tmr.Off = refl
-after_tmr_same d kind ss tmr.Busy = refl
-after_tmr_same d kind ss (tmr.Unknown s) = refl
-after_tmr_same d kind ss (tmr.FullRing need free) = refl
+unfolding with_note
+after_tmr_same d kind ss a = tmr_kept (λ x. x.log) d kind ss a refl
 
 pub handled_same : (d : DeviceState) (s : ℕ) (reply : ReplyData) → (after_handle d s reply).log ≡ d.log
 unfolding after_handle

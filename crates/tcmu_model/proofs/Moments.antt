@@ -1,20 +1,16 @@
 -- The clock of a device is the sum of its journal's ticks, and what a journal has it has when it is longer.
-use Rattle.std.proofs.Common.{◌≡◌, inl, inr, ℕ, ◌+◌, ◌^◌, min, Bool, true, false, cond, ◌&&◌, nat_eq, List, [], ◌∷◌, ◌++◌, Option, Some, None, refl, sym, ap, ◌∙◌, subst, arith, append_assoc}
+use Rattle.std.proofs.Common.{◌≡◌, inl, inr, ℕ, ◌+◌, ◌^◌, min, List, [], ◌∷◌, ◌++◌, Option, Some, None, refl, sym, ap, ◌∙◌, subst, arith, append_assoc}
 use Rattle.std.specs.Prelude.{IfSome}
 use Rattle.std.specs.List.{sum_by}
 use Rattle.std.proofs.lemmas.List.Sums.{sum_by_push}
 use Rattle.tcmu_types.specs.Data.{CommandData, ReplyData}
 use Rattle.tcmu_types.specs.Events.{EventData, AnswerData, EntryData}
-use Rattle.tcmu_types.specs.declared.answer.Submit.{Submit}
-use Rattle.tcmu_types.specs.declared.answer.Submit.TheVariants as submit
-use Rattle.tcmu_types.specs.declared.answer.Tmr.{Tmr}
-use Rattle.tcmu_types.specs.declared.answer.Tmr.TheVariants as tmr
 use Rattle.tcmu_model.specs.Device.{DeviceState, Device}
-use Rattle.tcmu_model.specs.Events.{with_command, with_delayed, after_submit, after_handle, after_clean, later, after_tick, after_block, emptied, count_in_hand, after_reset, after_restart, with_note, after_tmr}
+use Rattle.tcmu_model.specs.Events.{with_command, with_delayed, after_handle, after_clean, later, after_tick, after_block, after_restart, with_note}
 use Rattle.tcmu_model.specs.Steps.{HandlerRelation, Step, Run}
 use Rattle.tcmu_model.specs.Journals.{Has, WasDelayed, WasAccepted, HasReplied, ticks_of, moment, MadeAt, WasDelayedAt, WasLaidAt}
 use Rattle.tcmu_model.proofs.KeptByEvents.{KeptByEvents, made}
-use Rattle.tcmu_model.proofs.Unnamed.{enter_kept, dispatch_kept, respond_kept, publish_kept}
+use Rattle.tcmu_model.proofs.Unnamed.{submit_kept, enter_kept, dispatch_kept, respond_kept, publish_kept, reset_kept, tmr_kept}
 
 -- ==== a longer journal
 
@@ -70,10 +66,10 @@ laid_was es at s c (inr h) = inr h.1
 -- ==== what no event changes
 
 settings_kept : (d : DeviceState) → KeptByEvents (λ e a after. after.settings ≡ d.settings) d
-unfolding after_submit with_command with_delayed after_handle after_clean after_tick after_block after_reset after_restart after_tmr with_note
+unfolding with_command with_delayed after_handle after_clean after_tick after_block after_restart with_note
 settings_kept d =
     record {
-      submit = λ c a i q. of_submit c a;
+      submit = λ c a i q. submit_kept (λ x. x.settings) d c a (λ s. refl) (λ s. refl);
       enter = λ a q. enter_kept (λ x. x.settings) d a (λ w ws. refl);
       dispatch = λ a. dispatch_kept (λ x. x.settings) d (λ i. refl);
       replied = λ s u reply f w p. refl;
@@ -84,30 +80,11 @@ settings_kept d =
       tick = λ n count. refl;
       block = λ b. refl;
       unblock = λ b. refl;
-      reset = λ level a q. of_reset level (d.blocked && nat_eq (count_in_hand d) 0);
+      reset = λ level a q. reset_kept (λ x. x.settings) d level refl;
       restart = λ n. refl;
-      tmr = λ kind ss a q. of_tmr kind ss a;
+      tmr = λ kind ss a q. tmr_kept (λ x. x.settings) d kind ss a refl;
       stat = λ a. refl;
     }
-  where
-    of_submit : (c : CommandData) (a : Submit) → (after_submit d c a).settings ≡ d.settings
-    of_submit c (submit.Queued s) = refl
-    of_submit c (submit.Delayed s) = refl
-    of_submit c submit.Busy = refl
-    of_submit c (submit.TooBig have limit) = refl
-    of_submit c (submit.FullRing need free) = refl
-    of_submit c (submit.FullBlocks need free) = refl
-
-    of_reset : (level : ℕ) (b : Bool) → (cond b (emptied (after_clean d) level) d).settings ≡ d.settings
-    of_reset level true = refl
-    of_reset level false = refl
-
-    of_tmr : (kind : ℕ) (ss : List ℕ) (a : Tmr) → (after_tmr d kind ss a).settings ≡ d.settings
-    of_tmr kind ss tmr.Noted = refl
-    of_tmr kind ss tmr.Off = refl
-    of_tmr kind ss tmr.Busy = refl
-    of_tmr kind ss (tmr.Unknown s) = refl
-    of_tmr kind ss (tmr.FullRing need free) = refl
 
 pub settings_step : (R : HandlerRelation) (d d' : Device) (e : EntryData) → Step R d e d' → d'.state.settings ≡ d.state.settings
 settings_step R d d' e h = made R (λ event a after. after.settings ≡ d.state.settings) d d' e.event e.answer (settings_kept d.state) h.makes
@@ -129,10 +106,10 @@ pub cut_on : (t n m : ℕ) → min (min t m + n) m ≡ min (t + n) m
 cut_on t n m = omega arith
 
 clock_kept : (d : DeviceState) (t : ℕ) → d.now ≡ min t (2 ^ 63) → KeptByEvents (λ e a after. after.now ≡ min (t + ticks_of e) (2 ^ 63)) d
-unfolding after_submit with_command with_delayed after_handle after_clean after_tick after_block after_reset after_restart after_tmr with_note
+unfolding with_command with_delayed after_handle after_clean after_tick after_block after_restart with_note
 clock_kept d t now =
     record {
-      submit = λ c a i q. of_submit c a;
+      submit = λ c a i q. submit_kept (λ x. x.now) d c a (λ s. refl) (λ s. refl) ∙ still;
       enter = λ a q. enter_kept (λ x. x.now) d a (λ w ws. refl) ∙ still;
       dispatch = λ a. dispatch_kept (λ x. x.now) d (λ i. refl) ∙ still;
       replied = λ s u reply f w p. still;
@@ -143,33 +120,14 @@ clock_kept d t now =
       tick = λ n count. ap (λ (x : ℕ). later x n) now ∙ cut_on t n (2 ^ 63);
       block = λ b. still;
       unblock = λ b. still;
-      reset = λ level a q. of_reset level (d.blocked && nat_eq (count_in_hand d) 0);
+      reset = λ level a q. reset_kept (λ x. x.now) d level refl ∙ still;
       restart = λ n. still;
-      tmr = λ kind ss a q. of_tmr kind ss a;
+      tmr = λ kind ss a q. tmr_kept (λ x. x.now) d kind ss a refl ∙ still;
       stat = λ a. still;
     }
   where
     still : d.now ≡ min (t + 0) (2 ^ 63)
     still = let z : t ≡ t + 0 = omega arith in now ∙ ap (λ (n : ℕ). min n (2 ^ 63)) z
-
-    of_submit : (c : CommandData) (a : Submit) → (after_submit d c a).now ≡ min (t + 0) (2 ^ 63)
-    of_submit c (submit.Queued s) = still
-    of_submit c (submit.Delayed s) = still
-    of_submit c submit.Busy = still
-    of_submit c (submit.TooBig have limit) = still
-    of_submit c (submit.FullRing need free) = still
-    of_submit c (submit.FullBlocks need free) = still
-
-    of_reset : (level : ℕ) (b : Bool) → (cond b (emptied (after_clean d) level) d).now ≡ min (t + 0) (2 ^ 63)
-    of_reset level true = still
-    of_reset level false = still
-
-    of_tmr : (kind : ℕ) (ss : List ℕ) (a : Tmr) → (after_tmr d kind ss a).now ≡ min (t + 0) (2 ^ 63)
-    of_tmr kind ss tmr.Noted = still
-    of_tmr kind ss tmr.Off = still
-    of_tmr kind ss tmr.Busy = still
-    of_tmr kind ss (tmr.Unknown s) = still
-    of_tmr kind ss (tmr.FullRing need free) = still
 
 pub clock_step : (R : HandlerRelation) (sofar : List EntryData) (d d' : Device) (e : EntryData) → d.state.now ≡ moment sofar → Step R d e d' → d'.state.now ≡ moment (sofar ++ e ∷ [])
 clock_step R sofar d d' e now h =

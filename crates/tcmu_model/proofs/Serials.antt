@@ -1,20 +1,18 @@
 -- Serials are given one after another, so each names one command of the journal.
-use Rattle.std.proofs.Common.{◌≡◌, ◌⊎◌, inl, inr, ℕ, ◌+◌, ◌≤◌, ◌&&◌, ◌==◌, not, nat_eq, nat_lt, Bool, true, false, cond, if◌then◌else◌, ◌/◌, ◌*◌, List, [], ◌∷◌, ◌++◌, length, Option, Some, None, refl, sym, ap, ◌∙◌, subst, arith, append_assoc, append-nil, ⊎_elim}
+use Rattle.std.proofs.Common.{◌≡◌, ◌⊎◌, inl, inr, ℕ, ◌+◌, ◌≤◌, ◌&&◌, ◌==◌, not, nat_lt, Bool, true, false, if◌then◌else◌, ◌/◌, ◌*◌, List, [], ◌∷◌, ◌++◌, length, Option, Some, None, refl, sym, ap, ◌∙◌, subst, arith, append_assoc, append-nil, ⊎_elim}
 use Rattle.tcmu_types.specs.Data.{CommandData, SettingsData}
 use Rattle.tcmu_types.specs.Events.{EventData, AnswerData, EntryData}
 use Rattle.tcmu_types.specs.Events as ev
 use Rattle.tcmu_types.specs.declared.answer.Submit.{Submit}
 use Rattle.tcmu_types.specs.declared.answer.Submit.TheVariants as submit
-use Rattle.tcmu_types.specs.declared.answer.Tmr.{Tmr}
-use Rattle.tcmu_types.specs.declared.answer.Tmr.TheVariants as tmr
 use Rattle.tcmu_model.specs.MediumState.{MediumState}
 use Rattle.tcmu_model.specs.RingState.{need, free}
 use Rattle.tcmu_model.specs.Device.{DeviceState, Device, opening}
-use Rattle.tcmu_model.specs.Events.{entry_length_in, blocks_in, free_blocks, fits_ring, fits_blocks, queued_or_full, queued_or_delayed, submit_answer, with_command, with_delayed, after_submit, after_handle, after_clean, after_tick, after_block, emptied, count_in_hand, after_reset, after_restart, with_note, after_tmr}
+use Rattle.tcmu_model.specs.Events.{entry_length_in, blocks_in, free_blocks, fits_ring, fits_blocks, queued_or_full, queued_or_delayed, submit_answer, with_command, with_delayed, after_submit, after_handle, after_clean, after_tick, after_block, after_restart, with_note}
 use Rattle.tcmu_model.specs.Steps.{HandlerRelation, Run}
 use Rattle.tcmu_model.specs.Journals.{Has, WasAccepted}
 use Rattle.tcmu_model.proofs.KeptByEvents.{KeptByEvents, made}
-use Rattle.tcmu_model.proofs.Unnamed.{enter_kept, dispatch_kept, respond_kept, publish_kept}
+use Rattle.tcmu_model.proofs.Unnamed.{enter_kept, dispatch_kept, respond_kept, publish_kept, reset_kept, tmr_kept}
 
 -- the serial that an answer gives
 given_by : AnswerData → Option ℕ
@@ -63,7 +61,7 @@ next_serial d c s h = go d.blocked (nat_lt d.ring.size (2 * entry_length_in d c)
     go false false false false true true false (inr e) = cc
 
 each_event : (d : DeviceState) → KeptByEvents (λ e a after. GivesNext d.accepted (given_by a) after.accepted) d
-unfolding given_by GivesNext after_submit with_command with_delayed after_handle after_clean after_tick after_block after_reset after_restart after_tmr with_note
+unfolding given_by GivesNext after_submit with_command with_delayed after_handle after_clean after_tick after_block after_restart with_note
 each_event d =
     record {
       submit = λ c a i q. of_submit c a q;
@@ -77,9 +75,9 @@ each_event d =
       tick = λ n count. refl;
       block = λ b. refl;
       unblock = λ b. refl;
-      reset = λ level a q. of_reset level (d.blocked && nat_eq (count_in_hand d) 0);
+      reset = λ level a q. reset_kept (λ x. x.accepted) d level refl;
       restart = λ n. refl;
-      tmr = λ kind ss a q. of_tmr kind ss a;
+      tmr = λ kind ss a q. tmr_kept (λ x. x.accepted) d kind ss a refl;
       stat = λ a. refl;
     }
   where
@@ -90,17 +88,6 @@ each_event d =
     of_submit c (submit.TooBig have limit) q = refl
     of_submit c (submit.FullRing need free) q = refl
     of_submit c (submit.FullBlocks need free) q = refl
-
-    of_reset : (level : ℕ) (b : Bool) → (cond b (emptied (after_clean d) level) d).accepted ≡ d.accepted
-    of_reset level true = refl
-    of_reset level false = refl
-
-    of_tmr : (kind : ℕ) (ss : List ℕ) (a : Tmr) → (after_tmr d kind ss a).accepted ≡ d.accepted
-    of_tmr kind ss tmr.Noted = refl
-    of_tmr kind ss tmr.Off = refl
-    of_tmr kind ss tmr.Busy = refl
-    of_tmr kind ss (tmr.Unknown s) = refl
-    of_tmr kind ss (tmr.FullRing need free) = refl
 
 -- ==== journals
 

@@ -1,10 +1,15 @@
 -- What an event does not name stays: one lemma an event, for any part of the state.
-use Rattle.std.proofs.Common.{◌≡◌, ℕ, Bool, true, false, List, [], ◌∷◌, Option, Some, None, refl, if◌then◌else◌}
+use Rattle.std.proofs.Common.{◌≡◌, ℕ, Bool, true, false, cond, ◌&&◌, nat_eq, List, [], ◌∷◌, Option, Some, None, refl, if◌then◌else◌}
+use Rattle.tcmu_types.specs.Data.{CommandData}
+use Rattle.tcmu_types.specs.declared.answer.Submit.{Submit}
+use Rattle.tcmu_types.specs.declared.answer.Submit.TheVariants as submit
+use Rattle.tcmu_types.specs.declared.answer.Tmr.{Tmr}
+use Rattle.tcmu_types.specs.declared.answer.Tmr.TheVariants as tmr
 use Rattle.tcmu_types.specs.declared.answer.Enter.{Enter}
 use Rattle.tcmu_types.specs.declared.answer.Enter.TheVariants as enter
 use Rattle.tcmu_model.specs.RingState.{Item}
 use Rattle.tcmu_model.specs.Device.{Delayed, DeviceState}
-use Rattle.tcmu_model.specs.Events.{with_command, after_enter, after_entering, after_dispatch, next_item, passed, after_item, after_respond, is_handled, placing, after_publish, publishable}
+use Rattle.tcmu_model.specs.Events.{with_command, with_delayed, one_accepted, after_submit, after_clean, emptied, count_in_hand, after_reset, with_note, after_tmr, after_enter, after_entering, after_dispatch, next_item, passed, after_item, after_respond, is_handled, placing, after_publish, publishable}
 
 -- a device behind a dispatch of this item, if there is one
 abbrev pub found_item : DeviceState → Option Item → DeviceState
@@ -45,3 +50,28 @@ publish_kept g d h = go d.attached
     go : (b : Bool) → g (if b then record d { ring = record d.ring { published = publishable d } } else d) ≡ g d
     go true = h
     go false = refl
+
+pub submit_kept : {X : Type 0} (g : DeviceState → X) (d : DeviceState) (c : CommandData) (a : Submit) → ((s : ℕ) → g (with_command (one_accepted d) s c) ≡ g d) → ((s : ℕ) → g (with_delayed (one_accepted d) s c) ≡ g d) → g (after_submit d c a) ≡ g d
+unfolding after_submit
+submit_kept g d c (submit.Queued s) h k = h s
+submit_kept g d c (submit.Delayed s) h k = k s
+submit_kept g d c submit.Busy h k = refl
+submit_kept g d c (submit.TooBig have limit) h k = refl
+submit_kept g d c (submit.FullRing need free) h k = refl
+submit_kept g d c (submit.FullBlocks need free) h k = refl
+
+pub reset_kept : {X : Type 0} (g : DeviceState → X) (d : DeviceState) (level : ℕ) → g (emptied (after_clean d) level) ≡ g d → g (after_reset d level) ≡ g d
+unfolding after_reset
+reset_kept g d level h = go (d.blocked && nat_eq (count_in_hand d) 0)
+  where
+    go : (b : Bool) → g (cond b (emptied (after_clean d) level) d) ≡ g d
+    go true = h
+    go false = refl
+
+pub tmr_kept : {X : Type 0} (g : DeviceState → X) (d : DeviceState) (kind : ℕ) (ss : List ℕ) (a : Tmr) → g (with_note d kind ss) ≡ g d → g (after_tmr d kind ss a) ≡ g d
+unfolding after_tmr
+tmr_kept g d kind ss tmr.Noted h = h
+tmr_kept g d kind ss tmr.Off h = refl
+tmr_kept g d kind ss tmr.Busy h = refl
+tmr_kept g d kind ss (tmr.Unknown s) h = refl
+tmr_kept g d kind ss (tmr.FullRing need free) h = refl

@@ -10,5 +10,4 @@ pub mod Rooms
 pub mod RowsAfter
 pub mod Taking
 pub mod Tallying
-pub mod Turns
 pub mod Picked

@@ -1,13 +1,9 @@
--- The delayed command that is next to enter.
-use Rattle.std.specs.Prelude.{◌≡◌, ◌≤◌, ℕ, List, ◌∷◌}
+-- Room for the delayed command that is next to enter.
+use Rattle.std.specs.Prelude.{◌≡◌, ◌≤◌, ℕ}
 use Rattle.tcmu_model.specs.RingState.{need, free}
 use Rattle.tcmu_model.specs.Device.{Delayed, DeviceState}
 use Rattle.tcmu_model.specs.Events.{entry_length_in, blocks_in, free_blocks}
-
--- w is the first of them
-pub record IsNext (ws : List Delayed) (w : Delayed) : Type 0 where
-  pub rest : List Delayed
-  pub is : ws ≡ w ∷ rest
+use Rattle.delayed_commands.specs.Waits.{IsNext}
 
 -- the first of them has room, for an entry of so many bytes and so many data blocks
 pub record NextFits (d : DeviceState) (len blocks : ℕ) : Type 0 where

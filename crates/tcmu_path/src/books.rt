@@ -7,10 +7,10 @@ ghost use Rattle.tcmu_path.specs.Away.{AreAway};
 ghost use Rattle.tcmu_path.specs.Changing.{books_of};
 ghost use Rattle.tcmu_path.specs.Room.{to_place, to_log, blocks_of_commands, KeepsRoom};
 
-use crate::closings::reset_completion;
 use crate::ring::Ring;
 use crate::row::Row;
 use crate::rows::Rows;
+use delayed_commands::reset_completion;
 use std::alloc::Global;
 use std::collections::VecDeque;
 use tcmu_model::blocks_of;

@@ -2,7 +2,6 @@
 #![tactic(auto)]
 
 mod books;
-mod closings;
 mod count;
 mod dispatching;
 mod events;
@@ -14,7 +13,6 @@ mod row;
 mod rows;
 mod state;
 mod tally;
-mod waiting;
 
 pub use count::open_count;
 pub use events::{make_event, next_event};

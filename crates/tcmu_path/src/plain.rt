@@ -1,6 +1,7 @@
 //! A device that keeps plain lists.
 ghost use Rattle.std.specs.Prelude.{◌≡◌};
 ghost use Rattle.tcmu_model.specs.Device.{opening};
+ghost use Rattle.tcmu_path.specs.Calls.{OpensLists};
 
 use crate::path::Path;
 use crate::state::State;
@@ -33,7 +34,8 @@ impl<H: Handler + Drop> Model for PlainPath<H> {
 impl<H: Handler + Drop> PlainPath<H> {
     /// A device as it opens, over a handler's medium.
     pub fn new(alloc: Global, settings: Settings, handler: H) -> PlainPath<H>
-        ensures { result ≡ opening settings (H.name handler) (H.medium handler) }
+        ensures device { result ≡ opening settings (H.name handler) (H.medium handler) }
+        ensures lists { OpensLists (⟦<PlainPath<H> as Path>⟧.lists result) }
     {
         PlainPath {
             state: State::new(alloc, settings),

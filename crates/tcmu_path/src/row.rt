@@ -8,7 +8,7 @@ ghost use Rattle.tcmu_model.specs.Events.{unknown_serial, is_in_hand, is_losing,
 ghost use Rattle.tcmu_types.specs.Numbers.{is_among};
 ghost use Rattle.tcmu_model.specs.Steps.{asked};
 
-use crate::closings::{COMMUNICATION_TIME_OUT, closing};
+use delayed_commands::{COMMUNICATION_TIME_OUT, closing};
 use handler_trait::Request;
 use std::alloc::Global;
 use std::marker::Model;

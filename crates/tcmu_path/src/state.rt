@@ -20,7 +20,7 @@ use crate::dispatching::dispatch_item;
 use crate::placing::{place, place_in_order};
 use crate::ring::Ring;
 use crate::rows::Rows;
-use crate::waiting::DelayedCommands;
+use delayed_commands::DelayedCommands;
 use handler_trait::Request;
 use std::alloc::Global;
 use std::marker::Model;

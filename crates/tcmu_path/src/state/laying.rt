@@ -13,7 +13,7 @@ use crate::dispatching::append;
 use crate::ring::{Content, RingItem};
 use crate::row::{Row, room_for};
 use crate::rows::unknown;
-use crate::waiting::DelayedCommand;
+use delayed_commands::DelayedCommand;
 use std::snapshot::Snapshot;
 use tcmu_model::{blocks_of, entry_length, tmr_length};
 use tcmu_types::{Command, Enter, NoMemory, Serials, Submit, Tmr};

@@ -2,7 +2,7 @@ use Rattle.std.proofs.Common.{◌≤◌, ap, subst, ◌∙◌, arith}
 use Rattle.tcmu_model.specs.RingState.{need, free}
 use Rattle.tcmu_model.specs.Device.{Delayed, DeviceState}
 use Rattle.tcmu_model.specs.Events.{entry_length_in, blocks_in}
-use Rattle.tcmu_path.specs.Waits.{IsNext}
+use Rattle.delayed_commands.specs.Waits.{IsNext}
 use Rattle.tcmu_path.proofs.state.State.enter.Goals as goal
 
 pub enter_first-requires-clause-next : goal.enter_first-requires-clause-next
