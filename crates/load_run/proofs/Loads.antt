@@ -5,6 +5,7 @@ use Rattle.tcmu_model.specs.Device.{Device}
 use Rattle.tcmu_model.specs.Sound.{IsSound}
 use Rattle.tcmu_types.specs.Lists.{Every}
 use Rattle.text_model.specs.ScenarioData.{LineData}
+use Rattle.text_model.specs.Replay.{Plays}
 use Rattle.text_model.specs.Several.{ReplaysEach}
 use Rattle.text_model.specs.Load.{load_device, load_lines, random_of, LoadNumbers, summary_text}
 use Rattle.tcmu_model.proofs.SoundEvents.{sound_opening}
@@ -46,14 +47,14 @@ lines_fit seed (suc i) =
 
 -- what play_lines says of the load's device and lines
 abbrev pub LoadPlayed : ℕ → ℕ → Device → List (Option ℕ) → Type 0
-LoadPlayed seed count d sizes = Played Serves (λ es. ReplaysEach Serves (opened_load ∷ []) (load_lines seed count) es (d ∷ [])) opened_load d (None ∷ []) sizes
+LoadPlayed seed count d sizes = Played Serves (λ es. ReplaysEach (Plays Serves) (opened_load ∷ []) (load_lines seed count) es (d ∷ [])) opened_load d (None ∷ []) sizes
 
 pub load_played : (seed count : ℕ) (start d : Device) (lines : List LineData) (first sizes : List (Option ℕ)) → start ≡ opened_load → lines ≡ load_lines seed count → first ≡ None ∷ []
-    → Played Serves (λ es. ReplaysEach Serves (start ∷ []) lines es (d ∷ [])) start d first sizes → LoadPlayed seed count d sizes
+    → Played Serves (λ es. ReplaysEach (Plays Serves) (start ∷ []) lines es (d ∷ [])) start d first sizes → LoadPlayed seed count d sizes
 load_played seed count start d lines first sizes e f s p =
-    subst (λ (x : Device). Played Serves (λ es. ReplaysEach Serves (x ∷ []) (load_lines seed count) es (d ∷ [])) x d (None ∷ []) sizes) e
-    (subst (λ (ls : List LineData). Played Serves (λ es. ReplaysEach Serves (start ∷ []) ls es (d ∷ [])) start d (None ∷ []) sizes) f
-    (subst (λ (xs : List (Option ℕ)). Played Serves (λ es. ReplaysEach Serves (start ∷ []) lines es (d ∷ [])) start d xs sizes) s p))
+    subst (λ (x : Device). Played Serves (λ es. ReplaysEach (Plays Serves) (x ∷ []) (load_lines seed count) es (d ∷ [])) x d (None ∷ []) sizes) e
+    (subst (λ (ls : List LineData). Played Serves (λ es. ReplaysEach (Plays Serves) (start ∷ []) ls es (d ∷ [])) start d (None ∷ []) sizes) f
+    (subst (λ (xs : List (Option ℕ)). Played Serves (λ es. ReplaysEach (Plays Serves) (start ∷ []) lines es (d ∷ [])) start d xs sizes) s p))
 
 pub load_sound : (seed count : ℕ) (d : Device) (sizes : List (Option ℕ)) → LoadPlayed seed count d sizes → IsSound d.state
 load_sound seed count d sizes p = sound_run Serves opened_load d p.entries opened_sound (run_of Serves opened_load d p.entries p.run)

@@ -208,7 +208,7 @@ line_played R d d' event what old now is p =
 pub record Playing (R : HandlerRelation) (start d : Device) (lines left : List LineData) (old now : List (Option ℕ)) : Type 0 where
   pub sofar : List EntryData
   pub run : RunNumbers R start sofar d
-  pub goes_on : (rest : List EntryData) (ends : List Device) → ReplaysEach R (d ∷ []) left rest ends → ReplaysEach R (start ∷ []) lines (sofar ++ rest) ends
+  pub goes_on : (rest : List EntryData) (ends : List Device) → ReplaysEach (Plays R) (d ∷ []) left rest ends → ReplaysEach (Plays R) (start ∷ []) lines (sofar ++ rest) ends
   pub noted : now ≡ old ++ sizes_of sofar
   pub sound : IsSound d.state
 
@@ -226,15 +226,15 @@ playing_more R start d d' lines left l old mid now lt so p =
           let found : slice_get (d ∷ []) l.device ≡ Some d = rw at refl in
           let plays : Plays R l.device d l.what p.entries d' = subst (λ (n : ℕ). Plays R n d l.what p.entries d') (sym at) p.right in
           let others : slice_set (d ∷ []) l.device d' ≡ d' ∷ [] = rw at refl in
-          let more : ReplaysEach R (slice_set (d ∷ []) l.device d') left rest ends = subst (λ (ds : List Device). ReplaysEach R ds left rest ends) (sym others) h in
-          subst (λ (es : List EntryData). ReplaysEach R (start ∷ []) lines es ends) (sym (append_assoc so.sofar p.entries rest))
+          let more : ReplaysEach (Plays R) (slice_set (d ∷ []) l.device d') left rest ends = subst (λ (ds : List Device). ReplaysEach (Plays R) ds left rest ends) (sym others) h in
+          subst (λ (es : List EntryData). ReplaysEach (Plays R) (start ∷ []) lines es ends) (sym (append_assoc so.sofar p.entries rest))
           (so.goes_on (p.entries ++ rest) ends (p.entries, rest, d, d', refl, found, plays, more));
       noted = noted_more old mid now so.sofar p.entries so.noted p.noted;
       sound = sound_run R d d' p.entries so.sound (run_of R d d' p.entries p.run);
     }
 
 pub playing_done : (R : HandlerRelation) (start d d' : Device) (lines : List LineData) (old mid now : List (Option ℕ))
-    → Playing R start d lines [] old mid → Played R (λ es. Drains R 0 d es d') d d' mid now → Played R (λ es. ReplaysEach R (start ∷ []) lines es (d' ∷ [])) start d' old now
+    → Playing R start d lines [] old mid → Played R (λ es. Drains R 0 d es d') d d' mid now → Played R (λ es. ReplaysEach (Plays R) (start ∷ []) lines es (d' ∷ [])) start d' old now
 playing_done R start d d' lines old mid now so p =
     record {
       entries = so.sofar ++ p.entries;

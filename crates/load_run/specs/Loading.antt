@@ -6,6 +6,7 @@ use Rattle.scsi_model.specs.Scsi.{Serves}
 use Rattle.tcmu_model.specs.Device.{Device, opening}
 use Rattle.tcmu_model.specs.Steps.{Run}
 use Rattle.text_model.specs.ScenarioData.{DeviceLineData}
+use Rattle.text_model.specs.Replay.{Plays}
 use Rattle.text_model.specs.Several.{ReplaysEach}
 use Rattle.text_model.specs.Load.{load_device, load_lines, load_numbers, summary_text}
 
@@ -21,6 +22,6 @@ opened_load = opened_over 4096 load_device
 pub record IsLoadText (seed count : ℕ) (text : List ℕ) : Type 0 where
   pub entries : List EntryData
   pub end : Device
-  pub replays : ReplaysEach Serves (opened_load ∷ []) (load_lines seed count) entries (end ∷ [])
+  pub replays : ReplaysEach (Plays Serves) (opened_load ∷ []) (load_lines seed count) entries (end ∷ [])
   pub legal : Run Serves opened_load entries end
   pub whole : text ≡ summary_text seed count (load_numbers entries end.state)

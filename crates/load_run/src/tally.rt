@@ -101,7 +101,7 @@ pub fn play_lines<P: Path>(
     requires few { (P.device path.old).state.accepted + length lines.now < 2 ^ 63 }
     requires sound { IsSound (P.device path.old).state }
     requires fit { Every (IsFitFor 1) lines.now }
-    ensures made { OnOk result (Played P.relation (λ es. ReplaysEach P.relation (P.device path.old ∷ []) lines.now es (P.device path.new ∷ [])) (P.device path.old) (P.device path.new) sizes.old.items sizes.new.items) }
+    ensures made { OnOk result (Played P.relation (λ es. ReplaysEach (Plays P.relation) (P.device path.old ∷ []) lines.now es (P.device path.new ∷ [])) (P.device path.old) (P.device path.new) sizes.old.items sizes.new.items) }
     ensures accepts { OnOk result (Accepts (length lines.now) (P.device path.old) (P.device path.new)) }
 {
     for line in lines {

@@ -15,7 +15,7 @@ use Rattle.tcmu_model.specs.Drain.{least_serial, chosen, todo_of, nothing_to_do,
 use Rattle.text_model.specs.ScenarioData.{LineWhat, LineData, command_of}
 use Rattle.text_model.specs.ScenarioData as line
 use Rattle.text_model.specs.ScenarioRules.{IsEvent, IsWhat}
-use Rattle.text_model.specs.Replay.{Plays}
+use Rattle.text_model.specs.Replay.{Plays, made, lines_of}
 use Rattle.text_model.specs.Several.{DrainsEach, ReplaysEach}
 use Rattle.tcmu_model.specs.Sound.{IsSound}
 use Rattle.tcmu_types.proofs.Everies.{every-append, every-weaker, every-mapped, every-first, every_at}
@@ -24,8 +24,7 @@ use Rattle.tcmu_types.proofs.Rises.{rise_within}
 use Rattle.tcmu_types.proofs.Readings.{same_some, mapped}
 use Rattle.tcmu_model.proofs.Runs.{sound_step}
 use Rattle.text_laws.specs.Carried.{IsCarriedWhat}
-use Rattle.text_laws.specs.Lines.{CarriesBytes, made}
-use Rattle.text_laws.specs.Replays.{lines_of}
+use Rattle.text_laws.specs.Lines.{CarriesBytes}
 use Rattle.text_laws.proofs.Accepted.{accepts_one, makes_accepts}
 use Rattle.text_laws.proofs.Sets.{every_set}
 use Rattle.tcmu_model.proofs.Draining.{all_todo}
@@ -157,7 +156,9 @@ plays R devices n l (line.EventLine event) d d' es lt few h is carried p =
 plays R devices n l line.DrainLine d d' es lt few h is carried p =
     let all = drained R devices l.device n d d' es lt few h p in
     record { entries = all.made.entries; sends_these = all.made.sends_these; after = more_accepted n (n + 1) d' (omega arith) all.made.after }
-plays R devices n l line.DumpLine d d' es lt few h is carried p = absurd p
+plays R devices n l line.DumpLine d d' es lt few h is carried p =
+    let none : MadeOf devices (n + 1) [] (record { device = l.device; what = line.DumpLine } ∷ []) d' = record { entries = tt; sends_these = refl; after = more_accepted n (n + 1) d' (omega arith) (subst (HasAccepted n) (sym p.1) h) } in
+    subst (λ (xs : List EntryData). MadeOf devices (n + 1) xs (record { device = l.device; what = line.DumpLine } ∷ []) d') (sym p.0) none
 
 -- ---- all lines
 
@@ -177,7 +178,7 @@ sent_joined a b ks ls h k =
     ap sent (lines_append a b) ∙ filter-append sends (lines_of a) (lines_of b)
     ∙ ap (λ (x : List LineData). x ++ sent (lines_of b)) h ∙ ap (λ (x : List LineData). sent ks ++ x) k ∙ sym (filter-append sends ks ls)
 
-drains_each : (R : HandlerRelation) (devices at n : ℕ) (ds ends : List Device) (es : List EntryData) → at + length ds ≤ devices → n ≤ 1000000000 → Every (HasAccepted n) ds → DrainsEach R at ds es ends
+drains_each : (R : HandlerRelation) (devices at n : ℕ) (ds ends : List Device) (es : List EntryData) → at + length ds ≤ devices → n ≤ 1000000000 → Every (HasAccepted n) ds → DrainsEach (Plays R) at ds es ends
     → Every (IsWithinLines devices) es × (sent (lines_of es) ≡ []) × Every (λ d. drain_event d.state ≡ None) ends × (length ends ≡ length ds)
 drains_each R devices at n [] ends es within few h drains =
     (subst (Every (IsWithinLines devices)) (sym drains.0) tt, ap (λ (xs : List EntryData). sent (lines_of xs)) drains.0, subst (Every (λ d. drain_event d.state ≡ None)) (sym drains.1) tt, ap (λ (xs : List Device). length xs) drains.1)
@@ -191,7 +192,7 @@ drains_each R devices at n (d ∷ ds) ends es within few h drains =
       ap (λ (xs : List Device). length xs) drains.5 ∙ ap suc next.3,
     )
 
-pub replays_asked : (R : HandlerRelation) (n : ℕ) (ds ends : List Device) (lines : List LineData) (es : List EntryData) → n + length lines ≤ 1000000000 → Every (HasAccepted n) ds → Every IsAskable lines → ReplaysEach R ds lines es ends → IsAsked (length ds) es lines ends
+pub replays_asked : (R : HandlerRelation) (n : ℕ) (ds ends : List Device) (lines : List LineData) (es : List EntryData) → n + length lines ≤ 1000000000 → Every (HasAccepted n) ds → Every IsAskable lines → ReplaysEach (Plays R) ds lines es ends → IsAsked (length ds) es lines ends
 replays_asked R n ds ends [] es few h is replays =
     let all = drains_each R (length ds) 0 n ds ends es (omega arith) (omega (arith, few)) h replays in
     record { entries = all.0; sends_these = all.1; rest = all.2; count = all.3 }

@@ -5,9 +5,9 @@ use Rattle.tcmu_types.specs.Events.{EventData, AnswerData}
 use Rattle.tcmu_types.specs.Events as ev
 use Rattle.tcmu_model.specs.Device.{Device}
 use Rattle.text_model.specs.ScenarioRules.{IsEvent}
-use Rattle.text_model.specs.Several.{Journaled, RunLogs}
 use Rattle.tcmu_types.specs.Lists.{Every}
 use Rattle.tcmu_model.specs.Steps.{HandlerRelation, Makes}
+use Rattle.text_model.specs.Journals.{Journaled, RunLogs}
 use Rattle.text_laws.specs.Lines.{CarriesBytes}
 use Rattle.text_laws.specs.Values.{IsEventValue}
 use Rattle.text_laws.proofs.Lists.{rising_numbers}

@@ -21,7 +21,7 @@ use Rattle.text_model.specs.ScenarioRules.{IsMedium}
 use Rattle.text_model.specs.Said.{SaysDevice, has_name, new_name, is_own, device_config, ring_of, qfull_of, pages_of, settings_of, device_line, said_by}
 use Rattle.text_model.specs.Scenario.{with_fields, with_text}
 use Rattle.text_model.specs.Text.{spaced, config_text, flags_text, last_text, settings_text, device_spelling}
-use Rattle.text_laws.specs.Words.{is_field_byte, IsWord, AreWords}
+use Rattle.text_model.specs.Fields.{is_field_byte, IsWord, AreWords}
 use Rattle.text_laws.specs.Configs.{is_other, FileLacks}
 use Rattle.text_laws.specs.Devices.{IsSpelledDevice, IsNew, DevicesAgain}
 use Rattle.text_laws.proofs.Numbers.{number_again}

@@ -13,9 +13,9 @@ use Rattle.tcmu_types.specs.Decimals.{is_digit}
 use Rattle.tcmu_types.specs.Fields.{cut_at, pieces}
 use Rattle.tcmu_types.specs.Lists.{Every}
 use Rattle.text_model.specs.Text.{spaced, line, payload_text, numbers_text, kind_word, blocks_text, item_text, held_text, dump_text}
+use Rattle.text_model.specs.Fields.{is_field_byte}
 use Rattle.tcmu_types.proofs.Readings.{same_some}
 use Rattle.text_laws.specs.Configs.{is_other}
-use Rattle.text_laws.specs.Words.{is_field_byte}
 use Rattle.text_laws.specs.Dumps.{IsItemValue, IsHeldValue, IsDumpValue, DumpsTold}
 use Rattle.text_laws.proofs.Apart.{head_or, behind_same, told_apart}
 use Rattle.text_laws.proofs.Cuts.{cut_again}

@@ -19,9 +19,9 @@ use Rattle.text_model.specs.Lines.{PayloadField, payload_fields}
 use Rattle.text_model.specs.Said.{payload_of}
 use Rattle.text_model.specs.Words.{verb_of}
 use Rattle.text_model.specs.Text.{spaced, numbers_text, serials_text, data_fields, event_text, command_text}
+use Rattle.text_model.specs.Fields.{IsWord, AreWords}
 use Rattle.tcmu_types.proofs.Readings.{same_some}
 use Rattle.text_laws.specs.Values.{IsNumber, AreNumbers, IsEventValue}
-use Rattle.text_laws.specs.Words.{IsWord, AreWords}
 use Rattle.text_laws.proofs.Apart.{head_or}
 use Rattle.text_laws.proofs.Asks.{AsksCommand}
 use Rattle.text_laws.proofs.Events.{data_words, payload_again}

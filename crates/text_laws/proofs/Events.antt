@@ -11,7 +11,7 @@ use Rattle.tcmu_types.specs.Data.{CommandData}
 use Rattle.tcmu_types.specs.Events.{EventData}
 use Rattle.tcmu_types.specs.Events as ev
 use Rattle.text_model.specs.declared.faults.Why.TheVariants as why
-use Rattle.text_model.specs.Fields.{name_of}
+use Rattle.text_model.specs.Fields.{name_of, IsWord, AreWords}
 use Rattle.tcmu_types.specs.Fields.{only_if, is_allowed, fields_of}
 use Rattle.text_model.specs.Words.{verb_of}
 use Rattle.text_model.specs.Lines.{submit_fields, PayloadField, NoPayload, InBytes, OutRuns, payload_fields}
@@ -21,9 +21,9 @@ use Rattle.text_model.specs.Said.{SaysLine, device_at, said_by, plain_line, numb
 use Rattle.text_model.specs.Scenario.{with_said, with_fields, with_text}
 use Rattle.text_model.specs.Text.{spaced, event_text, command_text, data_fields, serials_text, runs_text}
 use Rattle.text_model.specs.declared.limits.Limits.{Limits}
+use Rattle.text_model.specs.Replay.{made}
 use Rattle.tcmu_types.specs.Hex.{hex_byte}
-use Rattle.text_laws.specs.Words.{IsWord, AreWords}
-use Rattle.text_laws.specs.Lines.{IsCarried, made, EventsAgain}
+use Rattle.text_laws.specs.Lines.{IsCarried, EventsAgain}
 use Rattle.text_laws.proofs.Numbers.{number_again}
 use Rattle.text_laws.proofs.Hex.{cdb_again}
 use Rattle.text_laws.proofs.Lists.{serials_again, rising_numbers}

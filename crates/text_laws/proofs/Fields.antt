@@ -9,10 +9,10 @@ use Rattle.tcmu_types.specs.Naming.{is_name, is_letter, is_name_byte}
 use Rattle.tcmu_types.specs.Decimals.{is_digit}
 use Rattle.tcmu_types.specs.Lists.{Every}
 use Rattle.text_model.specs.Text.{runs, run_text, runs_text, numbers_text, serials_text}
+use Rattle.text_model.specs.Fields.{is_field_byte, IsWord}
 use Rattle.tcmu_types.specs.Hex.{hex_digit, hex_byte}
 use Rattle.text_laws.specs.Bytes.{AreBytes}
 use Rattle.text_laws.specs.Values.{IsNumber, AreNumbers}
-use Rattle.text_laws.specs.Words.{is_field_byte, IsWord}
 use Rattle.text_laws.proofs.Numbers.{all_digits}
 use Rattle.text_laws.proofs.Lists.{shown}
 use Rattle.text_laws.proofs.Runs.{AreRuns, are_runs}

@@ -1,5 +1,5 @@
 -- The law of replay over media in memory.
-use Rattle.std.proofs.Common.{◌≡◌, inl, ℕ, List, [], ◌∷◌, length, Option, Some, None, Ok, refl, sym, ◌∙◌, subst}
+use Rattle.std.proofs.Common.{◌≡◌, inl, ℕ, List, [], ◌∷◌, length, Option, Some, None, Ok, refl, sym, ap, ◌∙◌, subst}
 use Rattle.std.specs.Option.{option_map}
 use Rattle.tcmu_types.specs.Events.{EntryData}
 use Rattle.tcmu_types.specs.Reading.{each}
@@ -10,13 +10,18 @@ use Rattle.text_model.specs.Config.{MediumData, InMemory, InFile}
 use Rattle.text_model.specs.ScenarioData.{DeviceLineData, ScenarioData}
 use Rattle.text_model.specs.Scenario.{scenario_limits, scenario_of}
 use Rattle.scsi_model.specs.Scsi.{Serves}
-use Rattle.text_model.specs.Several.{Journaled, IsReplayOf}
+use Rattle.region_model.specs.Picture.{picture_of}
+use Rattle.text_model.specs.Printed.{entries_in}
+use Rattle.text_model.specs.Several.{IsReplayOf}
 use Rattle.tcmu_types.specs.Lists.{Every}
 use Rattle.tcmu_types.proofs.Everies.{every-mapped, every-weaker}
 use Rattle.tcmu_types.proofs.Readings.{same_some, same_ok, both, mapped}
+use Rattle.text_model.proofs.PrintedJournals.{undumped, replays_alone}
 use Rattle.text_model.proofs.ScenarioLaws.{scenario_is}
+use Rattle.text_model.proofs.ServedLaws.{scenario_served}
+use Rattle.text_model.specs.Journals.{Journaled, entries_of}
 use Rattle.block_engine.specs.Determined.{LosesNothing}
-use Rattle.text_laws.specs.Replays.{entries_of, written, OpenAs, IsJournalOf}
+use Rattle.text_laws.specs.Replays.{written, OpenAs, IsJournalOf}
 use Rattle.text_laws.specs.Values.{IsEventValue}
 use Rattle.text_laws.specs.InMemory.{memory_device, IsTextInMemory, IsOwnText, LawOfReplay, LawOfJournals, HasOneText, HasOneJournal}
 use Rattle.text_laws.proofs.Asked.{IsWithinLines}
@@ -63,10 +68,11 @@ has_one_text bytes t u r s read read' is it = go r (same_ok r s (sym read ∙ re
         let mine : IsTextInMemory s t = subst (λ (x : ScenarioData). IsTextInMemory x t) same is in
         let starts = all_open s.devices mine.opened mine.memory in
         let devices : it.opened ≡ mine.opened = same_some it.opened mine.opened (sym it.memory ∙ mine.memory) in
-        one_text bytes s mine.opened t u read' starts.0 starts.1 mine.replay (subst (λ (x : List Device). IsReplayOf Serves s.devices x s.lines u) devices it.replay)
+        let other = subst (λ (x : List Device). IsReplayOf Serves picture_of s.devices x s.lines u) devices it.replay in
+        (one_text picture_of s.devices s.lines mine.opened t u starts.1 mine.replay other).text
 
 -- the text of a scenario's replay is its own
-own_text : (text : List ℕ) (t : ScenarioData) (opened : List Device) → scenario_of text ≡ Ok t → each memory_device t.devices ≡ Some opened → IsReplayOf Serves t.devices opened t.lines text → IsOwnText t text
+own_text : (text : List ℕ) (t : ScenarioData) (opened : List Device) → scenario_of text ≡ Ok t → each memory_device t.devices ≡ Some opened → IsReplayOf Serves picture_of t.devices opened t.lines text → IsOwnText t text
 own_text text t opened read memory replay =
     let is : IsTextInMemory t text = record { opened = opened; memory = memory; replay = replay } in
     record { is = is; only = λ own it. has_one_text text own text t t read read it is }
@@ -74,30 +80,45 @@ own_text text t opened read memory replay =
 pub law_of_replay : LawOfReplay
 law_of_replay bytes text s read is size few =
     let starts = all_open s.devices is.opened is.memory in
-    let again = scenario_again Serves bytes text s is.opened read starts.0 is.replay size few in
-    let t = written s.devices (entries_of is.replay.journal) in
+    let again = scenario_again Serves picture_of bytes text s is.opened read starts.0 is.replay size few in
+    let t = written s.devices (entries_of (entries_in is.replay.printed)) in
     (t, again.0, own_text text t is.opened again.0 is.memory again.1)
 
 pub law_of_journals : LawOfJournals
 law_of_journals bytes text s js read is keeps =
     let back = read_back Serves scenario_limits s.devices is.opened js is.ends text (spelled_read scenario_limits bytes s read) is.journal keeps in
-    let replay = replayed_again Serves s.devices is.opened js is.ends text is.journal is.done in
+    let replay = replayed_again Serves picture_of s.devices is.opened js is.ends text is.journal is.done in
     (back, own_text text (written s.devices (entries_of js)) is.opened back is.memory replay)
 
 -- the events of a scenario's replay are events of the code
-are_values : (bytes text : List ℕ) (s : ScenarioData) → scenario_of bytes ≡ Ok s → (is : IsTextInMemory s text) → Every (λ j. IsEventValue j.entry.event) is.replay.journal
+are_values : (bytes text : List ℕ) (s : ScenarioData) → scenario_of bytes ≡ Ok s → (is : IsTextInMemory s text) → Every (λ j. IsEventValue j.entry.event) (entries_in is.replay.printed)
 are_values bytes text s read is =
     let starts = all_open s.devices is.opened is.memory in
-    let asked = replay_asked Serves bytes text s is.opened read starts.0 is.replay in
-    every-mapped (λ (j : Journaled). j.entry) (λ (e : EntryData). IsEventValue e.event) is.replay.journal (every-weaker (IsWithinLines (length s.devices)) (λ (e : EntryData). IsEventValue e.event) (entries_of is.replay.journal) (λ e h. line_value e.event h.event h.bytes) asked.entries)
+    let asked = replay_asked Serves picture_of bytes text s is.opened read starts.0 is.replay in
+    let js = entries_in is.replay.printed in
+    every-mapped (λ (j : Journaled). j.entry) (λ (e : EntryData). IsEventValue e.event) js (every-weaker (IsWithinLines (length s.devices)) (λ (e : EntryData). IsEventValue e.event) (entries_of js) (λ e h. line_value e.event h.event h.bytes) asked.entries)
 
-journal_of : (bytes text : List ℕ) (s : ScenarioData) → scenario_of bytes ≡ Ok s → (is : IsTextInMemory s text) → IsJournalOf Serves s.devices is.opened is.replay.journal is.replay.ends text
-journal_of bytes text s read is = let starts = all_open s.devices is.opened is.memory in replay_journal Serves bytes text s is.opened read starts.0 is.replay
+-- what a scenario's replay prints is a journal
+record IsJournal (s : ScenarioData) (text : List ℕ) (is : IsTextInMemory s text) : Type 0 where
+  journal : IsJournalOf Serves s.devices is.opened (entries_in is.replay.printed) is.replay.ends text
+  alone : is.replay.printed ≡ undumped (entries_in is.replay.printed)
+
+journal_of : (bytes text : List ℕ) (s : ScenarioData) → scenario_of bytes ≡ Ok s → (is : IsTextInMemory s text) → IsJournal s text is
+journal_of bytes text s read is =
+    let starts = all_open s.devices is.opened is.memory in
+    let dumpless = (scenario_served scenario_limits bytes s read).no_dumps in
+    record {
+      journal = replay_journal Serves picture_of bytes text s is.opened read dumpless starts.0 is.replay;
+      alone = replays_alone Serves is.opened is.replay.ends s.lines is.replay.printed dumpless is.replay.replays;
+    }
 
 pub has_one_journal : HasOneJournal
 has_one_journal bytes others text s t read read' is it =
     let first = scenario_is scenario_limits bytes s read in
     let other = scenario_is scenario_limits others t read' in
-    one_journal Serves Serves s.devices t.devices is.opened it.opened is.replay.journal it.replay.journal is.replay.ends it.replay.ends text
+    let one = journal_of bytes text s read is in
+    let two = journal_of others text t read' it in
+    let same = one_journal Serves Serves s.devices t.devices is.opened it.opened (entries_in is.replay.printed) (entries_in it.replay.printed) is.replay.ends it.replay.ends text
     (record { spelled = spelled_read scenario_limits bytes s read; names = first.names }) (record { spelled = spelled_read scenario_limits others t read'; names = other.names })
-    (are_values bytes text s read is) (are_values others text t read' it) (journal_of bytes text s read is) (journal_of others text t read' it)
+    (are_values bytes text s read is) (are_values others text t read' it) one.journal two.journal in
+    (same.0, one.alone ∙ ap undumped same.1 ∙ sym two.alone)

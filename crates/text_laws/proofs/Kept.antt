@@ -8,9 +8,9 @@ use Rattle.tcmu_types.specs.Events.{EntryData}
 use Rattle.text_model.specs.ScenarioData.{DeviceLineData, LineData, ScenarioData, command_of}
 use Rattle.text_model.specs.ScenarioRules.{IsLine, IsScenario}
 use Rattle.text_model.specs.Scenario.{is_dump, is_event, bytes_in, bytes_out, with_name, initiators, initiators_from}
+use Rattle.text_model.specs.Replay.{made, lines_of}
 use Rattle.tcmu_types.specs.Lists.{Every}
-use Rattle.text_laws.specs.Lines.{made}
-use Rattle.text_laws.specs.Replays.{lines_of, written}
+use Rattle.text_laws.specs.Replays.{written}
 use Rattle.text_laws.proofs.Asked.{sends, sent, IsWithinLines}
 
 -- ---- what the lines that send commands tell

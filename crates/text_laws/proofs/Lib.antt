@@ -27,11 +27,15 @@ pub mod Told
 pub mod EventLines
 pub mod Prints
 pub mod SameEvent
+pub mod OutsideLines
 pub mod Spoken
 pub mod Telling
+pub mod SameEntries
 pub mod OneReading
+pub mod Matching
 pub mod Settled
 pub mod InMemory
 pub mod Dumped
 pub mod Pictured
+pub mod RunLists
 pub mod PrintValues

@@ -6,31 +6,34 @@ use Rattle.std.proofs.lemmas.List.{append-nil, length-set}
 use Rattle.std.proofs.lemmas.Option.{slice_get_within}
 use Rattle.tcmu_types.specs.Data.{DoneData}
 use Rattle.tcmu_types.specs.Dumps.{DumpData}
-use Rattle.tcmu_types.specs.Events.{EventData, AnswerData, EntryData}
+use Rattle.tcmu_types.specs.Events.{EventData}
 use Rattle.tcmu_model.specs.Device.{DeviceState, Device, opening_state}
 use Rattle.tcmu_types.specs.Fields.{pieces}
 use Rattle.tcmu_model.specs.Steps.{HandlerRelation, Makes, Step}
 use Rattle.text_model.specs.ScenarioData.{DeviceLineData}
 use Rattle.text_model.specs.Text.{answer_text}
-use Rattle.text_model.specs.Several.{Journaled, IsLegalEach}
 use Rattle.tcmu_model.specs.Sound.{IsSound}
 use Rattle.tcmu_types.specs.Lists.{Every}
 use Rattle.tcmu_types.proofs.Everies.{every-weaker, every_at}
 use Rattle.tcmu_types.proofs.Readings.{same_some}
 use Rattle.tcmu_model.proofs.Runs.{sound_step}
+use Rattle.text_model.specs.Journals.{Journaled, IsLegalEach}
+use Rattle.text_model.specs.Printed.{Printed, AnEntry, ADump, OutsideLine, device_of, entries_in, NamesItsDevice}
+use Rattle.text_model.proofs.PrintedJournals.{undumped, entries_again}
+use Rattle.text_model.proofs.JournalSteps.{first_step}
 use Rattle.tcmu_types.proofs.Places.{get_within, get_set, get_set_other}
 use Rattle.text_laws.specs.Devices.{IsSpelledDevice}
-use Rattle.text_laws.specs.Printed.{Printed, AnEntry, ADump, device_of, entries_in, IsValue, IsListOf}
+use Rattle.text_laws.specs.Printed.{IsValue, IsListOf}
 use Rattle.text_laws.specs.Replays.{OpenAs, IsJournalOf}
 use Rattle.text_laws.specs.Readings.{AreNamed, AreAlike, HasOneReading, HasOneReadingOfAny}
 use Rattle.text_laws.specs.Values.{IsEventValue}
 use Rattle.text_laws.proofs.Asked.{HasAccepted}
 use Rattle.text_laws.proofs.Asks.{AsksCommand}
-use Rattle.text_laws.proofs.Legal.{first_step}
 use Rattle.text_laws.proofs.Apart.{behind_same}
 use Rattle.text_laws.proofs.PrintValues.{all_values}
-use Rattle.text_laws.proofs.Prints.{own_text, entries_journal, undumped, entries_again, every_undumped, journal_list}
+use Rattle.text_laws.proofs.Prints.{own_text, entries_journal, every_undumped, journal_list}
 use Rattle.text_laws.proofs.Replays.{opened_count, accepted_none, journal_named, journal_asks}
+use Rattle.text_laws.proofs.SameEntries.{entry_same, journaled_same}
 use Rattle.text_laws.proofs.SameEvent.{same_event}
 use Rattle.text_laws.proofs.Sets.{every_set}
 use Rattle.text_laws.proofs.Spoken.{is_telling, told_lines, IsReadable, spoken_whole}
@@ -38,18 +41,6 @@ use Rattle.text_laws.proofs.Telling.{two_parts, devices_told, Tells, AllTell, li
 use Rattle.text_laws.proofs.WholeLines.{Named, told_device}
 
 -- ---- entries
-
-pub entry_same : (e f : EntryData) → e.device ≡ f.device → e.event ≡ f.event → e.answer ≡ f.answer → e.logged ≡ f.logged → e ≡ f
-entry_same e f p q r s =
-    ap (λ (x : ℕ). let y : EntryData = record { device = x; event = e.event; answer = e.answer; logged = e.logged } in y) p
-    ∙ ap (λ (x : EventData). let y : EntryData = record { device = f.device; event = x; answer = e.answer; logged = e.logged } in y) q
-    ∙ ap (λ (x : AnswerData). let y : EntryData = record { device = f.device; event = f.event; answer = x; logged = e.logged } in y) r
-    ∙ ap (λ (x : ℕ). let y : EntryData = record { device = f.device; event = f.event; answer = f.answer; logged = x } in y) s
-
-journaled_same : (j f : Journaled) → j.entry ≡ f.entry → j.completions ≡ f.completions → j ≡ f
-journaled_same j f p q =
-    ap (λ (x : EntryData). let y : Journaled = record { entry = x; completions = j.completions } in y) p
-    ∙ ap (λ (x : List DoneData). let y : Journaled = record { entry = f.entry; completions = x } in y) q
 
 -- an entry of one text, made on devices in one state, is the same, and leaves them in one state
 step_same : (R Q : HandlerRelation) (qfull : ℕ) (d e m n : Device) (j f : Journaled) → d.state ≡ e.state → IsSound d.state → IsSound e.state → j.entry.device ≡ f.entry.device → j.entry.event ≡ f.entry.event
@@ -175,6 +166,11 @@ entries_tell ls (AnEntry j ∷ ps) (AnEntry f ∷ qs) e = (e.0, entries_tell ls 
 entries_tell ls (AnEntry j ∷ ps) (ADump to d ∷ qs) e = absurd e.0
 entries_tell ls (ADump at d ∷ ps) (AnEntry f ∷ qs) e = absurd e.0
 entries_tell ls (ADump at d ∷ ps) (ADump to c ∷ qs) e = entries_tell ls ps qs e.1
+entries_tell ls (OutsideLine at t ∷ ps) (OutsideLine to u ∷ qs) e = entries_tell ls ps qs e.1
+entries_tell ls (AnEntry j ∷ ps) (OutsideLine to u ∷ qs) e = absurd e.0
+entries_tell ls (ADump at d ∷ ps) (OutsideLine to u ∷ qs) e = absurd e.0
+entries_tell ls (OutsideLine at t ∷ ps) (AnEntry f ∷ qs) e = absurd e.0
+entries_tell ls (OutsideLine at t ∷ ps) (ADump to c ∷ qs) e = absurd e.0
 
 abbrev first_entry : Journaled → List Journaled → Journaled
 first_entry j [] = j
@@ -192,19 +188,26 @@ prints_same ls (AnEntry j ∷ ps) (ADump to d ∷ qs) e same = absurd e.0
 prints_same ls (ADump at d ∷ ps) (AnEntry f ∷ qs) e same = absurd e.0
 prints_same ls (ADump at d ∷ ps) (ADump to c ∷ qs) e same =
     ap (λ (n : ℕ). ADump n d ∷ ps) e.0.0 ∙ ap (λ (x : DumpData). ADump to x ∷ ps) e.0.1 ∙ ap (λ (xs : List Printed). ADump to c ∷ xs) (prints_same ls ps qs e.1 same)
+prints_same ls (OutsideLine at t ∷ ps) (OutsideLine to u ∷ qs) e same =
+    ap (λ (n : ℕ). OutsideLine n t ∷ ps) e.0.0 ∙ ap (λ (x : List ℕ). OutsideLine to x ∷ ps) e.0.1 ∙ ap (λ (xs : List Printed). OutsideLine to u ∷ xs) (prints_same ls ps qs e.1 same)
+prints_same ls (AnEntry j ∷ ps) (OutsideLine to u ∷ qs) e same = absurd e.0
+prints_same ls (ADump at d ∷ ps) (OutsideLine to u ∷ qs) e same = absurd e.0
+prints_same ls (OutsideLine at t ∷ ps) (AnEntry f ∷ qs) e same = absurd e.0
+prints_same ls (OutsideLine at t ∷ ps) (ADump to c ∷ qs) e same = absurd e.0
 
 -- ---- texts
 
 -- what holds of the entries of a list holds of each that is printed
-readable : (n : ℕ) (ps : List Printed) → Every (λ p. device_of p < n) ps → Every IsValue ps → Every (λ j. AsksCommand j.entry.event) (entries_in ps) → Every (λ j. Every Named j.completions) (entries_in ps) → Every (IsReadable n) ps
-readable n [] h v a m = tt
-readable n (AnEntry j ∷ ps) h v a m = (record { device = h.0; asks = a.0; value = v.0; named = m.0 }, readable n ps h.1 v.1 a.1 m.1)
-readable n (ADump at d ∷ ps) h v a m = (record { device = h.0; asks = tt; value = v.0; named = tt }, readable n ps h.1 v.1 a m)
+readable : (ls : List DeviceLineData) (ps : List Printed) → Every (λ p. device_of p < length ls) ps → Every (NamesItsDevice ls) ps → Every IsValue ps → Every (λ j. AsksCommand j.entry.event) (entries_in ps) → Every (λ j. Every Named j.completions) (entries_in ps) → Every (IsReadable ls) ps
+readable ls [] h o v a m = tt
+readable ls (AnEntry j ∷ ps) h o v a m = (record { device = h.0; outside = o.0; asks = a.0; value = v.0; named = m.0 }, readable ls ps h.1 o.1 v.1 a.1 m.1)
+readable ls (ADump at d ∷ ps) h o v a m = (record { device = h.0; outside = o.0; asks = tt; value = v.0; named = tt }, readable ls ps h.1 o.1 v.1 a m)
+readable ls (OutsideLine at t ∷ ps) h o v a m = (record { device = h.0; outside = o.0; asks = tt; value = v.0; named = tt }, readable ls ps h.1 o.1 v.1 a m)
 
-all_readable : (R : HandlerRelation) (ls : List DeviceLineData) (opened : List Device) (ps : List Printed) (ends : List Device) (text : List ℕ) → Every IsValue ps → IsListOf R ls opened ps ends text → Every (IsReadable (length ls)) ps
+all_readable : (R : HandlerRelation) (ls : List DeviceLineData) (opened : List Device) (ps : List Printed) (ends : List Device) (text : List ℕ) → Every IsValue ps → IsListOf R ls opened ps ends text → Every (IsReadable ls) ps
 all_readable R ls opened ps ends text values is =
     let journal = entries_journal R ls opened ps ends text is in
-    readable (length ls) ps is.devices values (journal_asks R ls opened (entries_in ps) ends (own_text ls ps ends) journal) (journal_named R ls opened (entries_in ps) ends (own_text ls ps ends) journal)
+    readable ls ps is.devices is.outside values (journal_asks R ls opened (entries_in ps) ends (own_text ls ps ends) journal) (journal_named R ls opened (entries_in ps) ends (own_text ls ps ends) journal)
 
 goes_on : (R : HandlerRelation) (ls : List DeviceLineData) (opened : List Device) (ps : List Printed) (ends : List Device) (text : List ℕ) → Every IsSpelledDevice ls → IsListOf R ls opened ps ends text → ReadsOn R ls opened (entries_in ps) ends
 goes_on R ls opened ps ends text sp is =
@@ -220,7 +223,7 @@ one_list R Q ls ks opened started ps qs ends lasts text named named' values valu
     sym spoken ∙ ap (λ (t : List ℕ). filter is_telling (pieces 10 (t ++ []))) (sym is.whole ∙ it.whole) ∙ spoken' in
     let lists : map told_device ls ++ flat_map (told_lines ls) ps ≡ map told_device ks ++ flat_map (told_lines ks) qs =
     sym (bare (map told_device ls ++ flat_map (told_lines ls) ps)) ∙ whole ∙ bare (map told_device ks ++ flat_map (told_lines ks) qs) in
-    let parts = two_parts ls ks ps qs lists in
+    let parts = two_parts ls ks ps qs is.outside it.outside lists in
     let devices : ls ≡ ks = devices_told ls ks named.spelled named'.spelled parts.0 in
     let it_is : IsListOf Q ls started qs lasts text = subst (λ (x : List DeviceLineData). IsListOf Q x started qs lasts text) (sym devices) it in
     let told_is : flat_map (told_lines ls) ps ≡ flat_map (told_lines ls) qs = parts.1 ∙ ap (λ (x : List DeviceLineData). flat_map (told_lines x) qs) (sym devices) in

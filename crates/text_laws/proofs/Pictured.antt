@@ -1,9 +1,9 @@
--- A picture of a sound device, with block lists that are sound, is a dump of the code: its numbers, and the lengths of its bytes, are
--- numbers of 64 bits.
-use Rattle.std.proofs.Common.{◌≡◌, ℕ, suc, ◌+◌, ◌*◌, ◌<◌, ◌≤◌, Bool, true, false, cond, List, [], ◌∷◌, length, take, drop, map, replicate, slice_get, IfSome, Option, Some, None, refl, sym, ap, ◌∙◌, arith, length-append, length-drop}
+-- A picture of a sound device, with block lists that are sound or those of a run, is a dump of the code: its numbers, and the lengths of
+-- its bytes, are numbers of 64 bits.
+use Rattle.std.proofs.Common.{◌≡◌, ℕ, suc, ◌+◌, ◌*◌, ◌<◌, ◌≤◌, Bool, true, false, cond, List, [], ◌∷◌, length, take, drop, map, replicate, slice_get, IfSome, Option, Some, None, refl, sym, ap, ◌∙◌, arith, length-append, length-drop, ◌-◌, ◌++◌}
 use Rattle.std.proofs.lemmas.List.{length-take, length-replicate}
 use Rattle.std.proofs.Math.Nat.{mod-lt}
-use Rattle.tcmu_types.specs.Data.{ReplyData, SettingsData}
+use Rattle.tcmu_types.specs.Data.{CommandData, ReplyData, SettingsData}
 use Rattle.tcmu_types.specs.Rules.{IsCommand, IsSettings, takes_payload, payload_length}
 use Rattle.tcmu_types.proofs.Places.{get_drop}
 use Rattle.tcmu_model.specs.BlockLists.{Taken, list_of, held_by}
@@ -21,8 +21,9 @@ use Rattle.tcmu_model.proofs.DrainEnds.{rows_commands}
 use Rattle.tcmu_types.proofs.Everies.{every-front, every-back, every-weaker, every-mapped}
 use Rattle.tcmu_model.proofs.Indexed.{item_at}
 use Rattle.tcmu_types.proofs.Rises.{rise_within}
-use Rattle.tcmu_types.proofs.ByteFields.{length-le}
-use Rattle.text_laws.specs.Dumps.{IsItemValue, IsHeldValue, PicturesWhole}
+use Rattle.tcmu_types.proofs.ByteFields.{length-le, lengths as writes, length-zeros, length-padded}
+use Rattle.text_laws.specs.Dumps.{IsItemValue, IsHeldValue, PicturesWhole, IsDumpValue}
+use Rattle.region_model.proofs.HeaderLengths.{length-command_head, length-entry_header}
 use Rattle.text_laws.specs.Values.{IsNumber}
 use Rattle.text_laws.proofs.Devices.{blocks_few}
 use Rattle.region_model.proofs.PartLengths.{length-iovs, length-mailbox, length-note, length-pad, length-payload, length-request, length-response}
@@ -53,7 +54,12 @@ entry_most d id entry (Some s) = answer_most d.settings.flags.read_len id entry 
 
 -- ---- items
 
-item_few : (d : DeviceState) (lists : List Taken) (i n : ℕ) (l : Laid) → IsSound d → ListsSound d lists → d.ring.cleared ≤ i → slice_get d.ring.laid i ≡ Some (record { len = n; laid = l }) → IsItem d.settings (lengths (take i d.ring.laid)) (record { len = n; laid = l })
+-- what is asked of block lists: they are not long, and their blocks are numbers of 64 bits
+pub record AreFew (d : DeviceState) (lists : List Taken) : Type 0 where
+  pub spans : (i n s : ℕ) (c : CommandData) → d.ring.cleared ≤ i → slice_get d.ring.laid i ≡ Some (record { len = n; laid = Cmd s c }) → length (list_of lists s) ≤ blocks_of d.settings.pages c + 4096
+  pub held : Every IsNumber (held_by lists d.unfinished)
+
+item_few : (d : DeviceState) (lists : List Taken) (i n : ℕ) (l : Laid) → IsSound d → AreFew d lists → d.ring.cleared ≤ i → slice_get d.ring.laid i ≡ Some (record { len = n; laid = l }) → IsItem d.settings (lengths (take i d.ring.laid)) (record { len = n; laid = l })
     → IsNumber (length (item_bytes d lists i 0 (replicate (ids_named (record { len = n; laid = l })) 0) (record { len = n; laid = l })))
 item_few d lists i n Pad sound owned behind found is = omega (arith, length-pad n is.some, is.whole, sound.settings.ring_high)
 item_few d lists i n (Cmd s c) sound owned behind found is =
@@ -68,13 +74,13 @@ item_few d lists i n (Tmr kind ss) sound owned behind found is =
     let many : length ids ≡ length ss = length-replicate {A = ℕ} (length ss) 0 in
     omega (arith, length-note kind ids, many, is.kind, is.whole, sound.settings.ring_high)
 
-item_value : (d : DeviceState) (lists : List Taken) (i : ℕ) (x : Item) → IsSound d → ListsSound d lists → d.ring.cleared ≤ i → slice_get d.ring.laid i ≡ Some x → IsItemValue (shown_item d lists i x)
+item_value : (d : DeviceState) (lists : List Taken) (i : ℕ) (x : Item) → IsSound d → AreFew d lists → d.ring.cleared ≤ i → slice_get d.ring.laid i ≡ Some x → IsItemValue (shown_item d lists i x)
 item_value d lists i x sound owned behind found =
     let some : 0 < d.ring.size = omega (arith, sound.ring.size, sound.settings.ring_low) in
     let place : place_of d.ring i < d.ring.size = mod-lt (lengths (take i d.ring.laid)) some in
     record { at = omega (arith, place, sound.ring.size, sound.settings.ring_high); bytes = item_few d lists i x.len x.laid sound owned behind found (item_at d i x sound found) }
 
-items_value : (d : DeviceState) (lists : List Taken) (i : ℕ) (xs : List Item) → IsSound d → ListsSound d lists → d.ring.cleared ≤ i → ((k : ℕ) (x : Item) → slice_get xs k ≡ Some x → slice_get d.ring.laid (i + k) ≡ Some x) → Every IsItemValue (shown_items d lists i xs)
+items_value : (d : DeviceState) (lists : List Taken) (i : ℕ) (xs : List Item) → IsSound d → AreFew d lists → d.ring.cleared ≤ i → ((k : ℕ) (x : Item) → slice_get xs k ≡ Some x → slice_get d.ring.laid (i + k) ≡ Some x) → Every IsItemValue (shown_items d lists i xs)
 items_value d lists i [] sound owned behind at = tt
 items_value d lists i (x ∷ xs) sound owned behind at =
     let here : i ≡ i + 0 = omega arith in
@@ -93,26 +99,35 @@ payload_few u is fits = omega (arith, length-payload u fits, few (takes_payload 
     few false = is.in_len
 
 held_values : (s : SettingsData) (lists : List Taken) (us : List Unfinished) (most : ℕ) → IsSettings s → IsNumber most → Every (λ u. IsCommand u.command) us → Every (λ u. IfSome u.reply (ReplyFits u.command)) us
-    → Every (λ u. (0 < u.serial) × (u.serial ≤ most)) us → Every (λ n. n < s.blocks) (held_by lists us) → Every IsHeldValue (map (shown_command lists) us)
+    → Every (λ u. (0 < u.serial) × (u.serial ≤ most)) us → Every IsNumber (held_by lists us) → Every IsHeldValue (map (shown_command lists) us)
 held_values s lists [] most is lt commands replies serials below = tt
-held_values s lists (u ∷ us) most is lt commands replies serials below =
-    let own = every-front (λ n. n < s.blocks) (list_of lists u.serial) (held_by lists us) below in (
-      record {
-        serial = omega (arith, serials.0.1, lt);
-        blocks = every-weaker (λ n. n < s.blocks) IsNumber (list_of lists u.serial) (λ n h. omega (arith, h, blocks_few s is)) own;
-        payload = payload_few u commands.0 replies.0;
-      },
-      held_values s lists us most is lt commands.1 replies.1 serials.1 (every-back (λ n. n < s.blocks) (list_of lists u.serial) (held_by lists us) below),
-    )
+held_values s lists (u ∷ us) most is lt commands replies serials below = (
+  record {
+    serial = omega (arith, serials.0.1, lt);
+    blocks = every-front IsNumber (list_of lists u.serial) (held_by lists us) below;
+    payload = payload_few u commands.0 replies.0;
+  },
+  held_values s lists us most is lt commands.1 replies.1 serials.1 (every-back IsNumber (list_of lists u.serial) (held_by lists us) below),
+)
 
 -- ---- the whole
 
-pub picture_value : PicturesWhole
+pub picture_few : (d : DeviceState) (lists : List Taken) → IsSound d → AreFew d lists → IsNumber d.accepted → IsDumpValue (picture_of d lists)
 unfolding picture_of
-picture_value d lists sound owned lt =
+picture_few d lists sound owned lt =
     record {
       mailbox = mailbox_few d;
       items = items_value d lists d.ring.cleared (drop d.ring.cleared d.ring.laid) sound owned (omega arith) (λ k x e. sym (get_drop d.ring.cleared d.ring.laid k) ∙ e);
       held = held_values d.settings lists d.unfinished d.accepted sound.settings lt (rows_commands d sound) sound.answers.replies
-          (every-mapped (λ (u : Unfinished). u.serial) (λ s. (0 < s) × (s ≤ d.accepted)) d.unfinished (rise_within 0 (map (λ u. u.serial) d.unfinished) d.accepted (rows_rise d sound.serials))) owned.below;
+          (every-mapped (λ (u : Unfinished). u.serial) (λ s. (0 < s) × (s ≤ d.accepted)) d.unfinished (rise_within 0 (map (λ u. u.serial) d.unfinished) d.accepted (rows_rise d sound.serials))) owned.held;
     }
+
+sound_few : (d : DeviceState) (lists : List Taken) → IsSound d → ListsSound d lists → AreFew d lists
+sound_few d lists sound owned =
+    record {
+      spans = λ i n s c behind found. omega (arith, owned.spans i n s c behind found);
+      held = every-weaker (λ n. n < d.settings.blocks) IsNumber (held_by lists d.unfinished) (λ n h. omega (arith, h, blocks_few d.settings sound.settings)) owned.below;
+    }
+
+pub picture_value : PicturesWhole
+picture_value d lists sound owned lt = picture_few d lists sound (sound_few d lists sound owned) lt

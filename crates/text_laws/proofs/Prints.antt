@@ -1,13 +1,16 @@
--- Lists of entries and dumps, and journals, which have entries alone.
-use Rattle.std.proofs.Common.{◌≡◌, ℕ, ◌<◌, List, [], ◌∷◌, ◌++◌, length, map, refl, sym, ap, ◌∙◌, subst}
+-- Lists of what is printed, and journals, which have entries alone.
+use Rattle.std.proofs.Common.{ℕ, ◌<◌, List, [], ◌∷◌, ◌++◌, length, refl, sym, ap, ◌∙◌, subst}
 use Rattle.std.specs.List.{flat_map}
+use Rattle.tcmu_types.specs.Lists.{Every}
 use Rattle.tcmu_model.specs.Device.{Device}
 use Rattle.tcmu_model.specs.Steps.{HandlerRelation}
+use Rattle.text_model.specs.Journals.{Journaled, IsLegalEach, journaled_text}
+use Rattle.text_model.specs.Printed.{Printed, AnEntry, ADump, OutsideLine, device_of, entries_in, NamesItsDevice}
 use Rattle.text_model.specs.ScenarioData.{DeviceLineData}
-use Rattle.text_model.specs.Several.{Journaled, IsLegalEach, journaled_text, ends_text}
-use Rattle.tcmu_types.specs.Lists.{Every}
+use Rattle.text_model.specs.Several.{ends_text}
 use Rattle.text_model.specs.Text.{device_text}
-use Rattle.text_laws.specs.Printed.{Printed, AnEntry, ADump, device_of, printed_text, entries_in, IsListOf}
+use Rattle.text_model.proofs.PrintedJournals.{undumped, entries_again, text_undumped}
+use Rattle.text_laws.specs.Printed.{IsListOf}
 use Rattle.text_laws.specs.Replays.{IsJournalOf}
 
 -- ---- the entries of a list
@@ -17,6 +20,7 @@ every_entry : (P : Printed → Type 0) (ps : List Printed) → Every P ps → Ev
 every_entry P [] h = tt
 every_entry P (AnEntry j ∷ ps) h = (h.0, every_entry P ps h.1)
 every_entry P (ADump at dump ∷ ps) h = every_entry P ps h.1
+every_entry P (OutsideLine at text ∷ ps) h = every_entry P ps h.1
 
 -- they are a journal, with a text of their own
 abbrev pub own_text : List DeviceLineData → List Printed → List Device → List ℕ
@@ -28,20 +32,13 @@ entries_journal R ls opened ps ends text is =
 
 -- ---- a journal as a list without dumps
 
-abbrev pub undumped : List Journaled → List Printed
-undumped js = map AnEntry js
-
-pub entries_again : (js : List Journaled) → entries_in (undumped js) ≡ js
-entries_again [] = refl
-entries_again (j ∷ js) = ap (λ (xs : List Journaled). j ∷ xs) (entries_again js)
-
 pub every_undumped : (P : Printed → Type 0) (js : List Journaled) → Every (λ j. P (AnEntry j)) js → Every P (undumped js)
 every_undumped P [] h = tt
 every_undumped P (j ∷ js) h = (h.0, every_undumped P js h.1)
 
-text_undumped : (ls : List DeviceLineData) (js : List Journaled) → flat_map (printed_text ls) (undumped js) ≡ flat_map (journaled_text ls) js
-text_undumped ls [] = refl
-text_undumped ls (j ∷ js) = ap (λ (t : List ℕ). journaled_text ls j ++ t) (text_undumped ls js)
+none_outside : (ls : List DeviceLineData) (js : List Journaled) → Every (λ j. NamesItsDevice ls (AnEntry j)) js
+none_outside ls [] = tt
+none_outside ls (j ∷ js) = (tt, none_outside ls js)
 
 pub journal_list : (R : HandlerRelation) (ls : List DeviceLineData) (opened : List Device) (js : List Journaled) (ends : List Device) (text : List ℕ) → IsJournalOf R ls opened js ends text → IsListOf R ls opened (undumped js) ends text
 journal_list R ls opened js ends text is =
@@ -49,6 +46,7 @@ journal_list R ls opened js ends text is =
       opens = is.opens;
       count = is.count;
       devices = every_undumped (λ p. device_of p < length ls) js is.devices;
+      outside = every_undumped (NamesItsDevice ls) js (none_outside ls js);
       legal = subst (λ (xs : List Journaled). IsLegalEach R opened xs ends) (sym (entries_again js)) is.legal;
       whole = is.whole ∙ ap (λ (t : List ℕ). flat_map device_text ls ++ t ++ ends_text ls ends) (sym (text_undumped ls js));
     }

@@ -14,7 +14,7 @@ use Rattle.tcmu_types.specs.Naming.{is_name}
 use Rattle.tcmu_model.specs.Device.{Device}
 use Rattle.tcmu_types.specs.Fields.{pieces}
 use Rattle.tcmu_model.specs.Sound.{open_count}
-use Rattle.text_model.specs.Several.{Journaled, journaled_text, ends_text}
+use Rattle.text_model.specs.Several.{ends_text}
 use Rattle.tcmu_types.specs.Lists.{Every}
 use Rattle.text_model.specs.ScenarioData.{DeviceLineData, LineData, ScenarioData, command_of}
 use Rattle.text_model.specs.ScenarioRules.{IsEvent, IsScenarioWithin}
@@ -25,11 +25,13 @@ use Rattle.tcmu_types.proofs.Everies.{every-weaker, every-none, every_at}
 use Rattle.tcmu_types.proofs.Readings.{same_bytes}
 use Rattle.text_model.proofs.ScenarioLaws.{initiators_append}
 use Rattle.text_model.specs.declared.limits.Limits.{Limits}
+use Rattle.text_model.specs.Journals.{Journaled, journaled_text, entries_of}
+use Rattle.text_model.specs.Replay.{made, lines_of}
 use Rattle.tcmu_types.proofs.Places.{get_within}
 use Rattle.text_laws.specs.Configs.{is_other}
 use Rattle.text_laws.specs.Devices.{IsSpelledDevice, IsNew}
-use Rattle.text_laws.specs.Lines.{CarriesBytes, made}
-use Rattle.text_laws.specs.Replays.{lines_of, entries_of, written}
+use Rattle.text_laws.specs.Lines.{CarriesBytes}
+use Rattle.text_laws.specs.Replays.{written}
 use Rattle.text_laws.proofs.Asked.{IsWithinLines}
 use Rattle.text_laws.proofs.Asks.{line_asks, line_value}
 use Rattle.text_laws.proofs.Comments.{comments_ignored, empty_ignored}

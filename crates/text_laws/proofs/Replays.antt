@@ -1,7 +1,7 @@
 -- The text of a journal is a scenario, and the text of a replay of that scenario.
-use Rattle.std.proofs.Common.{◌≡◌, ⊎_elim, ℕ, suc, ◌+◌, ◌<◌, ◌≤◌, IsTrue, List, [], ◌∷◌, length, All, slice_set, None, Ok, refl, sym, ap, subst, ◌∙◌, arith}
-use Rattle.std.specs.List.{filter}
-use Rattle.std.proofs.lemmas.List.Elements.{All-head, All-tail}
+use Rattle.std.proofs.Common.{◌≡◌, ⊎_elim, ℕ, suc, ◌+◌, ◌<◌, ◌≤◌, false, IsTrue, List, [], ◌∷◌, ◌++◌, length, All, slice_set, None, Ok, refl, sym, ap, subst, ◌∙◌, arith}
+use Rattle.std.specs.List.{flat_map, filter}
+use Rattle.std.proofs.lemmas.List.Elements.{All-head, All-tail, All-nil, All-cons}
 use Rattle.std.proofs.lemmas.List.{length-set}
 use Rattle.tcmu_types.specs.Naming.{is_name}
 use Rattle.tcmu_types.specs.Rules.{IsCommand}
@@ -16,26 +16,32 @@ use Rattle.tcmu_model.specs.Steps.{HandlerRelation, Makes, Submits, Run}
 use Rattle.tcmu_model.specs.Drain.{drain_event}
 use Rattle.text_model.specs.ScenarioData.{DeviceLineData, LineData, ScenarioData}
 use Rattle.text_model.specs.ScenarioRules.{IsLine}
-use Rattle.text_model.specs.Scenario.{scenario_limits, scenario_within, scenario_of}
-use Rattle.text_model.specs.Several.{Journaled, is_of, RunLogs, IsLegalEach, DrainsEach, ReplaysEach, IsReplayOf}
+use Rattle.text_model.specs.Scenario.{is_dump, scenario_limits, scenario_within, scenario_of}
+use Rattle.text_model.specs.Printed.{entries_in, printed_text, Picture}
+use Rattle.text_model.specs.Replay.{Plays, made, lines_of}
+use Rattle.text_model.specs.Several.{DrainsEach, ReplaysEach, ends_text, IsReplayOf}
+use Rattle.text_model.specs.Text.{device_text}
 use Rattle.tcmu_model.specs.Journals.{Has, WasAccepted}
 use Rattle.tcmu_types.specs.Lists.{Every}
 use Rattle.tcmu_types.proofs.Everies.{every-weaker, every-mapped, every_at}
 use Rattle.tcmu_model.proofs.Journals.{run_senders, HasSender}
 use Rattle.tcmu_model.proofs.SoundEvents.{sound_opening}
+use Rattle.text_model.proofs.JournalSteps.{made_again, first_step, same_items}
+use Rattle.text_model.proofs.PrintedJournals.{undumped, text_undumped, legal_undumped, legal_entries, entries_printed, DumpNothing, replays_entries, replays_undumped, replays_alone}
 use Rattle.text_model.proofs.ScenarioLaws.{scenario_is}
+use Rattle.text_model.proofs.ServedLaws.{scenario_served}
+use Rattle.text_model.specs.Journals.{Journaled, is_of, RunLogs, IsLegalEach, entries_of}
 use Rattle.tcmu_types.proofs.Places.{get_within}
 use Rattle.text_laws.specs.Carried.{IsCarriedWhat}
 use Rattle.text_laws.specs.Devices.{IsSpelledDevice}
-use Rattle.text_laws.specs.Lines.{CarriesBytes, made}
-use Rattle.text_laws.specs.Replays.{entries_of, lines_of, OpenAs, IsJournalOf, IsReadBack, IsReplayedAgain, IsScenarioAgain}
+use Rattle.text_laws.specs.Lines.{CarriesBytes}
+use Rattle.text_laws.specs.Replays.{OpenAs, IsJournalOf, IsReadBack, IsReplayedAgain, IsScenarioAgain}
 use Rattle.text_laws.proofs.Asked.{HasAccepted, IsAskable, IsWithinLines, IsAsked, replays_asked}
 use Rattle.text_laws.proofs.Asks.{AsksCommand, run_asks}
 use Rattle.text_laws.proofs.Carried.{carried_read, spelled_read}
 use Rattle.text_laws.proofs.Kept.{replay_keeps}
-use Rattle.text_laws.proofs.Legal.{first_step, run_entries, completions_keep, each_of}
+use Rattle.text_laws.proofs.Legal.{run_entries, completions_keep, each_of}
 use Rattle.text_laws.proofs.Reading.{reads_whole}
-use Rattle.text_laws.proofs.Sets.{same_items}
 use Rattle.text_laws.proofs.WholeLines.{Named}
 
 -- ---- the initiators of completions are names
@@ -131,34 +137,21 @@ read_back R limits ls opened js ends text spelled is keeps =
 
 -- ---- the events make the same entries
 
-abbrev IsDone : Device → Type 0
-IsDone d = drain_event d.state ≡ None
-
-drains_nothing : (R : HandlerRelation) (at : ℕ) (ds : List Device) → Every IsDone ds → DrainsEach R at ds [] ds
-drains_nothing R at [] h = (refl, refl)
-drains_nothing R at (d ∷ ds) h = ([], [], d, ds, refl, refl, (h.0, refl), drains_nothing R (at + 1) ds h.1)
-
-made_again : (R : HandlerRelation) (ds : List Device) (js : List Journaled) (ends : List Device) → length ends ≡ length ds → Every (λ j. j.entry.device < length ds) js → IsLegalEach R ds js ends → Every IsDone ends → ReplaysEach R ds (lines_of (entries_of js)) (entries_of js) ends
-made_again R ds [] ends count within legal done =
-    let same : ends ≡ ds = same_items ds ends (sym count) legal in
-    subst (λ (xs : List Device). DrainsEach R 0 ds [] xs) (sym same) (drains_nothing R 0 ds (subst (Every IsDone) same done))
-made_again R ds (j ∷ js) ends count within legal done =
-    let first = get_within ds j.entry.device within.0 in
-    let last = get_within ends j.entry.device (omega (arith, within.0, count)) in
-    let step = first_step R ds first.0 last.0 j js ends first.1 last.1 legal in
-    let same = length-set ds j.entry.device step.mid in
-    let rest = made_again R (slice_set ds j.entry.device step.mid) js ends (count ∙ sym same) (subst (λ (n : ℕ). Every (λ (x : Journaled). x.entry.device < n) js) (sym same) within.1) step.rest done in
-    (j.entry ∷ [], entries_of js, first.0, step.mid, refl, first.1, (j.entry, refl, refl, step.step, refl), rest)
+-- no line of an event is a dump
+lines_dump_nothing : (es : List EntryData) → DumpNothing (lines_of es)
+lines_dump_nothing [] = All-nil (λ l. is_dump l ≡ false)
+lines_dump_nothing (e ∷ es) = All-cons (λ l. is_dump l ≡ false) (made e.device e.event) (lines_of es) refl (lines_dump_nothing es)
 
 pub replayed_again : (R : HandlerRelation) → IsReplayedAgain R
-replayed_again R ls opened js ends text is done =
+replayed_again R picture ls opened js ends text is done =
     let same = opened_count ls opened is.opens in
+    let events = made_again R opened js ends (is.count ∙ sym same) (subst (λ (n : ℕ). Every (λ (x : Journaled). x.entry.device < n) js) (sym same) is.devices) is.legal done in
     record {
-      journal = js;
+      printed = undumped js;
       ends = ends;
-      replays = made_again R opened js ends (is.count ∙ sym same) (subst (λ (n : ℕ). Every (λ (x : Journaled). x.entry.device < n) js) (sym same) is.devices) is.legal done;
-      legal = is.legal;
-      whole = is.whole;
+      replays = replays_undumped R opened ends (lines_of (entries_of js)) js (lines_dump_nothing (entries_of js)) events;
+      legal = legal_undumped R picture opened js ends is.legal;
+      whole = is.whole ∙ ap (λ (t : List ℕ). flat_map device_text ls ++ t ++ ends_text ls ends) (sym (text_undumped ls js));
     }
 
 -- ---- replays of scenarios
@@ -169,21 +162,28 @@ askable ds (l ∷ ls) all carried =
     let first = All-head (IsLine ds) l ls all in
     ((first.what, carried.0), askable ds ls (All-tail (IsLine ds) l ls all) carried.1)
 
-pub replay_asked : (R : HandlerRelation) (bytes text : List ℕ) (s : ScenarioData) (opened : List Device) → scenario_of bytes ≡ Ok s → OpenAs s.devices opened → (is : IsReplayOf R s.devices opened s.lines text) → IsAsked (length s.devices) (entries_of is.journal) s.lines is.ends
-replay_asked R bytes text s opened read opens is =
+pub replay_asked : (R : HandlerRelation) (picture : Picture) (bytes text : List ℕ) (s : ScenarioData) (opened : List Device) → scenario_of bytes ≡ Ok s → OpenAs s.devices opened → (is : IsReplayOf R picture s.devices opened s.lines text)
+    → IsAsked (length s.devices) (entries_printed is.printed) s.lines is.ends
+replay_asked R picture bytes text s opened read opens is =
     let limits = scenario_is scenario_limits bytes s read in
-    let asked = replays_asked R 0 opened is.ends s.lines (entries_of is.journal) (omega (arith, limits.few_lines)) (accepted_none s.devices opened (spelled_read scenario_limits bytes s read) opens) (askable s.devices s.lines limits.lines (carried_read scenario_limits bytes s read)) is.replays in
-    subst (λ (n : ℕ). IsAsked n (entries_of is.journal) s.lines is.ends) (opened_count s.devices opened opens) asked
+    let events = replays_entries R opened is.ends s.lines is.printed is.replays in
+    let asked = replays_asked R 0 opened is.ends s.lines (entries_printed is.printed) (omega (arith, limits.few_lines)) (accepted_none s.devices opened (spelled_read scenario_limits bytes s read) opens)
+    (askable s.devices s.lines limits.lines (carried_read scenario_limits bytes s read)) events in
+    subst (λ (n : ℕ). IsAsked n (entries_printed is.printed) s.lines is.ends) (opened_count s.devices opened opens) asked
 
-pub replay_journal : (R : HandlerRelation) (bytes text : List ℕ) (s : ScenarioData) (opened : List Device) → scenario_of bytes ≡ Ok s → OpenAs s.devices opened → (is : IsReplayOf R s.devices opened s.lines text) → IsJournalOf R s.devices opened is.journal is.ends text
-replay_journal R bytes text s opened read opens is =
-    let asked = replay_asked R bytes text s opened read opens is in
+-- where no line is a dump, what is printed is a journal
+pub replay_journal : (R : HandlerRelation) (picture : Picture) (bytes text : List ℕ) (s : ScenarioData) (opened : List Device) → scenario_of bytes ≡ Ok s → DumpNothing s.lines → OpenAs s.devices opened → (is : IsReplayOf R picture s.devices opened s.lines text)
+    → IsJournalOf R s.devices opened (entries_in is.printed) is.ends text
+replay_journal R picture bytes text s opened read dumpless opens is =
+    let asked = replay_asked R picture bytes text s opened read opens is in
+    let journal = entries_in is.printed in
+    let alone = replays_alone R opened is.ends s.lines is.printed dumpless is.replays in
     record {
       opens = opens;
       count = asked.count;
-      devices = every-mapped (λ (j : Journaled). j.entry) (λ (e : EntryData). e.device < length s.devices) is.journal (every-weaker (IsWithinLines (length s.devices)) (λ (e : EntryData). e.device < length s.devices) (entries_of is.journal) (λ e h. h.device) asked.entries);
-      legal = is.legal;
-      whole = is.whole;
+      devices = every-mapped (λ (j : Journaled). j.entry) (λ (e : EntryData). e.device < length s.devices) journal (every-weaker (IsWithinLines (length s.devices)) (λ (e : EntryData). e.device < length s.devices) (entries_of journal) (λ e h. h.device) asked.entries);
+      legal = legal_entries R picture opened is.printed is.ends is.legal;
+      whole = is.whole ∙ ap (λ (t : List ℕ). flat_map device_text s.devices ++ t ++ ends_text s.devices is.ends) (ap (flat_map (printed_text s.devices)) alone ∙ text_undumped s.devices journal);
     }
 
 as_many : (js : List Journaled) → length (entries_of js) ≡ length js
@@ -191,11 +191,13 @@ as_many [] = refl
 as_many (j ∷ js) = ap suc (as_many js)
 
 pub scenario_again : (R : HandlerRelation) → IsScenarioAgain R
-scenario_again R bytes text s opened read opens is size few =
-    let asked = replay_asked R bytes text s opened read opens is in
-    let journal = replay_journal R bytes text s opened read opens is in
-    let kept = replay_keeps s (entries_of is.journal) (scenario_is scenario_limits bytes s read) asked.entries asked.sends_these (omega (arith, few, as_many is.journal)) in
-    let bytes_are = every-weaker (IsWithinLines (length s.devices)) (λ (e : EntryData). CarriesBytes e.event) (entries_of is.journal) (λ e h. h.bytes) asked.entries in (
-      read_back R scenario_limits s.devices opened is.journal is.ends text (spelled_read scenario_limits bytes s read) journal (record { size = size; scenario = kept; bytes = bytes_are }),
-      replayed_again R s.devices opened is.journal is.ends text journal asked.rest,
+scenario_again R picture bytes text s opened read opens is size few =
+    let dumpless = (scenario_served scenario_limits bytes s read).no_dumps in
+    let js = entries_in is.printed in
+    let asked = replay_asked R picture bytes text s opened read opens is in
+    let journal = replay_journal R picture bytes text s opened read dumpless opens is in
+    let kept = replay_keeps s (entries_of js) (scenario_is scenario_limits bytes s read) asked.entries asked.sends_these (omega (arith, few, as_many js)) in
+    let bytes_are = every-weaker (IsWithinLines (length s.devices)) (λ (e : EntryData). CarriesBytes e.event) (entries_of js) (λ e h. h.bytes) asked.entries in (
+      read_back R scenario_limits s.devices opened js is.ends text (spelled_read scenario_limits bytes s read) journal (record { size = size; scenario = kept; bytes = bytes_are }),
+      replayed_again R picture s.devices opened js is.ends text journal asked.rest,
     )

@@ -1,6 +1,7 @@
--- Over media that lose nothing every event has one outcome, so a replay has one journal and one text.
-use Rattle.std.proofs.Common.{◌≡◌, ℕ, ◌+◌, ◌<◌, List, [], ◌∷◌, ◌++◌, length, drop, slice_set, Some, None, refl, sym, ap, ◌∙◌, subst, arith}
-use Rattle.std.specs.List.{flat_map}
+-- Over media that lose nothing every event has one outcome, so the same lines print the same, and have one text.
+use Rattle.std.proofs.Common.{◌≡◌, ℕ, ◌+◌, ◌<◌, List, [], ◌∷◌, ◌++◌, length, slice_get, slice_set, Some, None, refl, sym, ap, ◌∙◌, subst, arith}
+use Rattle.std.specs.List.{filter, flat_map}
+use Rattle.tcmu_types.specs.Dumps.{DumpData}
 use Rattle.tcmu_types.specs.Events.{EventData, AnswerData, EntryData}
 use Rattle.tcmu_types.specs.Events as ev
 use Rattle.tcmu_types.specs.declared.answer.Handle.{Handle}
@@ -8,29 +9,31 @@ use Rattle.tcmu_types.specs.declared.answer.Handle.TheVariants as handle
 use Rattle.tcmu_types.specs.declared.answer.Submit.{Submit}
 use Rattle.tcmu_types.specs.declared.answer.Enter.{Enter}
 use Rattle.tcmu_types.specs.declared.answer.Tmr.{Tmr}
+use Rattle.tcmu_types.specs.Lists.{Every}
+use Rattle.tcmu_types.proofs.Everies.{every_at}
+use Rattle.tcmu_types.proofs.Places.{get_within}
+use Rattle.tcmu_types.proofs.Readings.{same_some}
+use Rattle.tcmu_model.specs.BlockLists.{Taken, lists_after}
 use Rattle.tcmu_model.specs.MediumState.{MediumState}
 use Rattle.tcmu_model.specs.Device.{Unfinished, DeviceState, Device}
 use Rattle.tcmu_model.specs.Events.{after_submit, after_enter, after_handle, after_tmr}
 use Rattle.tcmu_model.specs.Steps.{Step, Makes, Handles, asked, moved}
 use Rattle.tcmu_model.specs.Drain.{Drains}
-use Rattle.text_model.specs.ScenarioData.{DeviceLineData, LineWhat, LineData, ScenarioData}
-use Rattle.text_model.specs.ScenarioData as line
-use Rattle.text_model.specs.Scenario.{scenario_limits}
 use Rattle.scsi_model.specs.Scsi.{Serves}
-use Rattle.text_model.specs.Replay.{Plays}
-use Rattle.text_model.specs.Several.{Journaled, DrainsEach, ReplaysEach, journaled_text, ends_text}
-use Rattle.tcmu_types.specs.Lists.{Every}
-use Rattle.text_model.specs.Text.{device_text, answer_text}
-use Rattle.tcmu_types.proofs.Readings.{same_some}
+use Rattle.text_model.specs.Journals.{Journaled, entries_of}
+use Rattle.text_model.specs.Printed.{Printed, AnEntry, ADump, OutsideLine, is_about, printed_text, Picture, RunPrints}
+use Rattle.text_model.specs.Replay.{LineRelation, Plays, Prints}
+use Rattle.text_model.specs.ScenarioData.{LineWhat, LineData}
+use Rattle.text_model.specs.ScenarioData as line
+use Rattle.text_model.specs.Several.{DrainsEach, ReplaysEach, ends_text}
+use Rattle.text_model.specs.Text.{device_text}
+use Rattle.text_model.proofs.PrintedJournals.{undumped}
 use Rattle.block_engine.specs.Determined.{LosesNothing}
 use Rattle.block_engine.proofs.Settling.{one_reply_without_loss}
-use Rattle.tcmu_types.proofs.Everies.{every_at}
-use Rattle.tcmu_types.proofs.Places.{get_within}
-use Rattle.text_laws.specs.Replays.{entries_of}
 use Rattle.text_laws.specs.Settled.{OneText}
-use Rattle.text_laws.proofs.Carried.{spelled_read}
-use Rattle.text_laws.proofs.OneReading.{entry_same, ReadsOn, EntriesTell, journals_same, opened_alike, opened_sound}
-use Rattle.text_laws.proofs.Replays.{opened_count, replay_journal}
+use Rattle.text_laws.proofs.Apart.{behind_same}
+use Rattle.text_laws.proofs.Matching.{AllMatch, match_as, match_append, match_undumped, match_filter, rejoined, replays_count, replays_within}
+use Rattle.text_laws.proofs.SameEntries.{entry_same, journaled_same}
 use Rattle.text_laws.proofs.Sets.{every_set}
 
 -- ==== one event
@@ -131,94 +134,143 @@ one_step d e f d1 d2 m p q s t =
 some≢none : (e : EventData) → Some e ≡ None → ⊥
 some≢none e x = cc
 
--- entries and an end that are the same, with a medium that loses nothing
-abbrev Same : List EntryData → List EntryData → Device → Device → Type 0
-Same es fs d1 d2 = (es ≡ fs) × (d1 ≡ d2) × LosesNothing d2.medium
+-- ends that are the same, with a medium that loses nothing
+abbrev EndSame : Device → Device → Type 0
+EndSame d1 d2 = (d1 ≡ d2) × LosesNothing d2.medium
 
-one_drain : (at : ℕ) (d : Device) (es fs : List EntryData) (d1 d2 : Device) → LosesNothing d.medium → Drains Serves at d es d1 → Drains Serves at d fs d2 → Same es fs d1 d2
-one_drain at d [] [] d1 d2 m h k = (refl, h.1 ∙ sym k.1, subst (λ (x : Device). LosesNothing x.medium) (sym k.1) m)
+one_drain : (at : ℕ) (d : Device) (es fs : List EntryData) (d1 d2 : Device) → LosesNothing d.medium → Drains Serves at d es d1 → Drains Serves at d fs d2 → (es ≡ fs) × EndSame d1 d2
+one_drain at d [] [] d1 d2 m h k = (refl, (h.1 ∙ sym k.1, subst (λ (x : Device). LosesNothing x.medium) (sym k.1) m))
 one_drain at d [] (f ∷ fs) d1 d2 m h k = absurd (some≢none f.event (sym k.1 ∙ h.0))
 one_drain at d (e ∷ es) [] d1 d2 m h k = absurd (some≢none e.event (sym h.1 ∙ k.0))
 one_drain at d (e ∷ es) (f ∷ fs) d1 d2 m h k =
     let same = one_step d e f h.2 k.2 m (h.0 ∙ sym k.0) (same_some e.event f.event (sym h.1 ∙ k.1)) h.3 k.3 in
     let rest = one_drain at k.2 es fs d1 d2 same.2 (subst (λ (x : Device). Drains Serves at x es d1) same.1 h.4) k.4 in
-    (ap (λ (x : EntryData). x ∷ es) same.0 ∙ ap (λ (x : List EntryData). f ∷ x) rest.0, rest.1, rest.2)
+    (ap (λ (x : EntryData). x ∷ es) same.0 ∙ ap (λ (x : List EntryData). f ∷ x) rest.0, rest.1)
 
-one_play : (at : ℕ) (d : Device) (what : LineWhat) (es fs : List EntryData) (d1 d2 : Device) → LosesNothing d.medium → Plays Serves at d what es d1 → Plays Serves at d what fs d2 → Same es fs d1 d2
+one_play : (at : ℕ) (d : Device) (what : LineWhat) (es fs : List EntryData) (d1 d2 : Device) → LosesNothing d.medium → Plays Serves at d what es d1 → Plays Serves at d what fs d2 → (es ≡ fs) × EndSame d1 d2
 one_play at d (line.EventLine event) es fs d1 d2 m h k =
     let same = one_step d h.0 k.0 d1 d2 m (h.1 ∙ sym k.1) (h.2 ∙ sym k.2) h.3 k.3 in
-    (h.4 ∙ ap (λ (x : EntryData). x ∷ []) same.0 ∙ sym k.4, same.1, same.2)
+    (h.4 ∙ ap (λ (x : EntryData). x ∷ []) same.0 ∙ sym k.4, (same.1, same.2))
 one_play at d line.DrainLine es fs d1 d2 m h k = one_drain at d es fs d1 d2 m h k
-one_play at d line.DumpLine es fs d1 d2 m h k = absurd h
+one_play at d line.DumpLine es fs d1 d2 m h k = (h.0 ∙ sym k.0, (h.1 ∙ sym k.1, subst (λ (x : Device). LosesNothing x.medium) (sym k.1) m))
+
+one_print : (at : ℕ) (d : Device) (what : LineWhat) (ps qs : List Printed) (d1 d2 : Device) → LosesNothing d.medium → Prints Serves at d what ps d1 → Prints Serves at d what qs d2 → AllMatch ps qs × EndSame d1 d2
+one_print at d (line.EventLine event) ps qs d1 d2 m h k =
+    let one = one_play at d (line.EventLine event) (entries_of h.journal) (entries_of k.journal) d1 d2 m h.plays k.plays in
+    (match_as ps qs (undumped h.journal) (undumped k.journal) h.are k.are (match_undumped h.journal k.journal one.0), one.1)
+one_print at d line.DrainLine ps qs d1 d2 m h k =
+    let one = one_play at d line.DrainLine (entries_of h.journal) (entries_of k.journal) d1 d2 m h.plays k.plays in
+    (match_as ps qs (undumped h.journal) (undumped k.journal) h.are k.are (match_undumped h.journal k.journal one.0), one.1)
+one_print at d line.DumpLine ps qs d1 d2 m h k =
+    (match_as ps qs (ADump at h.dump ∷ []) (ADump at k.dump ∷ []) h.is k.is (refl, tt), (h.same ∙ sym k.same, subst (λ (x : Device). LosesNothing x.medium) (sym k.same) m))
 
 -- ==== replays
 
 abbrev pub LoseNothing : List Device → Type 0
 LoseNothing ds = Every (λ d. LosesNothing d.medium) ds
 
--- entries and ends that are the same, with media that lose nothing
-abbrev SameEach : List EntryData → List EntryData → List Device → List Device → Type 0
-SameEach es fs ends lasts = (es ≡ fs) × (ends ≡ lasts) × LoseNothing lasts
+-- what comes of one line is alike, and leads to one end
+abbrev IsSettled : {X : Type 0} → LineRelation X → (List X → List X → Type 0) → Type 0
+IsSettled {X} comes Alike = (at : ℕ) (d : Device) (what : LineWhat) (xs ys : List X) (d1 d2 : Device) → LosesNothing d.medium → comes at d what xs d1 → comes at d what ys d2 → Alike xs ys × EndSame d1 d2
 
-joined : (a b c d : List EntryData) → a ≡ c → b ≡ d → a ++ b ≡ c ++ d
-joined a b c d p q = ap (λ (x : List EntryData). x ++ b) p ∙ ap (λ (x : List EntryData). c ++ x) q
+-- lists that are alike where their parts are
+record IsAlikeness {X : Type 0} (Alike : List X → List X → Type 0) : Type 0 where
+  none : (xs ys : List X) → xs ≡ [] → ys ≡ [] → Alike xs ys
+  both : (xs ys a b c d : List X) → xs ≡ a ++ b → ys ≡ c ++ d → Alike a c → Alike b d → Alike xs ys
 
-one_end : (at : ℕ) (ds : List Device) (es fs : List EntryData) (ends lasts : List Device) → LoseNothing ds → DrainsEach Serves at ds es ends → DrainsEach Serves at ds fs lasts → SameEach es fs ends lasts
-one_end at [] es fs ends lasts m h k = (h.0 ∙ sym k.0, h.1 ∙ sym k.1, subst (λ (xs : List Device). LoseNothing xs) (sym k.1) tt)
-one_end at (d ∷ ds) es fs ends lasts m h k =
-    let first = one_drain at d h.0 k.0 h.2 k.2 m.0 h.6 k.6 in
-    let rest = one_end (at + 1) ds h.1 k.1 h.3 k.3 m.1 h.7 k.7 in (
-      h.4 ∙ joined h.0 h.1 k.0 k.1 first.0 rest.0 ∙ sym k.4,
-      h.5 ∙ ap (λ (x : Device). x ∷ h.3) first.1 ∙ ap (λ (xs : List Device). k.2 ∷ xs) rest.1 ∙ sym k.5,
-      subst (λ (xs : List Device). LoseNothing xs) (sym k.5) (first.2, rest.2),
+-- ends that are the same, with media that lose nothing
+abbrev EndsSame : List Device → List Device → Type 0
+EndsSame ends lasts = (ends ≡ lasts) × LoseNothing lasts
+
+one_end : {X : Type 0} (comes : LineRelation X) (Alike : List X → List X → Type 0) → IsSettled comes Alike → IsAlikeness Alike
+    → (at : ℕ) (ds : List Device) (xs ys : List X) (ends lasts : List Device) → LoseNothing ds → DrainsEach comes at ds xs ends → DrainsEach comes at ds ys lasts → Alike xs ys × EndsSame ends lasts
+one_end comes Alike one alike at [] xs ys ends lasts m h k = (alike.none xs ys h.0 k.0, (h.1 ∙ sym k.1, subst (λ (x : List Device). LoseNothing x) (sym k.1) tt))
+one_end comes Alike one alike at (d ∷ ds) xs ys ends lasts m h k =
+    let first = one at d line.DrainLine h.0 k.0 h.2 k.2 m.0 h.6 k.6 in
+    let rest = one_end comes Alike one alike (at + 1) ds h.1 k.1 h.3 k.3 m.1 h.7 k.7 in (
+      alike.both xs ys h.0 h.1 k.0 k.1 h.4 k.4 first.0 rest.0,
+      (
+        h.5 ∙ ap (λ (x : Device). x ∷ h.3) first.1.0 ∙ ap (λ (x : List Device). k.2 ∷ x) rest.1.0 ∙ sym k.5,
+        subst (λ (x : List Device). LoseNothing x) (sym k.5) (first.1.1, rest.1.1),
+      ),
     )
 
-pub one_replay : (ds : List Device) (ls : List LineData) (es fs : List EntryData) (ends lasts : List Device) → LoseNothing ds → ReplaysEach Serves ds ls es ends → ReplaysEach Serves ds ls fs lasts → SameEach es fs ends lasts
-one_replay ds [] es fs ends lasts m h k = one_end 0 ds es fs ends lasts m h k
-one_replay ds (l ∷ ls) es fs ends lasts m h k =
+one_each : {X : Type 0} (comes : LineRelation X) (Alike : List X → List X → Type 0) → IsSettled comes Alike → IsAlikeness Alike
+    → (ds : List Device) (ls : List LineData) (xs ys : List X) (ends lasts : List Device) → LoseNothing ds → ReplaysEach comes ds ls xs ends → ReplaysEach comes ds ls ys lasts → Alike xs ys × EndsSame ends lasts
+one_each comes Alike one alike ds [] xs ys ends lasts m h k = one_end comes Alike one alike 0 ds xs ys ends lasts m h k
+one_each {X} comes Alike one alike ds (l ∷ ls) xs ys ends lasts m h k =
     let d = k.2 in
-    let one : h.2 ≡ d = same_some h.2 d (sym h.5 ∙ k.5) in
-    let plays = subst (λ (x : Device). Plays Serves l.device x l.what h.0 h.3) one h.6 in
-    let first = one_play l.device d l.what h.0 k.0 h.3 k.3 (every_at (λ x. LosesNothing x.medium) ds l.device d m k.5) plays k.6 in
-    let later = subst (λ (x : Device). ReplaysEach Serves (slice_set ds l.device x) ls h.1 ends) first.1 h.7 in
-    let rest = one_replay (slice_set ds l.device k.3) ls h.1 k.1 ends lasts (every_set (λ x. LosesNothing x.medium) ds l.device k.3 m first.2) later k.7 in
-    (h.4 ∙ joined h.0 h.1 k.0 k.1 first.0 rest.0 ∙ sym k.4, rest.1, rest.2)
+    let from : h.2 ≡ d = same_some h.2 d (sym h.5 ∙ k.5) in
+    let plays = subst (λ (x : Device). comes l.device x l.what h.0 h.3) from h.6 in
+    let first = one l.device d l.what h.0 k.0 h.3 k.3 (every_at (λ x. LosesNothing x.medium) ds l.device d m k.5) plays k.6 in
+    let later = subst (λ (x : Device). ReplaysEach comes (slice_set ds l.device x) ls h.1 ends) first.1.0 h.7 in
+    let rest = one_each comes Alike one alike (slice_set ds l.device k.3) ls h.1 k.1 ends lasts (every_set (λ x. LosesNothing x.medium) ds l.device k.3 m first.1.1) later k.7 in
+    (alike.both xs ys h.0 h.1 k.0 k.1 h.4 k.4 first.0 rest.0, rest.1)
 
--- ==== texts
+joined : (xs ys a b c d : List EntryData) → xs ≡ a ++ b → ys ≡ c ++ d → a ≡ c → b ≡ d → xs ≡ ys
+joined xs ys a b c d e f p q = e ∙ ap (λ (x : List EntryData). x ++ b) p ∙ ap (λ (x : List EntryData). c ++ x) q ∙ sym f
 
-abbrev first_or : EntryData → List EntryData → EntryData
-first_or e [] = e
-first_or e (f ∷ fs) = f
+-- the same lines make the same entries, and lead to the same ends
+pub one_replay : (ds : List Device) (ls : List LineData) (es fs : List EntryData) (ends lasts : List Device) → LoseNothing ds → ReplaysEach (Plays Serves) ds ls es ends → ReplaysEach (Plays Serves) ds ls fs lasts
+    → (es ≡ fs) × (ends ≡ lasts) × LoseNothing lasts
+one_replay ds ls es fs ends lasts m h k =
+    let Alike : List EntryData → List EntryData → Type 0 = λ xs ys. xs ≡ ys in
+    let all = one_each (Plays Serves) Alike one_play (record { none = λ xs ys e f. e ∙ sym f; both = joined }) ds ls es fs ends lasts m h k in
+    (all.0, all.1.0, all.1.1)
 
--- the same entries tell the same
-entries_tell : (ls : List DeviceLineData) (js fs : List Journaled) → Every (λ j. j.entry.device < length ls) js → entries_of js ≡ entries_of fs → EntriesTell ls js fs
-entries_tell ls [] [] h e = tt
-entries_tell ls [] (f ∷ fs) h e = absurd (cc)
-entries_tell ls (j ∷ js) [] h e = absurd (cc)
-entries_tell ls (j ∷ js) (f ∷ fs) h e =
-    let one : j.entry ≡ f.entry = ap (first_or j.entry) e in
-    let line = get_within ls j.entry.device h.0 in (
-      record {
-        device = ap (λ (x : EntryData). x.device) one;
-        event = ap (λ (x : EntryData). x.event) one;
-        line = line.0;
-        answer = ap (λ (x : EntryData). answer_text line.0.settings.qfull j.entry.event x.answer) one;
-      },
-      entries_tell ls js fs h.1 (ap (λ (x : List EntryData). drop 1 x) e),
-    )
+match_both : (xs ys a b c d : List Printed) → xs ≡ a ++ b → ys ≡ c ++ d → AllMatch a c → AllMatch b d → AllMatch xs ys
+match_both xs ys a b c d e f h k = match_as xs ys (a ++ b) (c ++ d) e f (match_append a c b d h k)
+
+pub all_match : (ds : List Device) (ls : List LineData) (ps qs : List Printed) (ends lasts : List Device) → LoseNothing ds → ReplaysEach (Prints Serves) ds ls ps ends → ReplaysEach (Prints Serves) ds ls qs lasts
+    → AllMatch ps qs × EndsSame ends lasts
+all_match ds ls ps qs ends lasts m h k =
+    one_each (Prints Serves) AllMatch one_print (record { none = λ xs ys e f. match_as xs ys [] [] e f tt; both = match_both }) ds ls ps qs ends lasts m h k
+
+-- ==== what a device prints
+
+same_run : (picture : Picture) (d d1 d2 : Device) (lists l1 l2 : List Taken) (ps qs : List Printed) → LosesNothing d.medium → AllMatch ps qs → RunPrints Serves picture d lists ps d1 l1 → RunPrints Serves picture d lists qs d2 l2 → ps ≡ qs
+same_run picture d d1 d2 lists l1 l2 [] [] m a h k = refl
+same_run picture d d1 d2 lists l1 l2 [] (q ∷ qs) m a h k = absurd a
+same_run picture d d1 d2 lists l1 l2 (p ∷ ps) [] m a h k = absurd a
+same_run picture d d1 d2 lists l1 l2 (AnEntry j ∷ ps) (AnEntry f ∷ qs) m a h k =
+    let e = a.0 in
+    let step = subst (λ (x : EntryData). Step Serves d x h.0) e h.1 in
+    let one = one_step d f.entry f.entry h.0 k.0 m refl refl step k.1 in
+    let logs : d.state.log ++ j.completions ≡ d.state.log ++ f.completions = sym h.2 ∙ ap (λ (x : Device). x.state.log) one.1 ∙ k.2 in
+    let same : j ≡ f = journaled_same j f e (behind_same d.state.log j.completions f.completions logs) in
+    let after : List Taken = lists_after d.state lists f.entry.event f.entry.answer k.0.state in
+    let goes : RunPrints Serves picture k.0 after ps d1 l1 =
+    subst (λ (x : Device). RunPrints Serves picture x (lists_after d.state lists f.entry.event f.entry.answer x.state) ps d1 l1) one.1
+    (subst (λ (x : EntryData). RunPrints Serves picture h.0 (lists_after d.state lists x.event x.answer h.0.state) ps d1 l1) e h.3) in
+    let rest = same_run picture k.0 d1 d2 after l1 l2 ps qs one.2 a.1 goes k.3 in
+    ap (λ (x : Journaled). AnEntry x ∷ ps) same ∙ ap (λ (xs : List Printed). AnEntry f ∷ xs) rest
+same_run picture d d1 d2 lists l1 l2 (ADump at x ∷ ps) (ADump to y ∷ qs) m a h k =
+    ap (λ (n : ℕ). ADump n x ∷ ps) a.0 ∙ ap (λ (z : DumpData). ADump to z ∷ ps) (h.0 ∙ sym k.0) ∙ ap (λ (xs : List Printed). ADump to y ∷ xs) (same_run picture d d1 d2 lists l1 l2 ps qs m a.1 h.1 k.1)
+same_run picture d d1 d2 lists l1 l2 (OutsideLine at t ∷ ps) (OutsideLine to u ∷ qs) m a h k =
+    ap (λ (n : ℕ). OutsideLine n t ∷ ps) a.0.0 ∙ ap (λ (z : List ℕ). OutsideLine to z ∷ ps) a.0.1 ∙ ap (λ (xs : List Printed). OutsideLine to u ∷ xs) (same_run picture d d1 d2 lists l1 l2 ps qs m a.1 h k)
+same_run picture d d1 d2 lists l1 l2 (AnEntry j ∷ ps) (ADump to y ∷ qs) m a h k = absurd a.0
+same_run picture d d1 d2 lists l1 l2 (AnEntry j ∷ ps) (OutsideLine to u ∷ qs) m a h k = absurd a.0
+same_run picture d d1 d2 lists l1 l2 (ADump at x ∷ ps) (AnEntry f ∷ qs) m a h k = absurd a.0
+same_run picture d d1 d2 lists l1 l2 (ADump at x ∷ ps) (OutsideLine to u ∷ qs) m a h k = absurd a.0
+same_run picture d d1 d2 lists l1 l2 (OutsideLine at t ∷ ps) (AnEntry f ∷ qs) m a h k = absurd a.0
+same_run picture d d1 d2 lists l1 l2 (OutsideLine at t ∷ ps) (ADump to y ∷ qs) m a h k = absurd a.0
 
 pub one_text : OneText
-one_text bytes s opened t u read opens lose h k =
-    let same = one_replay opened s.lines (entries_of h.journal) (entries_of k.journal) h.ends k.ends lose h.replays k.replays in
-    let first = replay_journal Serves bytes t s opened read opens h in
-    let other = replay_journal Serves bytes u s opened read opens k in
-    let spelled = spelled_read scenario_limits bytes s read in
-    let sound = opened_sound s.devices opened spelled opens in
-    let count = opened_count s.devices opened opens in
-    let goes : ReadsOn Serves s.devices opened h.journal h.ends = record { count = count; last = first.count; sound = sound; within = first.devices; legal = h.legal } in
-    let goes' : ReadsOn Serves s.devices opened k.journal k.ends = record { count = count; last = other.count; sound = sound; within = other.devices; legal = k.legal } in
-    let journals = journals_same Serves Serves s.devices opened opened h.journal k.journal h.ends k.ends (opened_alike s.devices opened opened opens opens) goes goes' (entries_tell s.devices h.journal k.journal first.devices same.0) in
-    h.whole
-    ∙ ap (λ (js : List Journaled). flat_map device_text s.devices ++ flat_map (journaled_text s.devices) js ++ ends_text s.devices h.ends) journals.0
-    ∙ ap (λ (ends : List Device). flat_map device_text s.devices ++ flat_map (journaled_text s.devices) k.journal ++ ends_text s.devices ends) same.1
-    ∙ sym k.whole
+one_text picture ls lines opened t u lose h k =
+    let all = all_match opened lines h.printed k.printed h.ends k.ends lose h.replays k.replays in
+    let count = replays_count (Prints Serves) opened h.ends lines h.printed h.replays in
+    let own : (at : ℕ) → at < length opened → filter (is_about at) h.printed ≡ filter (is_about at) k.printed =
+    λ at lt.
+    let d = get_within opened at lt in
+    let last = get_within h.ends at (omega (arith, lt, count)) in
+    let one = h.legal at d.0 last.0 d.1 last.1 in
+    let other = k.legal at d.0 last.0 d.1 (ap (λ (x : List Device). slice_get x at) (sym all.1.0) ∙ last.1) in
+    same_run picture d.0 last.0 last.0 [] one.lists other.lists (filter (is_about at) h.printed) (filter (is_about at) k.printed) (every_at (λ x. LosesNothing x.medium) opened at d.0 lose d.1)
+    (match_filter at h.printed k.printed all.0) one.run other.run in
+    let printed = rejoined (length opened) h.printed k.printed all.0 (replays_within Serves opened h.ends lines h.printed h.replays) own in
+    record {
+      printed = printed;
+      ends = all.1.0;
+      text = h.whole ∙ ap (λ (ps : List Printed). flat_map device_text ls ++ flat_map (printed_text ls) ps ++ ends_text ls h.ends) printed
+          ∙ ap (λ (ds : List Device). flat_map device_text ls ++ flat_map (printed_text ls) k.printed ++ ends_text ls ds) all.1.0 ∙ sym k.whole;
+    }

@@ -13,16 +13,20 @@ use Rattle.tcmu_model.specs.Device.{Device}
 use Rattle.tcmu_types.specs.Fields.{pieces}
 use Rattle.tcmu_model.specs.Sound.{open_count}
 use Rattle.text_model.specs.ScenarioData.{DeviceLineData}
-use Rattle.text_model.specs.Several.{Journaled, journaled_text, ends_text}
+use Rattle.text_model.specs.Several.{ends_text}
 use Rattle.tcmu_types.specs.Lists.{Every}
 use Rattle.text_model.specs.Text.{spaced, line, device_spelling, device_text, event_text, command_text, completion_text, event_line, entry_text, end_text, dump_text}
+use Rattle.text_model.specs.Journals.{Journaled, journaled_text}
+use Rattle.text_model.specs.Printed.{Printed, AnEntry, ADump, OutsideLine, device_of, printed_text, IsOutsideLine, NamesItsDevice}
+use Rattle.text_model.specs.Words.{verb_of}
 use Rattle.tcmu_types.proofs.Everies.{every-append, filter_all, every_at}
 use Rattle.tcmu_types.proofs.Places.{get_within}
 use Rattle.text_laws.specs.Devices.{IsSpelledDevice}
-use Rattle.text_laws.specs.Printed.{Printed, AnEntry, ADump, device_of, printed_text, IsValue}
+use Rattle.text_laws.specs.Printed.{IsValue}
 use Rattle.text_laws.specs.Values.{IsEventValue}
 use Rattle.text_laws.proofs.Asks.{AsksCommand}
 use Rattle.text_laws.proofs.Dumped.{item_line, held_line, box_line, dump_lines, dump_cut}
+use Rattle.text_laws.proofs.OutsideLines.{first_word, has_verb, begins_outside, no_such_word, outside_line}
 use Rattle.text_laws.proofs.Reading.{first_line}
 use Rattle.text_laws.proofs.Unbroken.{Unbroken}
 use Rattle.text_laws.proofs.WholeLines.{Named, done_fields, done_line, end_line, told_event, told_line, told_device, device_told_line}
@@ -84,7 +88,7 @@ abbrev pub is_comment : List ℕ → Bool
 is_comment t = nat_eq (get_or t 0 0) 35
 
 abbrev pub is_device_line : List ℕ → Bool
-is_device_line t = bytes_eq (take 2 t) (codes "de")
+is_device_line t = bytes_eq (first_word t) (codes "device")
 
 abbrev pub begins_dump : List ℕ → Bool
 begins_dump t = bytes_eq (take 2 t) (codes "du")
@@ -99,23 +103,24 @@ pub record IsEventLine (t : List ℕ) : Type 0 where
   pub device : is_device_line t ≡ false
   pub dump : begins_dump t ≡ false
   pub comment : is_comment t ≡ false
+  pub verb : has_verb t ≡ true
 
 pub event_marks : (name : List ℕ) (qfull : ℕ) (e : EventData) (a : AnswerData) → IsEventLine (told_event name qfull e a)
-unfolding event_text command_text
-event_marks name qfull (ev.Submit c) a = record { telling = refl; device = refl; dump = refl; comment = refl }
-event_marks name qfull ev.Dispatch a = record { telling = refl; device = refl; dump = refl; comment = refl }
-event_marks name qfull (ev.Handle s) a = record { telling = refl; device = refl; dump = refl; comment = refl }
-event_marks name qfull (ev.Respond s) a = record { telling = refl; device = refl; dump = refl; comment = refl }
-event_marks name qfull ev.Publish a = record { telling = refl; device = refl; dump = refl; comment = refl }
-event_marks name qfull ev.Clean a = record { telling = refl; device = refl; dump = refl; comment = refl }
-event_marks name qfull ev.Enter a = record { telling = refl; device = refl; dump = refl; comment = refl }
-event_marks name qfull (ev.Tick k) a = record { telling = refl; device = refl; dump = refl; comment = refl }
-event_marks name qfull ev.Block a = record { telling = refl; device = refl; dump = refl; comment = refl }
-event_marks name qfull ev.Unblock a = record { telling = refl; device = refl; dump = refl; comment = refl }
-event_marks name qfull (ev.Reset k) a = record { telling = refl; device = refl; dump = refl; comment = refl }
-event_marks name qfull ev.Restart a = record { telling = refl; device = refl; dump = refl; comment = refl }
-event_marks name qfull (ev.Tmr k ss) a = record { telling = refl; device = refl; dump = refl; comment = refl }
-event_marks name qfull ev.Stat a = record { telling = refl; device = refl; dump = refl; comment = refl }
+unfolding event_text command_text verb_of
+event_marks name qfull (ev.Submit c) a = record { telling = refl; device = refl; dump = refl; comment = refl; verb = refl }
+event_marks name qfull ev.Dispatch a = record { telling = refl; device = refl; dump = refl; comment = refl; verb = refl }
+event_marks name qfull (ev.Handle s) a = record { telling = refl; device = refl; dump = refl; comment = refl; verb = refl }
+event_marks name qfull (ev.Respond s) a = record { telling = refl; device = refl; dump = refl; comment = refl; verb = refl }
+event_marks name qfull ev.Publish a = record { telling = refl; device = refl; dump = refl; comment = refl; verb = refl }
+event_marks name qfull ev.Clean a = record { telling = refl; device = refl; dump = refl; comment = refl; verb = refl }
+event_marks name qfull ev.Enter a = record { telling = refl; device = refl; dump = refl; comment = refl; verb = refl }
+event_marks name qfull (ev.Tick k) a = record { telling = refl; device = refl; dump = refl; comment = refl; verb = refl }
+event_marks name qfull ev.Block a = record { telling = refl; device = refl; dump = refl; comment = refl; verb = refl }
+event_marks name qfull ev.Unblock a = record { telling = refl; device = refl; dump = refl; comment = refl; verb = refl }
+event_marks name qfull (ev.Reset k) a = record { telling = refl; device = refl; dump = refl; comment = refl; verb = refl }
+event_marks name qfull ev.Restart a = record { telling = refl; device = refl; dump = refl; comment = refl; verb = refl }
+event_marks name qfull (ev.Tmr k ss) a = record { telling = refl; device = refl; dump = refl; comment = refl; verb = refl }
+event_marks name qfull ev.Stat a = record { telling = refl; device = refl; dump = refl; comment = refl; verb = refl }
 
 -- ---- dumps
 
@@ -172,6 +177,7 @@ entry_speaks l j sp is h named =
 abbrev pub told_lines : List DeviceLineData → Printed → List (List ℕ)
 told_lines ls (AnEntry j) = told ls j ∷ []
 told_lines ls (ADump at dump) = elim (slice_get ls at) [ Some l ↦ dump_lines l.name dump | None ↦ [] ]
+told_lines ls (OutsideLine at text) = text ∷ []
 
 pub dump_told_is : (ls : List DeviceLineData) (l : DeviceLineData) (at : ℕ) (d : DumpData) → slice_get ls at ≡ Some l → told_lines ls (ADump at d) ≡ dump_lines l.name d
 dump_told_is ls l at d e = ap (λ o. elim o [ Some m ↦ dump_lines m.name d | None ↦ [] ]) e
@@ -180,20 +186,31 @@ dump_told_is ls l at d e = ap (λ o. elim o [ Some m ↦ dump_lines m.name d | N
 abbrev pub Asks : Printed → Type 0
 Asks (AnEntry j) = AsksCommand j.entry.event
 Asks (ADump at dump) = Unit {0}
+Asks (OutsideLine at text) = Unit {0}
 
 -- the initiators of its completions are names
 abbrev pub IsNamed : Printed → Type 0
 IsNamed (AnEntry j) = Every Named j.completions
 IsNamed (ADump at dump) = Unit {0}
+IsNamed (OutsideLine at text) = Unit {0}
 
--- it is of one of so many devices, and can be read
-pub record IsReadable (n : ℕ) (p : Printed) : Type 0 where
-  pub device : device_of p < n
+-- it is of one of these devices, and can be read
+pub record IsReadable (ls : List DeviceLineData) (p : Printed) : Type 0 where
+  pub device : device_of p < length ls
+  pub outside : NamesItsDevice ls p
   pub asks : Asks p
   pub value : IsValue p
   pub named : IsNamed p
 
-one_speaks : (ls : List DeviceLineData) (p : Printed) → Every IsSpelledDevice ls → IsReadable (length ls) p → Speaks (printed_text ls p) (told_lines ls p)
+outside_telling : (name text : List ℕ) → IsOutsideLine name text → is_telling text ≡ true
+outside_telling name text h =
+    let begins = begins_outside name text h in
+    ap is_telling begins.is ∙ ap (λ (b : Bool). not (b && is_ended (get_or begins.rest 1 0))) begins.comment
+
+pub outside_comment : (name text : List ℕ) → IsOutsideLine name text → is_comment text ≡ false
+outside_comment name text h = let begins = begins_outside name text h in ap is_comment begins.is ∙ begins.comment
+
+one_speaks : (ls : List DeviceLineData) (p : Printed) → Every IsSpelledDevice ls → IsReadable ls p → Speaks (printed_text ls p) (told_lines ls p)
 one_speaks ls (AnEntry j) sp h =
     let found = get_within ls j.entry.device h.device in
     let l = found.0 in
@@ -206,12 +223,15 @@ one_speaks ls (ADump at d) sp h =
     let text_is : printed_text ls (ADump at d) ≡ dump_text l.name d = ap (λ o. elim o [ Some m ↦ dump_text m.name d | None ↦ [] ]) found.1 in
     subst (λ (text : List ℕ). Speaks text (told_lines ls (ADump at d))) (sym text_is)
     (subst (λ (ts : List (List ℕ)). Speaks (dump_text l.name d) ts) (sym (dump_told_is ls l at d found.1)) (dump_speaks l.name d (every_at IsSpelledDevice ls at l sp found.1).line.name))
+one_speaks ls (OutsideLine at text) sp h =
+    let l = h.outside.0 in
+    spoken_line text (outside_line l.name text (every_at IsSpelledDevice ls at l sp h.outside.1).line.name h.outside.2) (outside_telling l.name text h.outside.2)
 
-spoken_list : (ls : List DeviceLineData) (ps : List Printed) → Every IsSpelledDevice ls → Every (IsReadable (length ls)) ps → Speaks (flat_map (printed_text ls) ps) (flat_map (told_lines ls) ps)
+spoken_list : (ls : List DeviceLineData) (ps : List Printed) → Every IsSpelledDevice ls → Every (IsReadable ls) ps → Speaks (flat_map (printed_text ls) ps) (flat_map (told_lines ls) ps)
 spoken_list ls [] sp h = nothing_speaks
 spoken_list ls (p ∷ ps) sp h = both_speak (printed_text ls p) (flat_map (printed_text ls) ps) (told_lines ls p) (flat_map (told_lines ls) ps) (one_speaks ls p sp h.0) (spoken_list ls ps sp h.1)
 
-pub spoken_whole : (ls : List DeviceLineData) (ps : List Printed) (ends : List Device) → Every IsSpelledDevice ls → Every (IsReadable (length ls)) ps
+pub spoken_whole : (ls : List DeviceLineData) (ps : List Printed) (ends : List Device) → Every IsSpelledDevice ls → Every (IsReadable ls) ps
     → filter is_telling (pieces 10 ((flat_map device_text ls ++ flat_map (printed_text ls) ps ++ ends_text ls ends) ++ [])) ≡ ((map told_device ls ++ flat_map (told_lines ls) ps) ++ []) ++ []
 spoken_whole ls ps ends sp h =
     both_speak (flat_map device_text ls ++ flat_map (printed_text ls) ps) (ends_text ls ends) (map told_device ls ++ flat_map (told_lines ls) ps) []
@@ -223,18 +243,20 @@ pub device_lines : (ls : List DeviceLineData) → Every (λ t. is_device_line t 
 device_lines [] = tt
 device_lines (l ∷ ls) = (device_marked l, device_lines ls)
 
-one_no_device : (ls : List DeviceLineData) (p : Printed) → Every (λ t. is_device_line t ≡ false) (told_lines ls p)
-one_no_device ls (AnEntry j) = (go (slice_get ls j.entry.device), tt)
+one_no_device : (ls : List DeviceLineData) (p : Printed) → NamesItsDevice ls p → Every (λ t. is_device_line t ≡ false) (told_lines ls p)
+unfolding verb_of
+one_no_device ls (OutsideLine at text) names = (no_such_word names.0.name text (codes "device") refl names.2, tt)
+one_no_device ls (AnEntry j) names = (go (slice_get ls j.entry.device), tt)
   where
     go : (o : Option DeviceLineData) → is_device_line (elim o [ Some l ↦ told_event l.name l.settings.qfull j.entry.event j.entry.answer | None ↦ [] ]) ≡ false
     go None = refl
     go (Some l) = (event_marks l.name l.settings.qfull j.entry.event j.entry.answer).device
-one_no_device ls (ADump at d) = go (slice_get ls at)
+one_no_device ls (ADump at d) names = go (slice_get ls at)
   where
     go : (o : Option DeviceLineData) → Every (λ t. is_device_line t ≡ false) (elim o [ Some l ↦ dump_lines l.name d | None ↦ [] ])
     go None = tt
     go (Some l) = dump_no_device l.name d
 
-pub no_device_lines : (ls : List DeviceLineData) (ps : List Printed) → Every (λ t. is_device_line t ≡ false) (flat_map (told_lines ls) ps)
-no_device_lines ls [] = tt
-no_device_lines ls (p ∷ ps) = every-append (λ t. is_device_line t ≡ false) (told_lines ls p) (flat_map (told_lines ls) ps) (one_no_device ls p) (no_device_lines ls ps)
+pub no_device_lines : (ls : List DeviceLineData) (ps : List Printed) → Every (NamesItsDevice ls) ps → Every (λ t. is_device_line t ≡ false) (flat_map (told_lines ls) ps)
+no_device_lines ls [] names = tt
+no_device_lines ls (p ∷ ps) names = every-append (λ t. is_device_line t ≡ false) (told_lines ls p) (flat_map (told_lines ls) ps) (one_no_device ls p names.0) (no_device_lines ls ps names.1)

@@ -7,26 +7,28 @@ use Rattle.tcmu_types.specs.Events.{EventData}
 use Rattle.text_model.specs.Said.{device_at}
 use Rattle.text_model.specs.ScenarioData.{DeviceLineData, ScenarioData}
 use Rattle.text_model.specs.Scenario.{scenario_limits, with_text}
-use Rattle.text_model.specs.Several.{Journaled}
 use Rattle.tcmu_types.specs.Lists.{Every}
 use Rattle.text_model.specs.Text.{event_text, answer_text}
+use Rattle.text_model.specs.Journals.{Journaled}
+use Rattle.text_model.specs.Printed.{Printed, AnEntry, ADump, OutsideLine, device_of, IsOutsideLine, NamesItsDevice}
 use Rattle.tcmu_types.proofs.Readings.{same_ok, same_some}
 use Rattle.tcmu_types.proofs.Places.{get_within}
+use Rattle.text_model.specs.Words.{verb_of}
 use Rattle.text_laws.specs.Devices.{IsSpelledDevice}
-use Rattle.text_laws.specs.Printed.{Printed, AnEntry, ADump, device_of}
 use Rattle.text_laws.proofs.Apart.{head_or, behind_same, apart, StartsOther, fronts_told, told_apart}
 use Rattle.text_laws.proofs.Devices.{devices_again}
 use Rattle.text_laws.proofs.Dumped.{first_of_dump, dump_lines, dump_lines_told}
 use Rattle.text_laws.proofs.EventLines.{event_told}
+use Rattle.text_laws.proofs.OutsideLines.{has_verb, outside_told, outside_verb}
 use Rattle.text_laws.proofs.Reading.{so_far, opens, its_number}
-use Rattle.text_laws.proofs.Spoken.{is_comment, is_device_line, begins_dump, event_marks, inner_lines, inner_comments, told, told_is, told_lines, dump_told_is, IsReadable, device_lines, no_device_lines}
+use Rattle.text_laws.proofs.Spoken.{is_comment, is_device_line, begins_dump, event_marks, inner_lines, inner_comments, told, told_is, told_lines, dump_told_is, outside_comment, IsReadable, device_lines, no_device_lines}
 use Rattle.text_laws.proofs.WholeLines.{told_event, told_device}
 
 -- ---- devices
 
-pub two_parts : (ls ks : List DeviceLineData) (ps qs : List Printed) → map told_device ls ++ flat_map (told_lines ls) ps ≡ map told_device ks ++ flat_map (told_lines ks) qs
+pub two_parts : (ls ks : List DeviceLineData) (ps qs : List Printed) → Every (NamesItsDevice ls) ps → Every (NamesItsDevice ks) qs → map told_device ls ++ flat_map (told_lines ls) ps ≡ map told_device ks ++ flat_map (told_lines ks) qs
     → (map told_device ls ≡ map told_device ks) × (flat_map (told_lines ls) ps ≡ flat_map (told_lines ks) qs)
-two_parts ls ks ps qs e = told_apart is_device_line (map told_device ls) (flat_map (told_lines ls) ps) (map told_device ks) (flat_map (told_lines ks) qs) (device_lines ls) (no_device_lines ls ps) (device_lines ks) (no_device_lines ks qs) e
+two_parts ls ks ps qs h k e = told_apart is_device_line (map told_device ls) (flat_map (told_lines ls) ps) (map told_device ks) (flat_map (told_lines ks) qs) (device_lines ls) (no_device_lines ls ps h) (device_lines ks) (no_device_lines ks qs k) e
 
 abbrev first_device : DeviceLineData → ScenarioData → DeviceLineData
 first_device l s = elim (slice_get s.devices 0) [ Some k ↦ k | None ↦ l ]
@@ -60,7 +62,7 @@ pub record Tells (ls : List DeviceLineData) (j f : Journaled) : Type 0 where
   pub line : DeviceLineData
   pub answer : answer_text line.settings.qfull j.entry.event j.entry.answer ≡ answer_text line.settings.qfull j.entry.event f.entry.answer
 
-entry_told : (ls : List DeviceLineData) (j f : Journaled) → AreNamedApart ls → Every IsSpelledDevice ls → IsReadable (length ls) (AnEntry j) → IsReadable (length ls) (AnEntry f) → told ls j ≡ told ls f → Tells ls j f
+entry_told : (ls : List DeviceLineData) (j f : Journaled) → AreNamedApart ls → Every IsSpelledDevice ls → IsReadable ls (AnEntry j) → IsReadable ls (AnEntry f) → told ls j ≡ told ls f → Tells ls j f
 entry_told ls j f pairs sp h k e =
     let found = get_within ls j.entry.device h.device in
     let found' = get_within ls f.entry.device k.device in
@@ -84,18 +86,34 @@ entry_told ls j f pairs sp h k e =
 abbrev pub Tell : List DeviceLineData → Printed → Printed → Type 0
 Tell ls (AnEntry j) (AnEntry f) = Tells ls j f
 Tell ls (ADump at d) (ADump to e) = (at ≡ to) × (d ≡ e)
+Tell ls (OutsideLine at text) (OutsideLine to other) = (at ≡ to) × (text ≡ other)
 Tell ls (AnEntry j) (ADump to e) = ⊥
+Tell ls (AnEntry j) (OutsideLine to other) = ⊥
 Tell ls (ADump at d) (AnEntry f) = ⊥
+Tell ls (ADump at d) (OutsideLine to other) = ⊥
+Tell ls (OutsideLine at text) (AnEntry f) = ⊥
+Tell ls (OutsideLine at text) (ADump to e) = ⊥
 
 -- an event line begins no dump
-no_dump : (ls : List DeviceLineData) (j : Journaled) (l : DeviceLineData) (d : DumpData) → IsReadable (length ls) (AnEntry j) → told ls j ≡ first_of_dump l.name d → ⊥
+no_dump : (ls : List DeviceLineData) (j : Journaled) (l : DeviceLineData) (d : DumpData) → IsReadable ls (AnEntry j) → told ls j ≡ first_of_dump l.name d → ⊥
 no_dump ls j l d h e =
     let found = get_within ls j.entry.device h.device in
     let m = found.0 in
     apart begins_dump (told_event m.name m.settings.qfull j.entry.event j.entry.answer) (first_of_dump l.name d) (event_marks m.name m.settings.qfull j.entry.event j.entry.answer).dump refl (sym (told_is ls m j found.1) ∙ e)
 
+-- an outside line is no event line, and begins no dump
+no_event : (ls : List DeviceLineData) (j : Journaled) (text : List ℕ) (at : ℕ) → IsReadable ls (AnEntry j) → NamesItsDevice ls (OutsideLine at text) → told ls j ≡ text → ⊥
+no_event ls j text at h names e =
+    let found = get_within ls j.entry.device h.device in
+    let m = found.0 in
+    apart has_verb text (told_event m.name m.settings.qfull j.entry.event j.entry.answer) (outside_verb names.0.name text names.2) (event_marks m.name m.settings.qfull j.entry.event j.entry.answer).verb (sym e ∙ told_is ls m j found.1)
+
+no_dump_line : (ls : List DeviceLineData) (l : DeviceLineData) (d : DumpData) (text : List ℕ) (at : ℕ) → NamesItsDevice ls (OutsideLine at text) → text ≡ first_of_dump l.name d → ⊥
+unfolding verb_of
+no_dump_line ls l d text at names e = apart has_verb text (first_of_dump l.name d) (outside_verb names.0.name text names.2) refl e
+
 -- what is printed first tells the same, and so does the rest, which begins with no comment
-one_told : (ls : List DeviceLineData) (p q : Printed) (xs ys : List (List ℕ)) → AreNamedApart ls → Every IsSpelledDevice ls → IsReadable (length ls) p → IsReadable (length ls) q → StartsOther is_comment xs → StartsOther is_comment ys
+one_told : (ls : List DeviceLineData) (p q : Printed) (xs ys : List (List ℕ)) → AreNamedApart ls → Every IsSpelledDevice ls → IsReadable ls p → IsReadable ls q → StartsOther is_comment xs → StartsOther is_comment ys
     → told_lines ls p ++ xs ≡ told_lines ls q ++ ys → Tell ls p q × (xs ≡ ys)
 one_told ls (AnEntry j) (AnEntry f) xs ys pairs sp h k a b e = (entry_told ls j f pairs sp h k (ap (head_or []) e), ap (λ (l : List (List ℕ)). drop 1 l) e)
 one_told ls (AnEntry j) (ADump to d) xs ys pairs sp h k a b e =
@@ -116,6 +134,20 @@ one_told ls (ADump at d) (ADump to c) xs ys pairs sp h k a b e =
     let lines : dump_lines l.name d ≡ dump_lines m.name c = ap (λ (t : List ℕ). t ∷ inner_lines d) first ∙ ap (λ (ts : List (List ℕ)). first_of_dump m.name c ∷ ts) inner.0 in
     let both = dump_lines_told l.name m.name d c (every_at IsSpelledDevice ls at l sp found.1).line.name (every_at IsSpelledDevice ls to m sp found'.1).line.name h.value k.value lines in
     ((same_place ls at to l m pairs found.1 found'.1 both.0, both.1), inner.1)
+one_told ls (AnEntry j) (OutsideLine to other) xs ys pairs sp h k a b e = absurd (no_event ls j other to h k.outside (ap (head_or []) e))
+one_told ls (OutsideLine at text) (AnEntry f) xs ys pairs sp h k a b e = absurd (no_event ls f text at k h.outside (sym (ap (head_or []) e)))
+one_told ls (ADump at d) (OutsideLine to other) xs ys pairs sp h k a b e =
+    let found = get_within ls at h.device in
+    absurd (no_dump_line ls found.0 d other to k.outside (ap (head_or []) (sym e ∙ ap (λ (l : List (List ℕ)). l ++ xs) (dump_told_is ls found.0 at d found.1))))
+one_told ls (OutsideLine at text) (ADump to c) xs ys pairs sp h k a b e =
+    let found = get_within ls to k.device in
+    absurd (no_dump_line ls found.0 c text at h.outside (ap (head_or []) (e ∙ ap (λ (l : List (List ℕ)). l ++ ys) (dump_told_is ls found.0 to c found.1))))
+one_told ls (OutsideLine at text) (OutsideLine to other) xs ys pairs sp h k a b e =
+    let l = h.outside.0 in
+    let m = k.outside.0 in
+    let same : text ≡ other = ap (head_or []) e in
+    let named = outside_told l.name m.name other (every_at IsSpelledDevice ls at l sp h.outside.1).line.name (every_at IsSpelledDevice ls to m sp k.outside.1).line.name (subst (IsOutsideLine l.name) same h.outside.2) k.outside.2 in
+    ((same_place ls at to l m pairs h.outside.1 k.outside.1 named, same), ap (λ (l : List (List ℕ)). drop 1 l) e)
 
 -- ---- lists of them
 
@@ -126,23 +158,24 @@ record First (ls : List DeviceLineData) (p : Printed) : Type 0 where
   is : told_lines ls p ≡ line ∷ others
   comment : is_comment line ≡ false
 
-first_of_one : (ls : List DeviceLineData) (p : Printed) → device_of p < length ls → First ls p
-first_of_one ls (AnEntry j) lt =
+first_of_one : (ls : List DeviceLineData) (p : Printed) → device_of p < length ls → NamesItsDevice ls p → First ls p
+first_of_one ls (OutsideLine at text) lt names = record { line = text; others = []; is = refl; comment = outside_comment names.0.name text names.2 }
+first_of_one ls (AnEntry j) lt names =
     let found = get_within ls j.entry.device lt in
     let l = found.0 in
     record { line = told ls j; others = []; is = refl; comment = subst (λ (t : List ℕ). is_comment t ≡ false) (sym (told_is ls l j found.1)) (event_marks l.name l.settings.qfull j.entry.event j.entry.answer).comment }
-first_of_one ls (ADump at d) lt =
+first_of_one ls (ADump at d) lt names =
     let found = get_within ls at lt in
     record { line = first_of_dump found.0.name d; others = inner_lines d; is = dump_told_is ls found.0 at d found.1; comment = refl }
 
-starts : (ls : List DeviceLineData) (ps : List Printed) → Every (IsReadable (length ls)) ps → StartsOther is_comment (flat_map (told_lines ls) ps)
+starts : (ls : List DeviceLineData) (ps : List Printed) → Every (IsReadable ls) ps → StartsOther is_comment (flat_map (told_lines ls) ps)
 starts ls [] h = tt
 starts ls (p ∷ ps) h =
-    let first = first_of_one ls p h.0.device in
+    let first = first_of_one ls p h.0.device h.0.outside in
     subst (StartsOther is_comment) (sym (ap (λ (ts : List (List ℕ)). ts ++ flat_map (told_lines ls) ps) first.is)) first.comment
 
-no_first : (ls : List DeviceLineData) (p : Printed) (ts : List (List ℕ)) → device_of p < length ls → told_lines ls p ++ ts ≡ [] → ⊥
-no_first ls p ts lt e = let first = first_of_one ls p lt in some first.line (first.others ++ ts) (sym (ap (λ (us : List (List ℕ)). us ++ ts) first.is) ∙ e)
+no_first : (ls : List DeviceLineData) (p : Printed) (ts : List (List ℕ)) → device_of p < length ls → NamesItsDevice ls p → told_lines ls p ++ ts ≡ [] → ⊥
+no_first ls p ts lt names e = let first = first_of_one ls p lt names in some first.line (first.others ++ ts) (sym (ap (λ (us : List (List ℕ)). us ++ ts) first.is) ∙ e)
   where
     some : (u : List ℕ) (us : List (List ℕ)) → u ∷ us ≡ [] → ⊥
     some u us q = absurd (cc)
@@ -154,11 +187,11 @@ AllTell ls [] (q ∷ qs) = ⊥
 AllTell ls (p ∷ ps) [] = ⊥
 AllTell ls (p ∷ ps) (q ∷ qs) = Tell ls p q × AllTell ls ps qs
 
-pub lines_tell : (ls : List DeviceLineData) (ps qs : List Printed) → AreNamedApart ls → Every IsSpelledDevice ls → Every (IsReadable (length ls)) ps → Every (IsReadable (length ls)) qs
+pub lines_tell : (ls : List DeviceLineData) (ps qs : List Printed) → AreNamedApart ls → Every IsSpelledDevice ls → Every (IsReadable ls) ps → Every (IsReadable ls) qs
     → flat_map (told_lines ls) ps ≡ flat_map (told_lines ls) qs → AllTell ls ps qs
 lines_tell ls [] [] pairs sp h k e = tt
-lines_tell ls [] (q ∷ qs) pairs sp h k e = no_first ls q (flat_map (told_lines ls) qs) k.0.device (sym e)
-lines_tell ls (p ∷ ps) [] pairs sp h k e = no_first ls p (flat_map (told_lines ls) ps) h.0.device e
+lines_tell ls [] (q ∷ qs) pairs sp h k e = no_first ls q (flat_map (told_lines ls) qs) k.0.device k.0.outside (sym e)
+lines_tell ls (p ∷ ps) [] pairs sp h k e = no_first ls p (flat_map (told_lines ls) ps) h.0.device h.0.outside e
 lines_tell ls (p ∷ ps) (q ∷ qs) pairs sp h k e =
     let one = one_told ls p q (flat_map (told_lines ls) ps) (flat_map (told_lines ls) qs) pairs sp h.0 k.0 (starts ls ps h.1) (starts ls qs k.1) e in
     (one.0, lines_tell ls ps qs pairs sp h.1 k.1 one.1)

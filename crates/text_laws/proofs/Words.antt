@@ -8,8 +8,8 @@ use Rattle.std.proofs.lemmas.List.Folds.{list_all-append}
 use Rattle.std.proofs.lemmas.List.Sums.{AllPass-from_list_all}
 use Rattle.tcmu_types.specs.Fields.{is_blank, is_allowed, before_hash, fields_of}
 use Rattle.text_model.specs.Text.{spaced}
+use Rattle.text_model.specs.Fields.{is_field_byte, IsWord, AreWords}
 use Rattle.text_laws.proofs.Cuts.{one_more}
-use Rattle.text_laws.specs.Words.{is_field_byte, IsWord, AreWords}
 
 pub weaker : (p q : ℕ → Bool) → ((x : ℕ) → p x ≡ true → q x ≡ true) → (xs : List ℕ) → list_all p xs ≡ true → list_all q xs ≡ true
 weaker p q f [] h = refl

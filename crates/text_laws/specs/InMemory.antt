@@ -9,8 +9,11 @@ use Rattle.text_model.specs.Config.{InMemory, InFile}
 use Rattle.text_model.specs.ScenarioData.{DeviceLineData, ScenarioData}
 use Rattle.text_model.specs.Scenario.{scenario_limits, scenario_of}
 use Rattle.scsi_model.specs.Scsi.{Serves}
-use Rattle.text_model.specs.Several.{Journaled, IsReplayOf}
-use Rattle.text_laws.specs.Replays.{entries_of, written, IsJournalOf, KeepsLimits}
+use Rattle.region_model.specs.Picture.{picture_of}
+use Rattle.text_model.specs.Printed.{entries_in}
+use Rattle.text_model.specs.Several.{IsReplayOf}
+use Rattle.text_model.specs.Journals.{Journaled, entries_of}
+use Rattle.text_laws.specs.Replays.{written, IsJournalOf, KeepsLimits}
 
 -- the device of a device line as it opens over memory, all of it zeros; none where the line names a file
 abbrev pub memory_device : DeviceLineData → Option Device
@@ -24,7 +27,7 @@ memory_device l =
 pub record IsTextInMemory (s : ScenarioData) (text : List ℕ) : Type 0 where
   pub opened : List Device
   pub memory : each memory_device s.devices ≡ Some opened
-  pub replay : IsReplayOf Serves s.devices opened s.lines text
+  pub replay : IsReplayOf Serves picture_of s.devices opened s.lines text
 
 -- the text is the one text of the scenario's own replay
 pub record IsOwnText (s : ScenarioData) (text : List ℕ) : Type 0 where
@@ -44,7 +47,7 @@ pub record IsJournalText (ls : List DeviceLineData) (js : List Journaled) (text 
 abbrev pub LawOfReplay : Type 0
 LawOfReplay =
     (bytes text : List ℕ) (s : ScenarioData)
-    → scenario_of bytes ≡ Ok s → (is : IsTextInMemory s text) → length text ≤ 4194304 → length is.replay.journal ≤ 20000
+    → scenario_of bytes ≡ Ok s → (is : IsTextInMemory s text) → length text ≤ 4194304 → length (entries_in is.replay.printed) ≤ 20000
     → (t : ScenarioData) × (scenario_of text ≡ Ok t) × IsOwnText t text
 
 -- The same of every journal on the devices of a scenario, which leaves them nothing to do: where its text keeps the limits of
@@ -59,10 +62,10 @@ LawOfJournals =
 abbrev pub HasOneText : Type 0
 HasOneText = (bytes t u : List ℕ) (r s : ScenarioData) → scenario_of bytes ≡ Ok r → scenario_of bytes ≡ Ok s → IsTextInMemory r t → IsTextInMemory s u → t ≡ u
 
--- Texts of scenarios' replays over media in memory that are the same are of the same devices, and of the same journal: the same
--- entries, with the same answers and the same completions.
+-- Texts of scenarios' replays over media in memory that are the same are of the same devices, and print the same: the same entries, with
+-- the same answers and the same completions.
 abbrev pub HasOneJournal : Type 0
 HasOneJournal =
     (bytes others text : List ℕ) (s t : ScenarioData)
     → scenario_of bytes ≡ Ok s → scenario_of others ≡ Ok t → (is : IsTextInMemory s text) → (it : IsTextInMemory t text)
-    → (s.devices ≡ t.devices) × (is.replay.journal ≡ it.replay.journal)
+    → (s.devices ≡ t.devices) × (is.replay.printed ≡ it.replay.printed)

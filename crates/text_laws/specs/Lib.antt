@@ -1,5 +1,4 @@
 pub mod Bytes
-pub mod Words
 pub mod Pieces
 pub mod Lines
 pub mod Configs

@@ -4,7 +4,8 @@ use Rattle.tcmu_types.specs.Naming.{is_name}
 use Rattle.tcmu_types.specs.Data.{CommandData, DoneData}
 use Rattle.tcmu_types.specs.Events.{EventData}
 use Rattle.tcmu_types.specs.Events as ev
-use Rattle.text_model.specs.ScenarioData.{LineData, EventLine, ScenarioData}
+use Rattle.text_model.specs.Replay.{made}
+use Rattle.text_model.specs.ScenarioData.{ScenarioData}
 use Rattle.text_model.specs.ScenarioRules.{IsEvent}
 use Rattle.text_model.specs.Said.{device_at, SaysLine}
 use Rattle.text_model.specs.Scenario.{with_said, with_text}
@@ -22,10 +23,6 @@ pub record IsCarried (c : CommandData) : Type 0 where
 abbrev pub CarriesBytes : EventData → Type 0
 CarriesBytes (ev.Submit c) = IsCarried c
 CarriesBytes _ = Unit {0}
-
--- the line that makes an event of the device of this number
-abbrev pub made : ℕ → EventData → LineData
-made at e = record { device = at; what = EventLine e }
 
 -- The line of an event within its limits, on a device that is there, is the event's line; what stands behind it, as the event's
 -- answer does, is a comment.

@@ -5,8 +5,9 @@ use Rattle.tcmu_model.specs.Device.{Device}
 use Rattle.tcmu_model.specs.Steps.{HandlerRelation}
 use Rattle.tcmu_types.specs.Lists.{Every}
 use Rattle.text_model.specs.ScenarioData.{DeviceLineData}
+use Rattle.text_model.specs.Printed.{Printed}
 use Rattle.text_laws.specs.Devices.{IsSpelledDevice}
-use Rattle.text_laws.specs.Printed.{Printed, IsValue, AreValues, IsListOf, IsPrintOf}
+use Rattle.text_laws.specs.Printed.{IsValue, AreValues, IsListOf, IsPrintOf}
 
 -- devices of a scenario: each has a line, and their names differ
 pub record AreNamed (ls : List DeviceLineData) : Type 0 where

@@ -1,5 +1,5 @@
 -- The law of replay: the text of a journal is a scenario, and a replay of that scenario has the same text.
-use Rattle.std.specs.Prelude.{◌≡◌, ℕ, ◌<◌, ◌≤◌, List, [], ◌∷◌, ◌++◌, length, map, None, Ok}
+use Rattle.std.specs.Prelude.{◌≡◌, ℕ, ◌<◌, ◌≤◌, List, [], ◌∷◌, ◌++◌, length, None, Ok}
 use Rattle.std.specs.List.{flat_map}
 use Rattle.tcmu_types.specs.Events.{EntryData}
 use Rattle.tcmu_model.specs.MediumState.{MediumState}
@@ -7,23 +7,19 @@ use Rattle.tcmu_model.specs.Device.{Device, opening}
 use Rattle.tcmu_model.specs.Steps.{HandlerRelation}
 use Rattle.tcmu_model.specs.Drain.{drain_event}
 use Rattle.tcmu_types.specs.Lists.{Every}
-use Rattle.text_model.specs.ScenarioData.{DeviceLineData, LineData, ScenarioData}
+use Rattle.text_model.specs.ScenarioData.{DeviceLineData, ScenarioData}
 use Rattle.text_model.specs.ScenarioRules.{IsScenarioWithin}
 use Rattle.text_model.specs.Scenario.{scenario_within, scenario_of}
-use Rattle.text_model.specs.Several.{Journaled, IsLegalEach, journaled_text, ends_text, IsReplayOf}
+use Rattle.text_model.specs.Several.{ends_text, IsReplayOf}
 use Rattle.text_model.specs.Text.{device_text}
 use Rattle.text_model.specs.declared.limits.Limits.{Limits}
+use Rattle.text_model.specs.Printed.{Picture, entries_in}
+use Rattle.text_model.specs.Journals.{Journaled, entries_of, IsLegalEach, journaled_text}
+use Rattle.text_model.specs.Replay.{lines_of}
 use Rattle.text_laws.specs.Devices.{IsSpelledDevice}
-use Rattle.text_laws.specs.Lines.{CarriesBytes, made}
+use Rattle.text_laws.specs.Lines.{CarriesBytes}
 
 -- ==== journals
-
-abbrev pub entries_of : List Journaled → List EntryData
-entries_of js = map (λ j. j.entry) js
-
--- the lines that make the events of these entries, each on its own device
-abbrev pub lines_of : List EntryData → List LineData
-lines_of es = map (λ e. made e.device e.event) es
 
 -- the scenario of these devices and of the events of these entries
 abbrev pub written : List DeviceLineData → List EntryData → ScenarioData
@@ -61,18 +57,18 @@ IsReadBack R =
     → Every IsSpelledDevice ls → IsJournalOf R ls opened js ends text → KeepsLimits limits ls (entries_of js) text
     → scenario_within limits text ≡ Ok (written ls (entries_of js))
 
--- The text of a journal that leaves its devices nothing to do is the text of a replay of the journal's events.
+-- The text of a journal that leaves its devices nothing to do is the text of a replay of the journal's events, which has no dumps.
 abbrev pub IsReplayedAgain : HandlerRelation → Type 0
 IsReplayedAgain R =
-    (ls : List DeviceLineData) (opened : List Device) (js : List Journaled) (ends : List Device) (text : List ℕ)
+    (picture : Picture) (ls : List DeviceLineData) (opened : List Device) (js : List Journaled) (ends : List Device) (text : List ℕ)
     → IsJournalOf R ls opened js ends text → Every (λ d. drain_event d.state ≡ None) ends
-    → IsReplayOf R ls opened (lines_of (entries_of js)) text
+    → IsReplayOf R picture ls opened (lines_of (entries_of js)) text
 
 -- Every text of a replay of a scenario that is read, where it has at most 4,194,304 bytes and at most 20,000 events, is a scenario,
 -- and it is a text of a replay of that scenario on the same devices.
 abbrev pub IsScenarioAgain : HandlerRelation → Type 0
 IsScenarioAgain R =
-    (bytes text : List ℕ) (s : ScenarioData) (opened : List Device)
-    → scenario_of bytes ≡ Ok s → OpenAs s.devices opened → (is : IsReplayOf R s.devices opened s.lines text)
-    → length text ≤ 4194304 → length is.journal ≤ 20000
-    → (scenario_of text ≡ Ok (written s.devices (entries_of is.journal))) × IsReplayOf R s.devices opened (lines_of (entries_of is.journal)) text
+    (picture : Picture) (bytes text : List ℕ) (s : ScenarioData) (opened : List Device)
+    → scenario_of bytes ≡ Ok s → OpenAs s.devices opened → (is : IsReplayOf R picture s.devices opened s.lines text)
+    → length text ≤ 4194304 → length (entries_in is.printed) ≤ 20000
+    → (scenario_of text ≡ Ok (written s.devices (entries_of (entries_in is.printed)))) × IsReplayOf R picture s.devices opened (lines_of (entries_of (entries_in is.printed))) text

@@ -1,19 +1,24 @@
--- A scenario over media that lose nothing has one text.
-use Rattle.std.specs.Prelude.{◌≡◌, ℕ, List, Ok}
-use Rattle.tcmu_model.specs.Device.{Device}
+-- The same lines over media that lose nothing print the same, and have one text.
+use Rattle.std.specs.Prelude.{◌≡◌, ℕ, List}
 use Rattle.tcmu_types.specs.Lists.{Every}
-use Rattle.text_model.specs.ScenarioData.{ScenarioData}
-use Rattle.text_model.specs.Scenario.{scenario_of}
+use Rattle.tcmu_model.specs.Device.{Device}
 use Rattle.scsi_model.specs.Scsi.{Serves}
-use Rattle.text_model.specs.Several.{IsReplayOf}
 use Rattle.block_engine.specs.Determined.{LosesNothing}
-use Rattle.text_laws.specs.Replays.{OpenAs}
+use Rattle.text_model.specs.Printed.{Picture}
+use Rattle.text_model.specs.ScenarioData.{DeviceLineData, LineData}
+use Rattle.text_model.specs.Several.{IsReplayOf}
 
--- Two texts of replays of a scenario that is read, on the same devices, are the same, where their media lie in memory, or in files
--- whose stores list no failing call.
+-- Two replays print the same, lead to the same ends, and have the same text.
+pub record IsSameReplay (picture : Picture) (ls : List DeviceLineData) (opened : List Device) (lines : List LineData) (t u : List ℕ) (is : IsReplayOf Serves picture ls opened lines t) (it : IsReplayOf Serves picture ls opened lines u) : Type 0 where
+  pub printed : is.printed ≡ it.printed
+  pub ends : is.ends ≡ it.ends
+  pub text : t ≡ u
+
+-- So do any two of the same lines on the same devices, dumps and all, where their media lie in memory, or in files whose stores list no
+-- failing call.
 abbrev pub OneText : Type 0
 OneText =
-    (bytes : List ℕ) (s : ScenarioData) (opened : List Device) (t u : List ℕ)
-    → scenario_of bytes ≡ Ok s → OpenAs s.devices opened → Every (λ d. LosesNothing d.medium) opened
-    → IsReplayOf Serves s.devices opened s.lines t → IsReplayOf Serves s.devices opened s.lines u
-    → t ≡ u
+    (picture : Picture) (ls : List DeviceLineData) (lines : List LineData) (opened : List Device) (t u : List ℕ)
+    → Every (λ d. LosesNothing d.medium) opened
+    → (is : IsReplayOf Serves picture ls opened lines t) → (it : IsReplayOf Serves picture ls opened lines u)
+    → IsSameReplay picture ls opened lines t u is it

@@ -4,3 +4,6 @@ pub mod ScenarioLaws
 pub mod ScriptLaws
 pub mod ServedLaws
 pub mod Generated
+pub mod PrintedJournals
+pub mod JournalSteps
+pub mod LiveSchedules

@@ -7,7 +7,9 @@ use Rattle.std.proofs.lemmas.List.{length-map, get_or-map}
 use Rattle.std.proofs.lemmas.List.Elements.{All-nil, All-cons, All-append, All-map}
 use Rattle.std.proofs.lemmas.List.Quantifiers.{all_pairs_push}
 use Rattle.tcmu_types.specs.Data.{CommandData}
+use Rattle.tcmu_types.specs.Rules.{IsCommand}
 use Rattle.tcmu_types.specs.Events.{EventData}
+use Rattle.tcmu_types.specs.Events as ev
 use Rattle.text_model.specs.ScenarioData.{ScenarioData, DeviceLineData, LineData, LineWhat, EventLine, DrainLine, DumpLine, command_of}
 use Rattle.text_model.specs.Scenario.{with_name, with_initiator, initiators, initiators_from}
 use Rattle.text_model.specs.Script.{sent_by, is_admin, admin_in, admin_of, init_line, script_of}
@@ -78,10 +80,27 @@ sent_own d name l = go (command_of l)
     go None = All-nil (λ c. c.init ≡ name)
     go (Some c) = own c (nat_eq l.device d && bytes_eq c.init name) refl
 
-init_is : (d : ℕ) (ls : List LineData) (name : List ℕ) → length ls ≤ 20000 → IsInitLine (init_line d ls name)
-init_is d ls name few = record {
+sent_rules : (d : ℕ) (name : List ℕ) (l : LineData) → IsWhat l.what → All IsCommand (sent_by d name l)
+sent_rules d name l h = go l.what h
+  where
+    own : (c : CommandData) (b : Bool) → IsCommand c → All IsCommand (cond b (c ∷ []) [])
+    own c true is = All-cons IsCommand c [] is (All-nil IsCommand)
+    own c false is = All-nil IsCommand
+
+    told : (e : EventData) → IsWhat (EventLine e) → All IsCommand (sent_by d name (record { device = l.device; what = EventLine e }))
+    told (ev.Submit c) is = own c (nat_eq l.device d && bytes_eq c.init name) is
+    told e is = All-nil IsCommand
+
+    go : (w : LineWhat) → IsWhat w → All IsCommand (sent_by d name (record { device = l.device; what = w }))
+    go (EventLine e) is = told e is
+    go DrainLine is = All-nil IsCommand
+    go DumpLine is = All-nil IsCommand
+
+init_is : (d : ℕ) (ds : List DeviceLineData) (ls : List LineData) (name : List ℕ) → length ls ≤ 20000 → All (IsLine ds) ls → IsInitLine (init_line d ls name)
+init_is d ds ls name few lines = record {
   few = let short = flat_short (sent_by d name) ls (sent_one d name) in omega (arith, short, few);
   own = flat_all (sent_by d name) (λ l. Unit {0}) (λ c. c.init ≡ name) ls (λ l u. sent_own d name l) (λ i x lt. tt);
+  commands = flat_all (sent_by d name) (IsLine ds) IsCommand ls (λ l is. sent_rules d name l is.what) lines;
 }
 
 -- ---- what the administration does
@@ -134,7 +153,7 @@ script_is s device k =
     record {
       few = let same = length-map names (init_line device s.lines) in let fit = k.few_initiators device in omega (arith, same, fit);
       names = pairs_map (init_line device s.lines) (λ i j. i.name ≢ j.name) names (initiators_differ device [] s.lines (λ i j x lt within. absurd (omega (arith, within))));
-      inits = All-map IsInitLine (init_line device s.lines) names (λ i x lt. init_is device s.lines _ k.few_lines);
+      inits = All-map IsInitLine (init_line device s.lines) names (λ i x lt. init_is device s.devices s.lines _ k.few_lines k.lines);
       few_admin = let short = flat_short (admin_of device) s.lines (admin_one device) in omega (arith, short, k.few_lines);
       admin = flat_all (admin_of device) (IsLine s.devices) IsAdminEvent s.lines (λ l sound. admin_is device s.devices l sound) k.lines;
     }

@@ -1,18 +1,31 @@
 -- Fields: numbers, names, hexadecimal digits, runs, lists.
-use Rattle.std.specs.Prelude.{ℕ, Bool, true, false, ◌&&◌, List, [], ◌∷◌, length, drop, replicate, slice_index, Option, Some, None, nat_lt, nat_le, ◌==◌, if◌then◌else◌, codes, bytes_eq}
-use Rattle.std.specs.List.{flat_map}
+use Rattle.std.specs.Prelude.{◌≡◌, ℕ, ◌<◌, Bool, true, false, ◌&&◌, not, List, [], ◌∷◌, length, drop, replicate, slice_index, Option, Some, None, nat_lt, nat_le, ◌==◌, if◌then◌else◌, codes, bytes_eq}
+use Rattle.std.specs.List.{flat_map, list_all}
 use Rattle.std.specs.Option.{option_and_then, option_map}
 use Rattle.tcmu_types.specs.Naming.{is_name}
 use Rattle.tcmu_types.specs.Rules.{group_length}
 use Rattle.tcmu_types.specs.declared.settings.Flags.{Flags}
 use Rattle.tcmu_types.specs.Reading.{each}
-use Rattle.tcmu_types.specs.Fields.{comma, only_if, pieces, star}
+use Rattle.tcmu_types.specs.Fields.{comma, hash, only_if, pieces, star}
 use Rattle.tcmu_types.specs.Decimals.{number_of, rising_of}
 use Rattle.tcmu_types.specs.Hex.{bytes_of_hex, hex_pair}
 
 -- ---- characters
 
+-- a byte of a field
+abbrev pub is_field_byte : ℕ → Bool
+is_field_byte c = nat_le 33 c && nat_le c 126 && not (c == hash)
+
 -- ---- texts
+
+-- a text that may be a field
+pub record IsWord (w : List ℕ) : Type 0 where
+  pub some : 0 < length w
+  pub bytes : list_all is_field_byte w ≡ true
+
+abbrev pub AreWords : List (List ℕ) → Type 0
+AreWords [] = Unit {0}
+AreWords (w ∷ ws) = IsWord w × AreWords ws
 
 abbrev pub name_of : List ℕ → Option (List ℕ)
 name_of text = only_if is_name text

@@ -8,6 +8,9 @@ pub mod Scenario
 pub mod Script
 pub mod ScenarioRules
 pub mod Text
+pub mod Journals
+pub mod Printed
 pub mod Replay
 pub mod Several
+pub mod Schedule
 pub mod Load

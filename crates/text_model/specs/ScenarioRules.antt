@@ -92,6 +92,7 @@ pub record IsServed (s : ScenarioData) : Type 0 where
 pub record IsInitLine (i : InitLineData) : Type 0 where
   pub few : length i.commands ≤ 20000
   pub own : All (λ c. c.init ≡ i.name) i.commands
+  pub commands : All IsCommand i.commands
 
 -- what the administration does
 pub record IsAdminEvent (e : EventData) : Type 0 where

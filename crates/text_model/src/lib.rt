@@ -5,11 +5,15 @@
 mod faults;
 mod laws;
 mod limits;
+mod printing;
+mod schedules;
 mod words;
 mod worked;
 
 pub use faults::{ConfigFault, Why};
 pub use laws::{config_law, scenario_law, script_law, served_law};
 pub use limits::{Limits, SCENARIO_LIMITS};
+pub use printing::{printed_law, undumped_law};
+pub use schedules::{schedule_again_law, schedule_law};
 pub use words::{Subtype, Verb};
 pub use worked::load_examples;
