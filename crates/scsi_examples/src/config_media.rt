@@ -7,6 +7,9 @@ use std::alloc::Global;
 use std::test::Fail;
 use tcmu_types::{Bytes, Serials};
 
+/// A medium that a config makes.
+pub type ConfigMedium = Media<MemStore>;
+
 /// Files with `img` alone, of so many bytes of zeros, whose store fails at these calls.
 pub fn files_with(alloc: Global, size: usize, fails: &[u64]) -> Result<MemFiles, Fail> {
     let zeros = Bytes::from_vec(filled(alloc, 0, size)?);
@@ -21,13 +24,13 @@ fn make(
     alloc: Global,
     config: &str,
     files: &mut MemFiles,
-) -> Result<Result<Media<MemStore>, MakeFault>, Fail> {
+) -> Result<Result<ConfigMedium, MakeFault>, Fail> {
     let config = parse_config(alloc, config).ok().ok_or("a config")?;
     Ok(make_medium(alloc, &config, files))
 }
 
 /// The medium of a config text over these files.
-pub fn made(alloc: Global, config: &str, files: &mut MemFiles) -> Result<Media<MemStore>, Fail> {
+pub fn made(alloc: Global, config: &str, files: &mut MemFiles) -> Result<ConfigMedium, Fail> {
     match make(alloc, config, files)? {
         Ok(medium) => Ok(medium),
         Err(_) => Err(Fail::new("a medium")),

@@ -5,123 +5,64 @@ use media::MemMedium;
 use std::alloc::Global;
 use std::process::Abort;
 use std::test::Fail;
-use tcmu_types::{Bytes, Cdb, Name, Reply, ScsiStatus, Sense};
+use tcmu_types::{Bytes, Cdb, Name, Reply, ScsiStatus};
 
 /// An engine over a medium in memory.
 pub type Disk = Engine<MemMedium>;
 
-/// How a command ends: its status, and the sense data that go with CHECK CONDITION.
+/// How a command ends.
 #[derive(Clone, Copy, Debug, PartialEq, Eq)]
-pub struct Outcome {
-    pub status: ScsiStatus,
-    pub sense: Option<Sense>,
+pub enum Outcome {
+    /// GOOD, without sense data.
+    Good,
+    /// CHECK CONDITION, with its sense key, additional sense code and qualifier.
+    Check(u8, u8, u8),
+    /// Any other status, or sense data that are missing or too many; with the status.
+    Other(u8),
 }
 
 impl Outcome {
     /// How the command of a reply ended.
     pub fn of(reply: &Reply) -> Outcome {
-        Outcome {
-            status: reply.status,
-            sense: reply.sense,
+        match reply.sense {
+            None if reply.status == ScsiStatus::GOOD => Outcome::Good,
+            Some(sense) if reply.status == ScsiStatus::CHECK_CONDITION => {
+                Outcome::Check(sense.key, sense.asc, sense.ascq)
+            }
+            _ => Outcome::Other(reply.status.0),
         }
     }
 }
 
 /// GOOD, without sense data.
-pub const GOOD: Outcome = Outcome {
-    status: ScsiStatus::GOOD,
-    sense: None,
-};
+pub const GOOD: Outcome = Outcome::Good;
 
 /// MEDIUM ERROR, WRITE ERROR.
-pub const WRITE_ERROR: Outcome = Outcome {
-    status: ScsiStatus::CHECK_CONDITION,
-    sense: Some(Sense {
-        key: 0x3,
-        asc: 0x0c,
-        ascq: 0,
-    }),
-};
+pub const WRITE_ERROR: Outcome = Outcome::Check(0x3, 0x0c, 0x00);
 
 /// MEDIUM ERROR, UNRECOVERED READ ERROR.
-pub const READ_ERROR: Outcome = Outcome {
-    status: ScsiStatus::CHECK_CONDITION,
-    sense: Some(Sense {
-        key: 0x3,
-        asc: 0x11,
-        ascq: 0,
-    }),
-};
+pub const READ_ERROR: Outcome = Outcome::Check(0x3, 0x11, 0x00);
 
 /// ILLEGAL REQUEST, PARAMETER LIST LENGTH ERROR.
-pub const LIST_LENGTH: Outcome = Outcome {
-    status: ScsiStatus::CHECK_CONDITION,
-    sense: Some(Sense {
-        key: 0x5,
-        asc: 0x1a,
-        ascq: 0,
-    }),
-};
+pub const LIST_LENGTH: Outcome = Outcome::Check(0x5, 0x1a, 0x00);
 
 /// ILLEGAL REQUEST, INVALID COMMAND OPERATION CODE.
-pub const OPERATION_CODE: Outcome = Outcome {
-    status: ScsiStatus::CHECK_CONDITION,
-    sense: Some(Sense {
-        key: 0x5,
-        asc: 0x20,
-        ascq: 0,
-    }),
-};
+pub const OPERATION_CODE: Outcome = Outcome::Check(0x5, 0x20, 0x00);
 
 /// ILLEGAL REQUEST, LOGICAL BLOCK ADDRESS OUT OF RANGE.
-pub const RANGE: Outcome = Outcome {
-    status: ScsiStatus::CHECK_CONDITION,
-    sense: Some(Sense {
-        key: 0x5,
-        asc: 0x21,
-        ascq: 0,
-    }),
-};
+pub const RANGE: Outcome = Outcome::Check(0x5, 0x21, 0x00);
 
 /// ILLEGAL REQUEST, INVALID FIELD IN CDB.
-pub const FIELD: Outcome = Outcome {
-    status: ScsiStatus::CHECK_CONDITION,
-    sense: Some(Sense {
-        key: 0x5,
-        asc: 0x24,
-        ascq: 0,
-    }),
-};
+pub const FIELD: Outcome = Outcome::Check(0x5, 0x24, 0x00);
 
 /// ILLEGAL REQUEST, INVALID FIELD IN PARAMETER LIST.
-pub const LIST_FIELD: Outcome = Outcome {
-    status: ScsiStatus::CHECK_CONDITION,
-    sense: Some(Sense {
-        key: 0x5,
-        asc: 0x26,
-        ascq: 0,
-    }),
-};
+pub const LIST_FIELD: Outcome = Outcome::Check(0x5, 0x26, 0x00);
 
 /// DATA PROTECT, WRITE PROTECTED.
-pub const PROTECTED: Outcome = Outcome {
-    status: ScsiStatus::CHECK_CONDITION,
-    sense: Some(Sense {
-        key: 0x7,
-        asc: 0x27,
-        ascq: 0,
-    }),
-};
+pub const PROTECTED: Outcome = Outcome::Check(0x7, 0x27, 0x00);
 
 /// MISCOMPARE, MISCOMPARE DURING VERIFY OPERATION.
-pub const MISCOMPARE: Outcome = Outcome {
-    status: ScsiStatus::CHECK_CONDITION,
-    sense: Some(Sense {
-        key: 0xe,
-        asc: 0x1d,
-        ascq: 0,
-    }),
-};
+pub const MISCOMPARE: Outcome = Outcome::Check(0xe, 0x1d, 0x00);
 
 /// A command, how many zeros go with it, how many bytes may come back, and how it ends.
 pub type Case = (&'static str, usize, u32, Outcome);
@@ -150,6 +91,14 @@ pub fn is_block_of(bytes: &[u8], byte: u8) -> bool {
     bytes.len() == 512 && bytes.iter().all(|item| *item == byte)
 }
 
+/// A command descriptor block in hexadecimal digits, with the bytes that go with it.
+fn request(alloc: Global, cdb: &str, sent: &[u8], in_len: u32) -> Result<Request, Fail> {
+    let cdb = bytes_of(alloc, cdb)?;
+    let cdb = Cdb::new(&cdb).ok().ok_or("a command descriptor block")?;
+    let sent = Bytes::from_slice(alloc, sent)?;
+    Ok(Request { cdb, sent, in_len })
+}
+
 /// The reply to a command descriptor block in hexadecimal digits, with the bytes that go with it.
 pub fn ask<H: Handler>(
     alloc: Global,
@@ -158,26 +107,34 @@ pub fn ask<H: Handler>(
     sent: &[u8],
     in_len: u32,
 ) -> Result<Reply, Fail> {
-    let cdb = bytes_of(alloc, cdb)?;
-    let cdb = Cdb::new(&cdb).ok().ok_or("a command descriptor block")?;
-    let sent = Bytes::from_slice(alloc, sent)?;
-    let request = Request { cdb, sent, in_len };
+    let request = request(alloc, cdb, sent, in_len)?;
     Ok(disk.handle(alloc, &request)?)
 }
 
-/// How a command ends that sends these bytes.
-pub fn ended<H: Handler>(
+/// Asserts how a command ends that sends these bytes and asks for none.
+pub fn assert_ends(
+    rt: &impl Abort,
     alloc: Global,
-    disk: &mut H,
+    disk: &mut Disk,
     cdb: &str,
     sent: &[u8],
-    in_len: u32,
-) -> Result<Outcome, Fail> {
-    Ok(Outcome::of(&ask(alloc, disk, cdb, sent, in_len)?))
+    wanted: Outcome,
+) -> Result<(), Fail> {
+    let reply = ask(alloc, disk, cdb, sent, 0)?;
+    assert_eq!(rt; Outcome::of(&reply), wanted, "{cdb}");
+    Ok(())
+}
+
+/// Asserts that a READ(10) of logical block 3 gives this byte throughout.
+pub fn assert_reads(rt: &impl Abort, alloc: Global, disk: &mut Disk, byte: u8) -> Result<(), Fail> {
+    let reply = ask(alloc, disk, "28000000000300000100", &[], 512)?;
+    let whole = is_block_of(reply.payload.as_slice(), byte);
+    assert!(rt; whole, "a block of {byte:#04x}");
+    Ok(())
 }
 
 /// Asks a disk each command, and asserts that it ends as its case says.
-pub fn ask_each(
+pub fn assert_each(
     rt: &impl Abort,
     alloc: Global,
     disk: &mut Disk,
@@ -185,7 +142,8 @@ pub fn ask_each(
 ) -> Result<(), Fail> {
     for &(cdb, sent, in_len, wanted) in cases {
         let sent = filled(alloc, 0, sent)?;
-        assert_eq!(rt; ended(alloc, disk, cdb, &sent, in_len)?, wanted, "{cdb}");
+        let reply = ask(alloc, disk, cdb, &sent, in_len)?;
+        assert_eq!(rt; Outcome::of(&reply), wanted, "{cdb}");
     }
     Ok(())
 }

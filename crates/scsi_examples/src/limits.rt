@@ -1,9 +1,10 @@
 //! Each form of a command at its last range, one block past it, and with a count of 0; the limits of WRITE SAME and of UNMAP's lists.
 use crate::fixture::{
-    Case, Disk, FIELD, GOOD, LIST_FIELD, LIST_LENGTH, OPERATION_CODE, Outcome, RANGE, ask,
-    ask_each, bytes_of, disk, ended, filled, is_block_of,
+    Case, Disk, FIELD, GOOD, LIST_FIELD, LIST_LENGTH, OPERATION_CODE, Outcome, RANGE, assert_each,
+    assert_ends, assert_reads, bytes_of, disk, filled,
 };
 use std::alloc::Global;
+use std::process::Abort;
 use std::test::Fail;
 
 /// An UNMAP, its parameter list, and how it ends.
@@ -162,84 +163,107 @@ const UNMAP_LISTS: [ListCase; 17] = [
     ),
 ];
 
+fn answers_at_limits() -> &'static [Case] {
+    &ANSWERS_AT_LIMITS
+}
+
+fn calls_at_limits() -> &'static [Case] {
+    &CALLS_AT_LIMITS
+}
+
+fn counts_of_write_same() -> &'static [Case] {
+    &COUNTS_OF_WRITE_SAME
+}
+
+fn unmap_lists() -> &'static [ListCase] {
+    &UNMAP_LISTS
+}
+
 #[test]
 fn answers_at_their_limits(rt: HostRuntime) -> Result<(), Fail> {
     let alloc = rt.alloc();
     let mut disk = disk(alloc, 256)?;
-    ask_each(&rt, alloc, &mut disk, &ANSWERS_AT_LIMITS)
+    assert_each(&rt, alloc, &mut disk, answers_at_limits())
 }
 
 #[test]
 fn calls_at_their_limits(rt: HostRuntime) -> Result<(), Fail> {
     let alloc = rt.alloc();
     let mut disk = disk(alloc, 256)?;
-    ask_each(&rt, alloc, &mut disk, &CALLS_AT_LIMITS)
+    assert_each(&rt, alloc, &mut disk, calls_at_limits())
 }
 
 #[test]
 fn write_same_is_of_2048_blocks_at_most(rt: HostRuntime) -> Result<(), Fail> {
     let alloc = rt.alloc();
     let mut disk = disk(alloc, 2_048)?;
-    ask_each(&rt, alloc, &mut disk, &COUNTS_OF_WRITE_SAME)
+    assert_each(&rt, alloc, &mut disk, counts_of_write_same())
 }
 
-/// How an UNMAP ends, its parameter list in hexadecimal digits.
-fn unmapped(alloc: Global, disk: &mut Disk, cdb: &str, list: &str) -> Result<Outcome, Fail> {
-    ended(alloc, disk, cdb, &bytes_of(alloc, list)?, 0)
+/// Asserts how an UNMAP ends, its parameter list in hexadecimal digits.
+fn assert_unmap(
+    rt: &impl Abort,
+    alloc: Global,
+    disk: &mut Disk,
+    cdb: &str,
+    list: &str,
+    wanted: Outcome,
+) -> Result<(), Fail> {
+    let list = bytes_of(alloc, list)?;
+    assert_ends(rt, alloc, disk, cdb, &list, wanted)
 }
 
 #[test]
 fn an_unmap_list_is_checked_before_ranges(rt: HostRuntime) -> Result<(), Fail> {
     let alloc = rt.alloc();
     let mut disk = disk(alloc, 64)?;
-    for &(cdb, list, wanted) in &UNMAP_LISTS {
-        let answer = unmapped(alloc, &mut disk, cdb, list)?;
-        assert_eq!(rt; answer, wanted, "{cdb} {list}");
+    for &(cdb, list, wanted) in unmap_lists() {
+        assert_unmap(&rt, alloc, &mut disk, cdb, list, wanted)?;
     }
     Ok(())
 }
 
-/// How an UNMAP with a list of a head and so many descriptors of no block ends.
-fn many_unmapped(alloc: Global, cdb: &str, head: &[u8], count: u16) -> Result<Outcome, Fail> {
-    let mut disk = disk(alloc, 64)?;
-    let mut list = filled(alloc, 0, 0)?;
+/// A parameter list of a head and so many descriptors of no block.
+fn list_of(alloc: Global, head: &[u8], count: u16) -> Result<Vec<u8>, Fail> {
+    let mut list = Vec::new(alloc);
     list.extend_from_slice(head)?;
     list.resize(8 + 16 * count as usize, 0)?;
-    ended(alloc, &mut disk, cdb, &list, 0)
+    Ok(list)
 }
 
 #[test]
 fn an_unmap_list_has_256_descriptors_at_most(rt: HostRuntime) -> Result<(), Fail> {
     let alloc = rt.alloc();
-    let most = many_unmapped(alloc, "42000000000000100800", b"\x10\x06\x10\x00", 256)?;
-    assert_eq!(rt; most, GOOD);
-    let over = many_unmapped(alloc, "42000000000000101800", b"\x10\x16\x10\x10", 257)?;
-    assert_eq!(rt; over, LIST_FIELD);
-    Ok(())
-}
-
-/// Writes logical block 3; whether it is then read as it was written.
-fn write_one(alloc: Global, disk: &mut Disk) -> Result<bool, Fail> {
-    let sent = filled(alloc, 0x5a, 512)?;
-    let written = ended(alloc, disk, "2a000000000300000100", &sent, 0)?;
-    Ok(written == GOOD && is_written(alloc, disk)?)
-}
-
-/// Whether logical block 3 is as `write_one` wrote it.
-fn is_written(alloc: Global, disk: &mut Disk) -> Result<bool, Fail> {
-    let reply = ask(alloc, disk, "28000000000300000100", &[], 512)?;
-    Ok(is_block_of(reply.payload.as_slice(), 0x5a))
+    let mut disk = disk(alloc, 64)?;
+    let most = list_of(alloc, b"\x10\x06\x10\x00", 256)?;
+    assert_ends(&rt, alloc, &mut disk, "42000000000000100800", &most, GOOD)?;
+    let more = list_of(alloc, b"\x10\x16\x10\x10", 257)?;
+    assert_ends(
+        &rt,
+        alloc,
+        &mut disk,
+        "42000000000000101800",
+        &more,
+        LIST_FIELD,
+    )
 }
 
 #[test]
 fn an_unmap_out_of_range_changes_nothing(rt: HostRuntime) -> Result<(), Fail> {
     let alloc = rt.alloc();
     let mut disk = disk(alloc, 64)?;
-    assert!(rt; write_one(alloc, &mut disk)?);
+    let sent = filled(alloc, 0x5a, 512)?;
+    assert_ends(&rt, alloc, &mut disk, "2a000000000300000100", &sent, GOOD)?;
+    assert_reads(&rt, alloc, &mut disk, 0x5a)?;
     let one_in_range =
         "00260020000000000000000000000003000000010000000000000000000000400000000100000000";
-    let answer = unmapped(alloc, &mut disk, "42000000000000002800", one_in_range)?;
-    assert_eq!(rt; answer, RANGE);
-    assert!(rt; is_written(alloc, &mut disk)?);
-    Ok(())
+    assert_unmap(
+        &rt,
+        alloc,
+        &mut disk,
+        "42000000000000002800",
+        one_in_range,
+        RANGE,
+    )?;
+    assert_reads(&rt, alloc, &mut disk, 0x5a)
 }

@@ -1,11 +1,13 @@
 //! Each operation with the outcomes of its rules, and what is then read (SPC-4, SBC-3).
 use crate::fixture::{
-    Case, Disk, FIELD, GOOD, LIST_LENGTH, MISCOMPARE, OPERATION_CODE, Outcome, RANGE, ask,
-    ask_each, bytes_of, disk, ended, filled, is_block_of,
+    Case, Disk, FIELD, GOOD, LIST_LENGTH, MISCOMPARE, OPERATION_CODE, RANGE, ask, assert_each,
+    assert_ends, assert_reads, bytes_of, disk, filled,
 };
 use handler_trait::Medium;
 use std::alloc::Global;
+use std::process::Abort;
 use std::test::Fail;
+use tcmu_types::Bytes;
 
 /// One case at least of each kind of answer.
 const OPERATIONS: [Case; 28] = [
@@ -124,8 +126,11 @@ const TAKING: [Case; 25] = [
     ("42010000000000001800", 24, 0, FIELD),
 ];
 
-/// Commands of no data, how many bytes may come back, and how many do.
-const CUT: [(&str, u32, usize); 10] = [
+/// A command of no data, how many bytes may come back, and how many do.
+type CutCase = (&'static str, u32, usize);
+
+/// On 8192 logical blocks.
+const CUT: [CutCase; 10] = [
     // INQUIRY
     ("120000002400", 64, 36),
     ("120000000500", 64, 5),
@@ -145,11 +150,27 @@ const CUT: [(&str, u32, usize); 10] = [
     ("28000000000000000200", 4_096, 1_024),
 ];
 
+fn operations() -> &'static [Case] {
+    &OPERATIONS
+}
+
+fn answering() -> &'static [Case] {
+    &ANSWERING
+}
+
+fn taking() -> &'static [Case] {
+    &TAKING
+}
+
+fn cut() -> &'static [CutCase] {
+    &CUT
+}
+
 #[test]
 fn each_operation_at_the_edges_of_its_rules(rt: HostRuntime) -> Result<(), Fail> {
     let alloc = rt.alloc();
     let mut disk = disk(alloc, 64)?;
-    ask_each(&rt, alloc, &mut disk, &OPERATIONS)?;
+    assert_each(&rt, alloc, &mut disk, operations())?;
     assert_eq!(rt; disk.into_medium().blocks(), 64);
     Ok(())
 }
@@ -158,26 +179,14 @@ fn each_operation_at_the_edges_of_its_rules(rt: HostRuntime) -> Result<(), Fail>
 fn each_form_that_answers_bytes(rt: HostRuntime) -> Result<(), Fail> {
     let alloc = rt.alloc();
     let mut disk = disk(alloc, 64)?;
-    ask_each(&rt, alloc, &mut disk, &ANSWERING)
+    assert_each(&rt, alloc, &mut disk, answering())
 }
 
 #[test]
 fn each_form_that_takes_bytes(rt: HostRuntime) -> Result<(), Fail> {
     let alloc = rt.alloc();
     let mut disk = disk(alloc, 64)?;
-    ask_each(&rt, alloc, &mut disk, &TAKING)
-}
-
-/// Whether logical block 3 has this byte throughout.
-fn reads_as(alloc: Global, disk: &mut Disk, byte: u8) -> Result<bool, Fail> {
-    let reply = ask(alloc, disk, "28000000000300000100", &[], 512)?;
-    Ok(is_block_of(reply.payload.as_slice(), byte))
-}
-
-/// How an UNMAP of logical block 3 ends.
-fn unmap_one(alloc: Global, disk: &mut Disk) -> Result<Outcome, Fail> {
-    let list = bytes_of(alloc, "001600100000000000000000000000030000000100000000")?;
-    ended(alloc, disk, "42000000000000001800", &list, 0)
+    assert_each(&rt, alloc, &mut disk, taking())
 }
 
 #[test]
@@ -185,12 +194,11 @@ fn what_is_written_is_read_until_it_is_unmapped(rt: HostRuntime) -> Result<(), F
     let alloc = rt.alloc();
     let mut disk = disk(alloc, 64)?;
     let sent = filled(alloc, 0x5a, 512)?;
-    let written = ended(alloc, &mut disk, "2a000000000300000100", &sent, 0)?;
-    assert_eq!(rt; written, GOOD);
-    assert!(rt; reads_as(alloc, &mut disk, 0x5a)?);
-    assert_eq!(rt; unmap_one(alloc, &mut disk)?, GOOD);
-    assert!(rt; reads_as(alloc, &mut disk, 0)?);
-    Ok(())
+    assert_ends(&rt, alloc, &mut disk, "2a000000000300000100", &sent, GOOD)?;
+    assert_reads(&rt, alloc, &mut disk, 0x5a)?;
+    let list = bytes_of(alloc, "001600100000000000000000000000030000000100000000")?;
+    assert_ends(&rt, alloc, &mut disk, "42000000000000001800", &list, GOOD)?;
+    assert_reads(&rt, alloc, &mut disk, 0)
 }
 
 #[test]
@@ -198,40 +206,47 @@ fn other_bytes_than_those_on_the_disk_miscompare(rt: HostRuntime) -> Result<(), 
     let alloc = rt.alloc();
     let mut disk = disk(alloc, 64)?;
     let sent = filled(alloc, 0x01, 1_024)?;
-    let compared = ended(
-        alloc,
-        &mut disk,
-        "89000000000000000003000000010000",
-        &sent,
-        0,
-    )?;
-    assert_eq!(rt; compared, MISCOMPARE);
-    assert!(rt; reads_as(alloc, &mut disk, 0)?);
-    Ok(())
+    let cdb = "89000000000000000003000000010000";
+    assert_ends(&rt, alloc, &mut disk, cdb, &sent, MISCOMPARE)?;
+    assert_reads(&rt, alloc, &mut disk, 0)
 }
 
-/// How many bytes a command answers.
-fn answered(alloc: Global, disk: &mut Disk, cdb: &str, in_len: u32) -> Result<usize, Fail> {
-    Ok(ask(alloc, disk, cdb, &[], in_len)?.payload.len())
+/// Asserts how many bytes a command answers.
+fn assert_answered(
+    rt: &impl Abort,
+    alloc: Global,
+    disk: &mut Disk,
+    cdb: &str,
+    in_len: u32,
+    wanted: usize,
+) -> Result<(), Fail> {
+    let reply = ask(alloc, disk, cdb, &[], in_len)?;
+    assert_eq!(rt; reply.payload.len(), wanted, "{cdb}");
+    Ok(())
 }
 
 #[test]
 fn answers_are_cut_to_both_lengths(rt: HostRuntime) -> Result<(), Fail> {
     let alloc = rt.alloc();
     let mut disk = disk(alloc, 8_192)?;
-    for &(cdb, in_len, wanted) in &CUT {
-        assert_eq!(rt; answered(alloc, &mut disk, cdb, in_len)?, wanted, "{cdb}");
+    for &(cdb, in_len, wanted) in cut() {
+        assert_answered(&rt, alloc, &mut disk, cdb, in_len, wanted)?;
     }
     Ok(())
+}
+
+/// The answer to READ CAPACITY(16).
+fn capacity(alloc: Global, disk: &mut Disk) -> Result<Bytes, Fail> {
+    let reply = ask(alloc, disk, "9e100000000000000000000000200000", &[], 32)?;
+    Ok(reply.payload)
 }
 
 #[test]
 fn the_capacity_names_the_last_block(rt: HostRuntime) -> Result<(), Fail> {
     let alloc = rt.alloc();
     let mut disk = disk(alloc, 8_192)?;
-    let capacity = "9e100000000000000000000000200000";
-    let reply = ask(alloc, &mut disk, capacity, &[], 32)?;
-    let data = reply.payload.as_slice();
+    let data = capacity(alloc, &mut disk)?;
+    let data = data.as_slice();
     assert!(rt; data.starts_with(b"\x00\x00\x00\x00\x00\x00\x1f\xff\x00\x00\x02\x00"));
     Ok(())
 }
