@@ -18,4 +18,4 @@ IsFresh NoMemory = ⊥
 
 -- a store of the host tells neither its bytes nor which calls fail
 abbrev pub untold : StoreOfHost → StoreState
-untold s = record { size = s.size; bytes = None; calls = record { fails = None; calls = s.calls } }
+untold s = record { size = s.size; bytes = None; calls = record { fails = None; calls = s.calls }; syncs = s.syncs }

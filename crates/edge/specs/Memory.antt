@@ -27,7 +27,7 @@ pub record StoreInMemory : Type 0 where
 
 -- what the store of a file in memory tells
 abbrev pub content_of : StoreInMemory → Content
-content_of s = record { bytes = s.bytes; calls = record { fails = Some s.fails; calls = s.calls } }
+content_of s = record { bytes = s.bytes; calls = record { fails = Some s.fails; calls = s.calls }; syncs = s.syncs }
 
 -- a file by its name: its store, while it is at home
 pub record NamedStore : Type 0 where

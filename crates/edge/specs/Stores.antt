@@ -6,11 +6,12 @@ use Rattle.tcmu_types.specs.Overwriting.{overwritten}
 
 -- ==== a store
 
--- what a store shows: how many bytes it holds, the bytes, where told, and its numbered calls
+-- what a store shows: how many bytes it holds, the bytes, where told, its numbered calls, and how many of them were syncs
 pub record StoreState : Type 0 where
   pub size : ℕ
   pub bytes : Option (List ℕ)
   pub calls : Numbered
+  pub syncs : ℕ
 
 -- the piece stands from its place on; telling is kept
 abbrev pub Puts : ℕ → List ℕ → Option (List ℕ) → Option (List ℕ) → Type 0
@@ -26,14 +27,15 @@ Shows told at out = IfSome told (λ bytes. out ≡ take (length out) (drop at by
 
 -- ==== files by name
 
--- what a file holds, and how the calls of its store come out
+-- what a file holds, how the calls of its store come out, and how many of them were syncs
 pub record Content : Type 0 where
   pub bytes : List ℕ
   pub calls : Numbered
+  pub syncs : ℕ
 
 -- the store of a file that is told
 abbrev pub store_of : Content → StoreState
-store_of c = record { size = length c.bytes; bytes = Some c.bytes; calls = c.calls }
+store_of c = record { size = length c.bytes; bytes = Some c.bytes; calls = c.calls; syncs = c.syncs }
 
 -- where a name stands: there is no such file, it is out, or it is at home with what it holds
 pub data Place : Type 0 where

@@ -64,8 +64,6 @@ impl Store for HostStore {
 
     ghost faults = { λ s. s.faults };
 
-    ghost syncs = { λ s. s.syncs };
-
     ghost sized = { λ s. tt };
 
     fn length(&self) -> u64 {

@@ -72,8 +72,6 @@ impl Store for MemStore {
 
     ghost faults = { λ s. s.faults };
 
-    ghost syncs = { λ s. s.syncs };
-
     ghost sized = { λ s. refl };
 
     fn length(&self) -> u64

@@ -9,14 +9,11 @@ use crate::Failed;
 /// A store of bytes, of a fixed number. Places are offsets in bytes. `read_at`, `write_at` and `sync` are numbered from 1, a call
 /// that failed too.
 pub trait Store {
-    /// How many bytes it holds, the bytes where they are told, and its numbered calls.
+    /// How many bytes it holds, the bytes where they are told, its numbered calls, and how many of them were syncs, failed ones too.
     ghost state: { Self → StoreState };
 
     /// How many calls have failed; the count stops at 2^64 - 1.
     ghost faults: { Self → ℕ };
-
-    /// How many syncs were asked of it, failed ones too; the count stops at 2^64 - 1.
-    ghost syncs: { Self → ℕ };
 
     /// A store that tells its bytes tells as many as it holds.
     ghost sized: { (s : Self) → IfSome ((state s).bytes) (λ bytes. length bytes ≡ (state s).size) };
@@ -35,7 +32,7 @@ pub trait Store {
         ensures exact { ComesOut (state self.old).calls (is_err result) }
         ensures cause { HasCause (faults self.old) (faults self.new) result }
         ensures count { CountsFailed (faults self.old) (is_err result) (faults self.new) }
-        ensures syncs { syncs self.new ≡ syncs self.old };
+        ensures syncs { (state self.new).syncs ≡ (state self.old).syncs };
 
     /// Puts the piece from `at` on, within the store. After a failed call only bytes of this range may differ.
     fn write_at(&mut self, at: u64, piece: &[u8]) -> Result<(), Failed>
@@ -47,7 +44,7 @@ pub trait Store {
         ensures exact { ComesOut (state self.old).calls (is_err result) }
         ensures cause { HasCause (faults self.old) (faults self.new) result }
         ensures count { CountsFailed (faults self.old) (is_err result) (faults self.new) }
-        ensures syncs { syncs self.new ≡ syncs self.old };
+        ensures syncs { (state self.new).syncs ≡ (state self.old).syncs };
 
     /// Brings all that was written before to the device below (fsync of POSIX). What the store tells stays as it is.
     fn sync(&mut self) -> Result<(), Failed>
@@ -57,5 +54,5 @@ pub trait Store {
         ensures exact { ComesOut (state self.old).calls (is_err result) }
         ensures cause { HasCause (faults self.old) (faults self.new) result }
         ensures count { CountsFailed (faults self.old) (is_err result) (faults self.new) }
-        ensures syncs { syncs self.new ≡ next_call (syncs self.old) };
+        ensures syncs { (state self.new).syncs ≡ next_call (state self.old).syncs };
 }

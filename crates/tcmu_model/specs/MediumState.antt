@@ -21,13 +21,14 @@ pub data Layer : Type 0 where
   overlay : Layer
   write_back : ℕ → List Dirty → Layer
 
--- What the store below a medium holds: so many bytes, these where they are told, and how its calls come out. What stands in the free
+-- What the store below a medium holds: so many bytes, these where they are told, how its calls come out, and how many of them were syncs. What stands in the free
 -- blocks (by their numbers) is not known, since failed calls may have spoiled it: they are shown as zeros.
 pub record Base : Type 0 where
   pub size : ℕ
   pub bytes : Option (List ℕ)
   pub free : List ℕ
   pub calls : Numbered
+  pub syncs : ℕ
 
 -- What lies below the medium's own list of failing calls: the bytes that the medium shows, and its store. Where the bytes are told, those
 -- of the lost range are shown as zeros: what stands there is not known.
