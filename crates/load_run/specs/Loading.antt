@@ -3,16 +3,16 @@ use Rattle.std.specs.Prelude.{◌≡◌, ℕ, ◌*◌, List, [], ◌∷◌, repl
 use Rattle.tcmu_types.specs.Events.{EntryData}
 use Rattle.scsi_model.specs.Medium.{memory_state}
 use Rattle.scsi_model.specs.Scsi.{Serves}
-use Rattle.tcmu_model.specs.Device.{Device, opening}
+use Rattle.tcmu_model.specs.Device.{Device}
 use Rattle.tcmu_model.specs.Steps.{Run}
-use Rattle.text_model.specs.ScenarioData.{DeviceLineData}
+use Rattle.text_model.specs.ScenarioData.{DeviceLineData, opened_as}
 use Rattle.text_model.specs.Replay.{Plays}
 use Rattle.text_model.specs.Several.{ReplaysEach}
 use Rattle.text_model.specs.Load.{load_device, load_lines, load_numbers, summary_text}
 
 -- the device of a device line, as it opens over so many logical blocks of zeros
 unfoldable pub opened_over : ℕ → DeviceLineData → Device
-opened_over blocks l = opening l.settings l.name (memory_state blocks (replicate (512 * blocks) 0) 0)
+opened_over blocks l = opened_as l (memory_state blocks (replicate (512 * blocks) 0) 0)
 
 -- that of a load
 abbrev pub opened_load : Device

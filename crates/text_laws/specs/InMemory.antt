@@ -1,12 +1,12 @@
 -- The law of replay over media in memory, of journals without dumps.
 use Rattle.std.specs.Prelude.{◌≡◌, ℕ, ◌≤◌, List, length, Option, Some, None, Ok}
 use Rattle.tcmu_types.specs.Reading.{each}
-use Rattle.tcmu_model.specs.Device.{Device, opening}
+use Rattle.tcmu_model.specs.Device.{Device}
 use Rattle.scsi_model.specs.Medium.{memory_below, opened_medium}
 use Rattle.tcmu_model.specs.Drain.{drain_event}
 use Rattle.tcmu_types.specs.Lists.{Every}
 use Rattle.text_model.specs.Config.{InMemory, InFile}
-use Rattle.text_model.specs.ScenarioData.{DeviceLineData, ScenarioData}
+use Rattle.text_model.specs.ScenarioData.{DeviceLineData, opened_as, ScenarioData}
 use Rattle.text_model.specs.Scenario.{scenario_limits, scenario_of}
 use Rattle.scsi_model.specs.Scsi.{Serves}
 use Rattle.region_model.specs.Picture.{picture_of}
@@ -19,7 +19,7 @@ use Rattle.text_laws.specs.Replays.{written, IsJournalOf, KeepsLimits}
 abbrev pub memory_device : DeviceLineData → Option Device
 memory_device l =
     elim (l.config.kind) [
-      | InMemory blocks ↦ Some (opening l.settings l.name (opened_medium blocks l.config.protected l.config.fails (memory_below blocks)))
+      | InMemory blocks ↦ Some (opened_as l (opened_medium blocks l.config.protected l.config.fails (memory_below blocks)))
       | InFile name ↦ None
     ]
 

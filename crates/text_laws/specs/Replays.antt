@@ -3,11 +3,11 @@ use Rattle.std.specs.Prelude.{◌≡◌, ℕ, ◌<◌, ◌≤◌, List, [], ◌�
 use Rattle.std.specs.List.{flat_map}
 use Rattle.tcmu_types.specs.Events.{EntryData}
 use Rattle.tcmu_model.specs.MediumState.{MediumState}
-use Rattle.tcmu_model.specs.Device.{Device, opening}
+use Rattle.tcmu_model.specs.Device.{Device}
 use Rattle.tcmu_model.specs.Steps.{HandlerRelation}
 use Rattle.tcmu_model.specs.Drain.{drain_event}
 use Rattle.tcmu_types.specs.Lists.{Every}
-use Rattle.text_model.specs.ScenarioData.{DeviceLineData, ScenarioData}
+use Rattle.text_model.specs.ScenarioData.{DeviceLineData, opened_as, ScenarioData}
 use Rattle.text_model.specs.ScenarioRules.{IsScenarioWithin}
 use Rattle.text_model.specs.Scenario.{scenario_within, scenario_of}
 use Rattle.text_model.specs.Several.{ends_text, IsReplayOf}
@@ -30,7 +30,7 @@ abbrev pub OpenAs : List DeviceLineData → List Device → Type 0
 OpenAs [] [] = Unit {0}
 OpenAs [] (d ∷ ds) = ⊥
 OpenAs (l ∷ ls) [] = ⊥
-OpenAs (l ∷ ls) (d ∷ ds) = ((medium : MediumState) × (d ≡ opening l.settings l.name medium)) × OpenAs ls ds
+OpenAs (l ∷ ls) (d ∷ ds) = ((medium : MediumState) × (d ≡ opened_as l medium)) × OpenAs ls ds
 
 -- The text of a journal: the device lines, entries that are legal on each device from its opening to its end, and how many commands
 -- are open on each at its end.

@@ -3,12 +3,18 @@ use Rattle.std.specs.Prelude.{ℕ, List, Option, Some, None}
 use Rattle.tcmu_types.specs.Data.{CommandData, SettingsData}
 use Rattle.tcmu_types.specs.Events.{EventData}
 use Rattle.tcmu_types.specs.Events as ev
+use Rattle.tcmu_model.specs.MediumState.{MediumState}
+use Rattle.tcmu_model.specs.Device.{Device, opening}
 use Rattle.text_model.specs.Config.{ConfigData}
 
 pub record DeviceLineData : Type 0 where
   pub name : List ℕ
   pub config : ConfigData
   pub settings : SettingsData
+
+-- the device of a device line as it opens over a medium: by its name and its settings, with no commands
+abbrev pub opened_as : DeviceLineData → MediumState → Device
+opened_as l medium = opening l.settings l.name medium
 
 pub data LineWhat : Type 0 where
   EventLine : EventData → LineWhat
