@@ -1,9 +1,9 @@
 //! Completions that no handler answered.
 ghost use Rattle.std.specs.Prelude.{◌≡◌};
-ghost use Rattle.tcmu_model.specs.Events.{closing, check_condition, reset_completion};
+ghost use Rattle.tcmu_model.specs.Events.{ending, closing, reset_ending, reset_completion};
 
 use std::alloc::Global;
-use tcmu_types::{Bytes, Command, Done, ScsiStatus, Sense};
+use tcmu_types::{Bytes, Command, Done, Name, ScsiStatus, Sense};
 
 /// HARDWARE ERROR, INTERNAL TARGET FAILURE: a reset ended the command.
 pub const INTERNAL_TARGET_FAILURE: Sense = Sense {
@@ -19,6 +19,27 @@ pub const COMMUNICATION_TIME_OUT: Sense = Sense {
     ascq: 0x01,
 };
 
+/// A completion with a status and sense data of the target's own, and no bytes, of what an initiator sent under a tag.
+pub fn ending(
+    alloc: Global,
+    status: ScsiStatus,
+    sense: Option<Sense>,
+    serial: u64,
+    init: &Name,
+    tag: u32,
+) -> Done
+    ensures { result ≡ ending status.0 sense serial init.now tag }
+{
+    Done {
+        serial,
+        init: init.copy(),
+        tag,
+        status,
+        sense,
+        payload: Bytes::new(alloc),
+    }
+}
+
 /// The completion of a command with a status and sense data of the target's own, and no bytes.
 pub fn closing(
     alloc: Global,
@@ -29,30 +50,24 @@ pub fn closing(
 ) -> Done
     ensures { result ≡ closing status.0 sense serial command.now }
 {
-    Done {
-        serial,
-        init: command.init().copy(),
-        tag: command.tag(),
-        status,
-        sense,
-        payload: Bytes::new(alloc),
-    }
+    ending(alloc, status, sense, serial, command.init(), command.tag())
 }
 
-/// The completion of a command that a reset of a level ends: BUSY at 1 (SAM-5, 5.3.1); HARDWARE ERROR, INTERNAL TARGET FAILURE at 2
-/// (SPC-4, 4.5.6).
+/// The completion of what a reset of a level ends: BUSY at 1 (SAM-5, 5.3.1); HARDWARE ERROR, INTERNAL TARGET FAILURE at 2 (SPC-4, 4.5.6).
+pub fn reset_ending(alloc: Global, level: u8, serial: u64, init: &Name, tag: u32) -> Done
+    ensures { result ≡ reset_ending level serial init.now tag }
+{
+    let (status, sense) = if level == 1 {
+        (ScsiStatus::BUSY, None)
+    } else {
+        (ScsiStatus::CHECK_CONDITION, Some(INTERNAL_TARGET_FAILURE))
+    };
+    ending(alloc, status, sense, serial, init, tag)
+}
+
+/// The completion of a command that a reset of a level ends.
 pub fn reset_completion(alloc: Global, level: u8, serial: u64, command: &Command) -> Done
     ensures { result ≡ reset_completion level serial command.now }
 {
-    if level == 1 {
-        closing(alloc, ScsiStatus::BUSY, None, serial, command)
-    } else {
-        closing(
-            alloc,
-            ScsiStatus::CHECK_CONDITION,
-            Some(INTERNAL_TARGET_FAILURE),
-            serial,
-            command,
-        )
-    }
+    reset_ending(alloc, level, serial, command.init(), command.tag())
 }

@@ -4,5 +4,7 @@
 mod closings;
 mod waiting;
 
-pub use closings::{COMMUNICATION_TIME_OUT, INTERNAL_TARGET_FAILURE, closing, reset_completion};
+pub use closings::{
+    COMMUNICATION_TIME_OUT, INTERNAL_TARGET_FAILURE, closing, ending, reset_completion, reset_ending,
+};
 pub use waiting::{DelayedCommand, DelayedCommands};

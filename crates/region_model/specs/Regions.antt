@@ -29,8 +29,8 @@ abbrev pub bytes_of : RegionState → List ℕ
 bytes_of r = r.front ++ shown (size_of r) r.blocks
 
 -- block k is in the area, and lent
-abbrev pub IsLent : RegionState → ℕ → Type 0
-IsLent r k = slice_get r.blocks k ≡ Some None
+abbrev pub HasLent : RegionState → ℕ → Type 0
+HasLent r k = slice_get r.blocks k ≡ Some None
 
 -- what stands in a place: a block's bytes, and none where the block is lent or not there
 abbrev pub home : Option (Option (List ℕ)) → Option (List ℕ)

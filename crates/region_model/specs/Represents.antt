@@ -66,8 +66,8 @@ has_id id e = e.id == id
 abbrev pub id_of : List PendingRow → ℕ → Option ℕ
 id_of rows s = option_map (λ e. e.id) (first_of (row_has s) rows)
 
-abbrev pub id_at : List ℕ → ℕ → ℕ
-id_at front at = id_in (entry_at front at 112)
+abbrev pub entry_id_at : List ℕ → ℕ → ℕ
+entry_id_at front at = id_in (entry_at front at 112)
 
 pub record IsId (id : ℕ) : Type 0 where
   pub low : 1 ≤ id
@@ -79,9 +79,9 @@ pub record IdsStand (front : List ℕ) (rows : List PendingRow) (d : DeviceState
   pub range : Every (λ e. IsId e.id) rows
   pub differ : Differ (map (λ e. e.id) rows)
   pub answered : (i : ℕ) (x : Item) (s : ℕ) → d.ring.cleared ≤ i → slice_get d.ring.laid i ≡ Some x → is_command x ≡ true
-      → slice_get d.placed (commands_in (take i d.ring.laid)) ≡ Some s → id_of rows s ≡ Some (id_at front (place_of d.ring i))
+      → slice_get d.placed (commands_in (take i d.ring.laid)) ≡ Some s → id_of rows s ≡ Some (entry_id_at front (place_of d.ring i))
   pub own : (i n s : ℕ) (c : CommandData) → d.ring.dispatched ≤ i → slice_get d.ring.laid i ≡ Some (record { len = n; laid = Cmd s c })
-      → id_of rows s ≡ Some (id_at front (place_of d.ring i))
+      → id_of rows s ≡ Some (entry_id_at front (place_of d.ring i))
 
 -- ==== task management notes
 

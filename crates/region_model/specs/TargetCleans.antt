@@ -9,7 +9,7 @@ use Rattle.tcmu_types.specs.declared.dump.ItemKind.TheVariants as kind
 use Rattle.region_model.specs.declared.entry.Response.{Response}
 use Rattle.tcmu_types.specs.Lists.{first_of, without_first}
 use Rattle.tcmu_types.specs.Numbers.{above_all}
-use Rattle.tcmu_model.specs.Events.{reset_completion}
+use Rattle.tcmu_model.specs.Events.{reset_ending, reset_completion}
 use Rattle.region_model.specs.Layout.{ring_start, head_place, tail_place}
 use Rattle.tcmu_types.specs.ByteFields.{le, put, field}
 use Rattle.region_model.specs.EntryReading.{response_at}
@@ -120,7 +120,7 @@ region_cleaned r t =
 
 -- level 1: BUSY; level 2: HARDWARE ERROR, INTERNAL TARGET FAILURE
 abbrev pub reset_log : ℕ → PendingData → DoneData
-reset_log level p = if level == 1 then closed 0x08 None p else checked 0x04 0x44 0x00 p
+reset_log level p = reset_ending level p.serial p.init p.tag
 
 abbrev pub reset_logs : TargetState → ℕ → List DoneData
 reset_logs t level =

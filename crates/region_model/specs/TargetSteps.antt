@@ -16,7 +16,7 @@ use Rattle.tcmu_types.specs.Lists.{first_of}
 use Rattle.tcmu_types.specs.Numbers.{above_all}
 use Rattle.tcmu_model.specs.Lengths.{blocks_of, block_size, entry_length, tmr_length}
 use Rattle.tcmu_model.specs.Device.{Delayed}
-use Rattle.tcmu_model.specs.Events.{later, has_left, departure}
+use Rattle.tcmu_model.specs.Events.{later, has_left, departure, ending}
 use Rattle.tcmu_model.specs.BlockLists.{least_free}
 use Rattle.region_model.specs.Layout.{ring_start, head_place, pad_bytes, tmr_bytes}
 use Rattle.tcmu_types.specs.ByteFields.{le, put, zeros}
@@ -263,7 +263,7 @@ region_noted r t type_ ss (tmr.FullRing need free) = r
 
 -- a completion that no response answered
 abbrev pub closed : ℕ → Option SenseData → PendingData → DoneData
-closed status sense p = record { serial = p.serial; init = p.init; tag = p.tag; status = status; sense = sense; payload = [] }
+closed status sense p = ending status sense p.serial p.init p.tag
 
 -- CHECK CONDITION with a key and an additional sense code
 abbrev pub checked : ℕ → ℕ → ℕ → PendingData → DoneData

@@ -19,7 +19,7 @@ use Rattle.tcmu_types.specs.ByteFields.{le, put}
 use Rattle.tcmu_types.proofs.ByteFields.{length-le, length-put}
 use Rattle.region_model.specs.Picture.{place_of, item_bytes, entry_of, with_answer, request_of, ids_named, told_length, answered_entry}
 use Rattle.region_model.specs.Sides.{Recorded, PendingRow}
-use Rattle.region_model.specs.Represents.{RingStands, StandsAt, IdsStand, entry_at, id_in, ids_in, id_at, id_of}
+use Rattle.region_model.specs.Represents.{RingStands, StandsAt, IdsStand, entry_at, id_in, ids_in, entry_id_at, id_of}
 use Rattle.ring_laws.proofs.Bytes.{take-written}
 use Rattle.tcmu_model.proofs.LaidItems.{slice_get-right}
 use Rattle.ring_laws.proofs.Answered.{response_apart, response_here, id_of_answered, answered_over}
@@ -249,11 +249,11 @@ place-ids front items rows d lists s id u reply e owned shape ids places small h
     below : (i j : ℕ) → i ≡ j → i < d.ring.dispatched → d.ring.dispatched ≤ j → ⊥
     below i j z k l = omega arith
 
-    kept : (j : ℕ) (y : Item) → d.ring.cleared ≤ j → slice_get d.ring.laid j ≡ Some y → is_command y ≡ true → e.index ≢ j → id_at (answer_into front d (place_of d.ring e.index) id u reply) (place_of d.ring j) ≡ id_at front (place_of d.ring j)
+    kept : (j : ℕ) (y : Item) → d.ring.cleared ≤ j → slice_get d.ring.laid j ≡ Some y → is_command y ≡ true → e.index ≢ j → entry_id_at (answer_into front d (place_of d.ring e.index) id u reply) (place_of d.ring j) ≡ entry_id_at front (place_of d.ring j)
     kept j y c h k n = id-same front (answer_into front d (place_of d.ring e.index) id u reply) (place_of d.ring j) y.len (owned.long j y h k)
         (other-kept front d id u reply e.index j e.item y owned shape.long e.uncleared c e.there h e.command n)
 
-    mine : (j q : ℕ) → slice_get (d.placed ++ s ∷ []) (commands_in (take j d.ring.laid)) ≡ Some q → e.index ≡ j → id_of rows q ≡ Some (id_at (answer_into front d (place_of d.ring e.index) id u reply) (place_of d.ring j))
+    mine : (j q : ℕ) → slice_get (d.placed ++ s ∷ []) (commands_in (take j d.ring.laid)) ≡ Some q → e.index ≡ j → id_of rows q ≡ Some (entry_id_at (answer_into front d (place_of d.ring e.index) id u reply) (place_of d.ring j))
     mine j q p m =
         let at : ℕ = place_of d.ring e.index in
         let told = told_length d.settings.flags.read_len u.command.cdb reply in
@@ -266,5 +266,5 @@ place-ids front items rows d lists s id u reply e owned shape ids places small h
         let old : List ℕ = entry_at front at 112 in
         let lo : length old ≡ 112 = length-take-le 112 (drop (ring_start + at) front) (let v : length (drop (ring_start + at) front) ≡ length front - (ring_start + at) = length-drop (ring_start + at) front in omega arith) in
         let nw : entry_at (answer_into front d at id u reply) at 112 ≡ answered_entry old id reply told = response_here front at id reply told 112 (omega arith) (omega arith) in
-        let idn : id_at (answer_into front d at id u reply) at ≡ id = ap id_in nw ∙ id_of_answered old id reply told (omega arith) small in
-        ap (id_of rows) (sym sq) ∙ holds ∙ ap Some (sym idn) ∙ ap (λ i. Some (id_at (answer_into front d at id u reply) (place_of d.ring i))) m
+        let idn : entry_id_at (answer_into front d at id u reply) at ≡ id = ap id_in nw ∙ id_of_answered old id reply told (omega arith) small in
+        ap (id_of rows) (sym sq) ∙ holds ∙ ap Some (sym idn) ∙ ap (λ i. Some (entry_id_at (answer_into front d at id u reply) (place_of d.ring i))) m

@@ -29,7 +29,7 @@ use Rattle.tcmu_types.proofs.Everies.{every-first, every-without_first}
 use Rattle.tcmu_types.proofs.Rises.{among-append}
 use Rattle.region_model.specs.Picture.{place_of, payload_of, command_iovs, request_of, told_length, answered_entry, with_answer, with_reply, entry_of, item_bytes, ids_named, kind_of}
 use Rattle.region_model.specs.Sides.{PendingRow, Recorded, TargetState}
-use Rattle.region_model.specs.Represents.{RingStands, IdsStand, BlocksOf, BlocksStand, HaveData, IsId, recorded, entry_at, id_in, ids_in, id_at, id_of, row_has, has_id, serial_with, pending_of}
+use Rattle.region_model.specs.Represents.{RingStands, IdsStand, BlocksOf, BlocksStand, HaveData, IsId, recorded, entry_at, id_in, ids_in, entry_id_at, id_of, row_has, has_id, serial_with, pending_of}
 use Rattle.region_model.specs.TargetCleans.{one_cleaned, answered_by, response_in, completions_read, past}
 use Rattle.ring_laws.specs.Cleaned.{response_of}
 use Rattle.tcmu_model.specs.Owned.{ListsSound}
@@ -149,7 +149,7 @@ replied r rows d lists s u reply w f rep =
 response_there : (r : RegionState) (rows : List PendingRow) (d : DeviceState) (lists : List Taken) (j s : ℕ) (x : Item) (u : Unfinished) (reply : ReplyData) →
     CleanWith r rows d lists → d.ring.cleared ≤ j → slice_get d.ring.laid j ≡ Some x → is_command x ≡ true → slice_get d.placed (commands_in (take j d.ring.laid)) ≡ Some s →
     first_of (has_serial s) d.unfinished ≡ Some u → u.reply ≡ Some reply →
-    response_at r.front (ring_start + place_of d.ring j) ≡ response_of (id_at r.front (place_of d.ring j)) reply (told_length d.settings.flags.read_len u.command.cdb reply)
+    response_at r.front (ring_start + place_of d.ring j) ≡ response_of (entry_id_at r.front (place_of d.ring j)) reply (told_length d.settings.flags.read_len u.command.cdb reply)
 response_there r rows d lists j s x u reply w cl g c p f rep =
     let at : ℕ = place_of d.ring j in
     let rl : Bool = d.settings.flags.read_len in
@@ -165,7 +165,7 @@ response_there r rows d lists j s x u reply w cl g c p f rep =
     let le_ : length e ≡ x.len = length-take-le x.len (drop (ring_start + at) r.front) (omega arith) in
     let e112 : take 112 e ≡ entry_at r.front at 112 = take-take 112 x.len (drop (ring_start + at) r.front) lx in
     let l112 : length (take 112 e) ≡ 112 = length-take-le 112 e (omega arith) in
-    let id0 : id_in e ≡ id_at r.front at = ap (field 2 4) (sym (take-append-drop 112 e)) ∙ field-front 2 4 (take 112 e) (drop 112 e) (omega arith) ∙ ap id_in e112 in
+    let id0 : id_in e ≡ entry_id_at r.front at = ap (field 2 4) (sym (take-append-drop 112 e)) ∙ field-front 2 4 (take 112 e) (drop 112 e) (omega arith) ∙ ap id_in e112 in
     let req : List ℕ = request_of d.settings (list_of lists k.0) at (id_in e) k.1 in
     let st : e ≡ answered_entry req (id_in e) reply told =
     w.ring.stands j x cl g ∙ ap (λ z. item_bytes d lists j (id_in e) (ids_in (ids_named x) 32 e) z) xx ∙ ap (λ o. entry_of d (id_in e) req o) p
@@ -174,9 +174,9 @@ response_there r rows d lists j s x u reply w cl g c p f rep =
     let il : length (command_iovs d.settings (list_of lists k.0) k.1) ≤ length (list_of lists k.0) = length-iovs (data_start d.settings.ring) (block_size d.settings.pages) (list_of lists k.0) (payload_length k.1) in
     let lr : length req ≡ cdb_place (blocks_of d.settings.pages k.1) + round_up (length k.1.cdb) = length-request at (id_in e) (blocks_of d.settings.pages k.1) (command_iovs d.settings (list_of lists k.0) k.1) k.1.cdb (omega arith) in
     let long : 112 ≤ length req = omega arith in
-    let he = some_row (first_of (row_has s) rows) (id_at r.front at) (w.ids.answered j x s cl g c p) in
+    let he = some_row (first_of (row_has s) rows) (entry_id_at r.front at) (w.ids.answered j x s cl g c p) in
     let is_id : IsId he.0.id = every-first (row_has s) (λ (y : PendingRow). IsId y.id) rows he.0 w.ids.range he.1 in
-    let small : id_in e < 2 ^ 16 = (let h : he.0.id ≤ 65535 = is_id.high in let q : he.0.id ≡ id_at r.front at = he.2 in omega arith) in
+    let small : id_in e < 2 ^ 16 = (let h : he.0.id ≤ 65535 = is_id.high in let q : he.0.id ≡ entry_id_at r.front at = he.2 in omega arith) in
     let rp : Replied d u reply = replied r rows d lists s u reply w f rep in
     let tb : unwrap_or told 0 < 2 ^ 32 = told_small rl u.command reply (let a : length reply.payload ≤ u.command.in_len = rp.fits.payload in let b : u.command.in_len ≤ 1048576 = rp.command.in_len in omega arith) in
     response_of_entry r.front at x.len lx (omega arith) ∙ ap (λ z. response_at z 0) st ∙ response_read req (id_in e) reply told long small rp.status tb ∙ ap (λ z. response_of z reply told) id0
@@ -200,7 +200,7 @@ pub clean-one : (r : RegionState) (rows0 : List PendingRow) (d : DeviceState) (l
 clean-one r rows0 d lists j us log k x s u reply w at cl g c p new f0 st rep =
     let rl : Bool = d.settings.flags.read_len in
     let place : ℕ = place_of d.ring j in
-    let id : ℕ = id_at r.front place in
+    let id : ℕ = entry_id_at r.front place in
     let m : ℕ = commands_in (take j d.ring.laid) in
     let xs : List Recorded = map recorded (drop (suc j) d.ring.laid) in
     let fs : first_of (has_serial s) us ≡ Some u = at.found s new ∙ f0 in

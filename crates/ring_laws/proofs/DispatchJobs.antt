@@ -21,7 +21,7 @@ use Rattle.region_model.specs.Iovecs.{gathered}
 use Rattle.region_model.specs.Picture.{place_of, command_iovs, payload_of, data_in}
 use Rattle.region_model.specs.Regions.{RegionState, taken}
 use Rattle.region_model.specs.Sides.{GivenJob, InHand, JobState, PendingRow, TargetState, UserState}
-use Rattle.region_model.specs.Represents.{AreGiven, AreOut, IsGiven, IsJobOf, IsOut, JobsStand, command_places, id_at, id_of, is_out}
+use Rattle.region_model.specs.Represents.{AreGiven, AreOut, IsGiven, IsJobOf, IsOut, JobsStand, command_places, entry_id_at, id_of, is_out}
 use Rattle.region_model.specs.UserNext.{nexted}
 use Rattle.tcmu_model.proofs.Facts.{placed_dispatched}
 use Rattle.tcmu_types.proofs.ByteFields.{length-zeros}
@@ -54,7 +54,7 @@ payload_out u rep =
 
 pub job_sent : (r : RegionState) (t : TargetState) (user : UserState) (hand : List InHand) (d : DeviceState) (lists : List Taken) (n s : ℕ) (c : CommandData) → CanDispatch r t user hand d lists →
     next_item d ≡ Some (record { len = n; laid = ring.Cmd s c }) → (k : Sends d s c) →
-    IsJobOf d.settings t.rows lists (in_state Out k.command) (sent_job r (id_at r.front (place_of d.ring (next_place d.ring))) (command_iovs d.settings (list_of lists s) c) (list_of lists s) c) (taken r.blocks (list_of lists s))
+    IsJobOf d.settings t.rows lists (in_state Out k.command) (sent_job r (entry_id_at r.front (place_of d.ring (next_place d.ring))) (command_iovs d.settings (list_of lists s) c) (list_of lists s) c) (taken r.blocks (list_of lists s))
 job_sent r t user hand d lists n s c h g k =
     let u : Unfinished = k.command in
     let b : Blocks r d lists s c u = blocks_sent r t user hand d lists n s c h g k in
@@ -185,7 +185,7 @@ jobs_dispatched r t user hand d lists h =
       job = λ n s c g.
           let k : Sends d s c = sends d n s c h.sound g in
           let x : Item = record { len = n; laid = ring.Cmd s c } in
-          let id : ℕ = id_at r.front (place_of d.ring (next_place d.ring)) in
+          let id : ℕ = entry_id_at r.front (place_of d.ring (next_place d.ring)) in
           let job : JobState = sent_job r id (command_iovs d.settings (list_of lists s) c) (list_of lists s) c in
           let is_job = job_sent r t user hand d lists n s c h g k in
           record {

@@ -22,7 +22,7 @@ use Rattle.region_model.specs.Iovecs.{piece, joined, merged, iovs_along, total_o
 use Rattle.region_model.specs.Picture.{place_of, entry_of, request_of, answer_at, command_iovs}
 use Rattle.region_model.specs.Regions.{RegionState, size_of}
 use Rattle.region_model.specs.Sides.{PendingRow, Recorded}
-use Rattle.region_model.specs.Represents.{RingStands, IdsStand, entry_at, id_in, id_at}
+use Rattle.region_model.specs.Represents.{RingStands, IdsStand, entry_at, id_in, entry_id_at}
 use Rattle.region_model.specs.UserNext.{iovs_in}
 use Rattle.tcmu_model.specs.Owned.{ListsSound}
 use Rattle.tcmu_model.proofs.Facts.{placed_dispatched}
@@ -111,7 +111,7 @@ unanswered d i sound l =
 pub record RequestRead (r : RegionState) (d : DeviceState) (lists : List Taken) (i n s : ℕ) (c : CommandData) : Type 0 where
   pub iovs : iovs_in r.front (128 + place_of d.ring i) 0 (length (command_iovs d.settings (list_of lists s) c)) ≡ command_iovs d.settings (list_of lists s) c
   pub read : entry_read r.front (size_of r * length r.blocks) (mailbox_of d) (place_of d.ring i)
-      ≡ Ok (entry.Cmd n (id_at r.front (place_of d.ring i)) (length (command_iovs d.settings (list_of lists s) c)) c.cdb)
+      ≡ Ok (entry.Cmd n (entry_id_at r.front (place_of d.ring i)) (length (command_iovs d.settings (list_of lists s) c)) c.cdb)
 
 block_inside : (size ring limit pages count b : ℕ) → size ≡ 4096 * pages → limit * pages ≤ 4096 → ring ≤ 4194304 → b < limit → b < count → pages ≤ 16 →
     BlockInside (4096 + ring) size (4096 + ring + size * count) b
@@ -149,8 +149,8 @@ request_read r items rows d lists i n s c sound owned stands ids pages l g all =
     let st : old ≡ text = stands.stands i x (omega arith) g ∙ none in
     let th = item_there r.front d i x text stands.long w st in
     let lo : length old ≡ n = ap length st ∙ th.0 in
-    let same : id_in old ≡ id_at r.front at = sym (id_front old (omega arith)) ∙ ap id_in (take-take 112 n (drop (128 + at) r.front) long) in
-    let small : id_in old < 2 ^ 16 = subst (λ (z : ℕ). z < 2 ^ 16) (sym same) (small_id rows s (id_at r.front at) ids.range (ids.own i n s c l g)) in
+    let same : id_in old ≡ entry_id_at r.front at = sym (id_front old (omega arith)) ∙ ap id_in (take-take 112 n (drop (128 + at) r.front) long) in
+    let small : id_in old < 2 ^ 16 = subst (λ (z : ℕ). z < 2 ^ 16) (sym same) (small_id rows s (entry_id_at r.front at) ids.range (ids.own i n s c l g)) in
     let few : length iovs ≤ blocks_of d.settings.pages c =
     subst (λ z. length iovs ≤ z) (owned.spans i n s c (omega arith) g) (length-iovs (data_start d.settings.ring) (block_size d.settings.pages) (list_of lists s) (payload_length c)) in
     let rs : d.ring.size ≡ d.settings.ring = sound.ring.size in

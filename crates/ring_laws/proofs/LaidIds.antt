@@ -14,7 +14,7 @@ use Rattle.tcmu_types.specs.ByteFields.{field, zeros}
 use Rattle.region_model.specs.Pending.{PendingData}
 use Rattle.region_model.specs.Picture.{place_of}
 use Rattle.region_model.specs.Sides.{PendingRow, TargetState}
-use Rattle.region_model.specs.Represents.{RingStands, entry_at, id_in, TargetKeeps, pending_of, id_at, id_of, row_has, IsId, IdsStand}
+use Rattle.region_model.specs.Represents.{RingStands, entry_at, id_in, TargetKeeps, pending_of, entry_id_at, id_of, row_has, IsId, IdsStand}
 use Rattle.region_model.specs.TargetSteps.{blocks_given, deadline_in, region_laid, target_laid, row_of}
 use Rattle.std.specs.Option.{option_map}
 use Rattle.tcmu_model.specs.Events.{waiting, with_command, deadline_at}
@@ -114,7 +114,7 @@ pub every-push : {X : Type 0} (P : X → Type 0) (xs : List X) (y : X) → Every
 every-push P xs y h k = every-append P xs (y ∷ []) h (k, tt)
 
 -- the same entry has the same id, which stands in its first 112 bytes
-pub id-same : (front front' : List ℕ) (at n : ℕ) → 112 ≤ n → entry_at front' at n ≡ entry_at front at n → id_at front' at ≡ id_at front at
+pub id-same : (front front' : List ℕ) (at n : ℕ) → 112 ≤ n → entry_at front' at n ≡ entry_at front at n → entry_id_at front' at ≡ entry_id_at front at
 id-same front front' at n h e =
     let f : (zs : List ℕ) → take 112 (take n (drop (ring_start + at) zs)) ≡ take 112 (drop (ring_start + at) zs) = λ zs. take-take 112 n (drop (ring_start + at) zs) h in
     ap id_in (sym (f front') ∙ ap (take 112) e ∙ f front)
@@ -132,20 +132,20 @@ command_long d i x sound g h = long_of d.settings (lengths (take i d.ring.laid))
 
 -- what laying writes and gives, as the ids read it
 record Gives (front front' : List ℕ) (rows rows' : List PendingRow) (d : DeviceState) (s : ℕ) (c : CommandData) (id : ℕ) : Type 0 where
-  old : (i : ℕ) (x : Item) → d.ring.cleared ≤ i → slice_get d.ring.laid i ≡ Some x → is_command x ≡ true → id_at front' (place_of d.ring i) ≡ id_at front (place_of d.ring i)
+  old : (i : ℕ) (x : Item) → d.ring.cleared ≤ i → slice_get d.ring.laid i ≡ Some x → is_command x ≡ true → entry_id_at front' (place_of d.ring i) ≡ entry_id_at front (place_of d.ring i)
   other : (q : ℕ) → q < s → id_of rows' q ≡ id_of rows q
   mine : id_of rows' s ≡ Some id
-  new : id_at front' (place_of (with_item d.ring (cmd_item d s c)) (length (d.ring.laid ++ pads (ring.pad d.ring (entry_length d.settings.pages c))))) ≡ id
+  new : entry_id_at front' (place_of (with_item d.ring (cmd_item d s c)) (length (d.ring.laid ++ pads (ring.pad d.ring (entry_length d.settings.pages c))))) ≡ id
   none : slice_get d.placed (commands_in (take (length (d.ring.laid ++ pads (ring.pad d.ring (entry_length d.settings.pages c)))) (laid_with d.ring (cmd_item d s c)))) ≡ None
 
 answered_case : (front front' : List ℕ) (rows rows' : List PendingRow) (d : DeviceState) (s : ℕ) (c : CommandData) (id : ℕ) → IsSound d → Every (λ k. k < s) (serials_in d.ring.laid) → IdsStand front rows d → Gives front front' rows rows' d s c id →
     (i : ℕ) (x : Item) (q : ℕ) → d.ring.cleared ≤ i → is_command x ≡ true → LaidCase d.ring (cmd_item d s c) i x → slice_get d.placed (commands_in (take i (laid_with d.ring (cmd_item d s c)))) ≡ Some q →
-    id_of rows' q ≡ Some (id_at front' (place_of (with_item d.ring (cmd_item d s c)) i))
+    id_of rows' q ≡ Some (entry_id_at front' (place_of (with_item d.ring (cmd_item d s c)) i))
 answered_case front front' rows rows' d s c id sound above ids w i x q cl k (Old l g) p =
     let tk : take i (laid_with d.ring (cmd_item d s c)) ≡ take i d.ring.laid = take-laid d.ring (cmd_item d s c) i (omega arith) in
     let p' : slice_get d.placed (commands_in (take i d.ring.laid)) ≡ Some q = ap (λ xs. slice_get d.placed (commands_in xs)) (sym tk) ∙ p in
     let qs : q < s = every_at (λ (n : ℕ). n < s) d.placed (commands_in (take i d.ring.laid)) q (placed_every (λ (n : ℕ). n < s) d sound.answers above) p' in
-    w.other q qs ∙ ids.answered i x q cl g k p' ∙ ap Some (sym (w.old i x cl g k)) ∙ ap (λ xs. Some (id_at front' (lengths xs % d.ring.size))) (sym tk)
+    w.other q qs ∙ ids.answered i x q cl g k p' ∙ ap Some (sym (w.old i x cl g k)) ∙ ap (λ xs. Some (entry_id_at front' (lengths xs % d.ring.size))) (sym tk)
 answered_case front front' rows rows' d s c id sound above ids w i x q cl k (Padding a b e) p = absurd (false≢true (ap is_command (sym e) ∙ k))
 answered_case front front' rows rows' d s c id sound above ids w i x q cl k (New a e) p =
     let p' = subst (λ (z : ℕ). slice_get d.placed (commands_in (take z (laid_with d.ring (cmd_item d s c)))) ≡ Some q) a p in
@@ -153,19 +153,19 @@ answered_case front front' rows rows' d s c id sound above ids w i x q cl k (New
 
 own_case : (front front' : List ℕ) (rows rows' : List PendingRow) (d : DeviceState) (s : ℕ) (c : CommandData) (id : ℕ) → IsSound d → Every (λ k. k < s) (serials_in d.ring.laid) → IdsStand front rows d → Gives front front' rows rows' d s c id →
     (i n q : ℕ) (c' : CommandData) → d.ring.dispatched ≤ i → LaidCase d.ring (cmd_item d s c) i (record { len = n; laid = ring.Cmd q c' }) →
-    id_of rows' q ≡ Some (id_at front' (place_of (with_item d.ring (cmd_item d s c)) i))
+    id_of rows' q ≡ Some (entry_id_at front' (place_of (with_item d.ring (cmd_item d s c)) i))
 own_case front front' rows rows' d s c id sound above ids w i n q c' dp (Old l g) =
     let tk : take i (laid_with d.ring (cmd_item d s c)) ≡ take i d.ring.laid = take-laid d.ring (cmd_item d s c) i (omega arith) in
     let c0 : d.ring.cleared ≤ d.ring.published = sound.ring.cleared in
     let c1 : d.ring.published ≤ d.ring.dispatched = sound.ring.published in
     let cl : d.ring.cleared ≤ i = omega (arith, c0, c1, dp) in
     w.other q (serial_at (λ (k : ℕ). k < s) d.ring.laid i n q c' above g) ∙ ids.own i n q c' dp g ∙ ap Some (sym (w.old i (record { len = n; laid = ring.Cmd q c' }) cl g refl))
-    ∙ ap (λ xs. Some (id_at front' (lengths xs % d.ring.size))) (sym tk)
+    ∙ ap (λ xs. Some (entry_id_at front' (lengths xs % d.ring.size))) (sym tk)
 own_case front front' rows rows' d s c id sound above ids w i n q c' dp (Padding a b e) = absurd (false≢true (ap is_command (sym e)))
 own_case front front' rows rows' d s c id sound above ids w i n q c' dp (New a e) =
     let l : ring.Cmd q c' ≡ ring.Cmd s c = ap (λ (y : Item). y.laid) e in
     let s0 : q ≡ s = cc in
-    ap (id_of rows') s0 ∙ w.mine ∙ ap Some (sym w.new) ∙ ap (λ z. Some (id_at front' (place_of (with_item d.ring (cmd_item d s c)) z))) (sym a)
+    ap (id_of rows') s0 ∙ w.mine ∙ ap Some (sym w.new) ∙ ap (λ z. Some (entry_id_at front' (place_of (with_item d.ring (cmd_item d s c)) z))) (sym a)
 
 -- the entries that are not cleared stay
 pub entries_laid : (r : RegionState) (t : TargetState) (d : DeviceState) (lists : List Taken) (s : ℕ) (c : CommandData) (id : ℕ) →

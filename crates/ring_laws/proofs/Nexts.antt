@@ -28,7 +28,7 @@ use Rattle.region_model.specs.Iovecs.{total_of}
 use Rattle.region_model.specs.Picture.{place_of, command_iovs, payload_of}
 use Rattle.region_model.specs.Regions.{RegionState, size_of, can_lend, named_by, are_whole, can_take, numbers_of, taken, without}
 use Rattle.region_model.specs.Sides.{Moved, Copied, InHand, JobState, TargetState, UserState}
-use Rattle.region_model.specs.Represents.{HaveData, BlocksOf, entry_at, id_at, ids_in}
+use Rattle.region_model.specs.Represents.{HaveData, BlocksOf, entry_at, entry_id_at, ids_in}
 use Rattle.region_model.specs.UserNext.{Job, Note, Nexted, command_next, copied_data, next_within, nexted, note_next, tmr_ids_in, with_job, with_passed}
 use Rattle.region_model.specs.UserSteps.{is_open_job}
 use Rattle.tcmu_types.proofs.Everies.{every-back, every-weaker}
@@ -103,7 +103,7 @@ user_sent user d i id =
 
 abbrev pub job_nexted : RegionState → UserState → DeviceState → List Taken → ℕ → CommandData → Nexted
 job_nexted r user d lists s c =
-    let id = id_at r.front (place_of d.ring (next_place d.ring)) in
+    let id = entry_id_at r.front (place_of d.ring (next_place d.ring)) in
     record {
       answer = Job (sent_job r id (command_iovs d.settings (list_of lists s) c) (list_of lists s) c);
       region = lent_blocks r (list_of lists s);
@@ -138,7 +138,7 @@ in_length c iovs ok e =
 pub command_step : (r : RegionState) (t : TargetState) (user : UserState) (hand : List InHand) (d : DeviceState) (lists : List Taken) (n s : ℕ) (c : CommandData) (before : UserState) (left : ℕ) →
     CanDispatch r t user hand d lists → next_item d ≡ Some (record { len = n; laid = ring.Cmd s c }) →
     next_within (suc left) (mailbox_of d) before r (passed_to user d (next_place d.ring))
-    ≡ command_next r (passed_to user d (next_place d.ring)) n (id_at r.front (place_of d.ring (next_place d.ring))) (command_iovs d.settings (list_of lists s) c) c.cdb
+    ≡ command_next r (passed_to user d (next_place d.ring)) n (entry_id_at r.front (place_of d.ring (next_place d.ring))) (command_iovs d.settings (list_of lists s) c) c.cdb
 command_step r t user hand d lists n s c before left h g =
     let i : ℕ = next_place d.ring in
     let x : Item = record { len = n; laid = ring.Cmd s c } in
@@ -148,7 +148,7 @@ command_step r t user hand d lists n s c before left h g =
     let q : RequestRead r d lists i n s c = request_read r t.items t.rows d lists i n s c h.sound h.owned h.ring h.ids h.pages (omega arith) g b.inside in
     let w : Within d i x = item_within d i x h.sound (omega arith) g in
     let ne : eqb (place_of d.ring i) (head d.ring) ≡ false = ne_eqb (place_of d.ring i) (head d.ring) w.away in
-    rw (ne, q.read) (ap (λ (es : List Iov). command_next r (passed_to user d i) n (id_at r.front (place_of d.ring i)) es c.cdb) q.iovs)
+    rw (ne, q.read) (ap (λ (es : List Iov). command_next r (passed_to user d i) n (entry_id_at r.front (place_of d.ring i)) es c.cdb) q.iovs)
 
 pub job_comes : (r : RegionState) (t : TargetState) (user : UserState) (hand : List InHand) (d : DeviceState) (lists : List Taken) (n s : ℕ) (c : CommandData) →
     CanDispatch r t user hand d lists → next_item d ≡ Some (record { len = n; laid = ring.Cmd s c }) → nexted r user ≡ job_nexted r user d lists s c
@@ -162,7 +162,7 @@ job_comes r t user hand d lists n s c h g =
     let b : Blocks r d lists s c k.command = blocks_sent r t user hand d lists n s c h g k in
     let bs : List ℕ = list_of lists s in
     let iovs : List Iov = command_iovs d.settings bs c in
-    let id : ℕ = id_at r.front (place_of d.ring i) in
+    let id : ℕ = entry_id_at r.front (place_of d.ring i) in
     let came : Comes r user d i = comes_to r t.items user d lists (can_pass r t user hand d lists h) in
     let step : next_within (suc came.left) (mailbox_of d) user r (passed_to user d i) ≡ command_next r (passed_to user d i) n id iovs c.cdb =
     command_step r t user hand d lists n s c user came.left h g in

@@ -29,7 +29,7 @@ use Rattle.tcmu_types.proofs.Rises.{among_every}
 use Rattle.tcmu_model.proofs.SoundLaying.{tmr_sizes}
 use Rattle.tcmu_model.proofs.Standing.{any_among}
 use Rattle.region_model.specs.Sides.{InHand, PendingRow, TargetState, UserState}
-use Rattle.region_model.specs.Represents.{AreNoteIds, BlocksStand, IdsStand, IsId, IsNoteId, JobsStand, NoteStands, NotesStand, RingStands, TargetKeeps, UserKeeps, entry_at, id_at, id_of, ids_in, pending_of, recorded, row_has}
+use Rattle.region_model.specs.Represents.{AreNoteIds, BlocksStand, IdsStand, IsId, IsNoteId, JobsStand, NoteStands, NotesStand, RingStands, TargetKeeps, UserKeeps, entry_at, entry_id_at, id_of, ids_in, pending_of, recorded, row_has}
 use Rattle.region_model.specs.TargetSteps.{fits_in, free_in, id_or_zero, ids_of, need_in, pad_in, pads_of, region_noted, target_noted, target_tmr_answer, unknown_in}
 use Rattle.tcmu_model.specs.Owned.{ListsSound}
 use Rattle.ring_laws.specs.Refused.{is_unnoted}
@@ -233,14 +233,14 @@ ids_noted r t d lists kind ss sound shape ids keeps h =
     }
   where
     old_id : LaidNote r t d lists kind ss → (i : ℕ) (x : Item) (s : ℕ) → d.ring.cleared ≤ i → is_command x ≡ true → LaidCase d.ring (note_item kind ss) i x →
-        (i ≤ length d.ring.laid → slice_get d.ring.laid i ≡ Some x → id_of t.rows s ≡ Some (id_at r.front (place_of d.ring i))) →
-        id_of t.rows s ≡ Some (id_at (region_noted r t kind ss tmr.Noted).front (place_of (with_item d.ring (note_item kind ss)) i))
+        (i ≤ length d.ring.laid → slice_get d.ring.laid i ≡ Some x → id_of t.rows s ≡ Some (entry_id_at r.front (place_of d.ring i))) →
+        id_of t.rows s ≡ Some (entry_id_at (region_noted r t kind ss tmr.Noted).front (place_of (with_item d.ring (note_item kind ss)) i))
     old_id q i x s cl c (Old l g) f =
         let front' : List ℕ = (region_noted r t kind ss tmr.Noted).front in
         let near : i ≤ length d.ring.laid = omega arith in
         f near g
         ∙ ap Some (sym (id-same r.front front' (place_of d.ring i) x.len (command_long d i x sound g c) (entries_noted r t d lists kind ss sound shape q i x cl g)))
-        ∙ ap (λ xs. Some (id_at front' (lengths xs % d.ring.size))) (sym (take-laid d.ring (note_item kind ss) i near))
+        ∙ ap (λ xs. Some (entry_id_at front' (lengths xs % d.ring.size))) (sym (take-laid d.ring (note_item kind ss) i near))
     old_id q i x s cl c (Padding a b e) f = absurd (false≢true (ap is_command (sym e) ∙ c))
     old_id q i x s cl c (New a e) f = absurd (false≢true (ap is_command (sym e) ∙ c))
 

@@ -19,7 +19,7 @@ use Rattle.tcmu_types.proofs.ByteFields.{length-le, length-put}
 use Rattle.tcmu_model.proofs.Facts.{publishable_fits}
 use Rattle.region_model.specs.Picture.{place_of, tail}
 use Rattle.region_model.specs.Sides.{Recorded, PendingRow, TargetState, UserState, InHand}
-use Rattle.region_model.specs.Represents.{RingStands, IdsStand, NotesStand, BlocksStand, JobsStand, TargetKeeps, UserKeeps, recorded, entry_at, id_at, ids_in, NoteStands}
+use Rattle.region_model.specs.Represents.{RingStands, IdsStand, NotesStand, BlocksStand, JobsStand, TargetKeeps, UserKeeps, recorded, entry_at, entry_id_at, ids_in, NoteStands}
 use Rattle.region_model.specs.UserSteps.{is_cmd, movable, moving, moving_items, user_publish_answer, user_published, region_published}
 use Rattle.ring_laws.proofs.Bytes.{part-written_behind}
 use Rattle.ring_laws.proofs.Layouts.{take-written_inside, add-mod}
@@ -162,7 +162,7 @@ pub ids_tail : (front : List ℕ) (items : List Recorded) (rows : List PendingRo
     IdsStand (put front tail_place (le 4 (place_of d.ring k))) rows (published_to d k)
 ids_tail front items rows d lists k h ids =
     let t : ℕ = place_of d.ring k in
-    let same : (at : ℕ) → id_at (put front tail_place (le 4 t)) at ≡ id_at front at = λ at. id-same front (put front tail_place (le 4 t)) at 112 (omega arith) (entry_kept front d.ring.size t at 112 h.long) in
+    let same : (at : ℕ) → entry_id_at (put front tail_place (le 4 t)) at ≡ entry_id_at front at = λ at. id-same front (put front tail_place (le 4 t)) at 112 (omega arith) (entry_kept front d.ring.size t at 112 h.long) in
     record {
       range = ids.range;
       differ = ids.differ;

@@ -2,7 +2,7 @@
 use Rattle.std.specs.Prelude.{◌≡◌, ℕ, ◌+◌, ◌*◌, ◌<◌, ◌≤◌, List, [], ◌∷◌, length, take, drop}
 use Rattle.tcmu_types.specs.declared.iovec.Iov.{Iov}
 use Rattle.region_model.specs.Iovecs.{along, total_of}
-use Rattle.region_model.specs.Regions.{RegionState, IsRegion, IsLent, LieInRegion, size_of, bytes_of, copied_in}
+use Rattle.region_model.specs.Regions.{RegionState, IsRegion, HasLent, LieInRegion, size_of, bytes_of, copied_in}
 
 -- no byte stands both among the n from a on and among the m from b on
 abbrev pub ShareNone : ℕ → ℕ → ℕ → ℕ → Type 0
@@ -20,7 +20,7 @@ AreDisjoint (iov ∷ iovs) = LeaveOut iovs iov.base iov.len × AreDisjoint iovs
 
 -- no iovec names a byte of a lent block
 abbrev pub NameNoLent : RegionState → List Iov → Type 0
-NameNoLent r iovs = (k : ℕ) → IsLent r k → LeaveOut iovs (length r.front + size_of r * k) (size_of r)
+NameNoLent r iovs = (k : ℕ) → HasLent r k → LeaveOut iovs (length r.front + size_of r * k) (size_of r)
 
 -- what was copied in is copied out again: the first n bytes
 abbrev pub CopiesBack : Type 0

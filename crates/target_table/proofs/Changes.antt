@@ -8,12 +8,13 @@ use Rattle.std.proofs.lemmas.List.Folds.{list_any-append}
 use Rattle.std.proofs.lemmas.Bool.{cases_eq, cases_lt, cases_Bool, eqb-true, eqb-false, or_parts, false≢true}
 use Rattle.std.proofs.lemmas.Option.{none-some}
 use Rattle.tcmu_types.specs.Lists.{first_of, without_first, with_first}
-use Rattle.tcmu_types.specs.Numbers.{is_among}
+use Rattle.tcmu_types.specs.Numbers.{is_among, Differ}
 use Rattle.region_model.specs.Pending.{PendingData}
 use Rattle.target_table.specs.declared.table.Ranked.{Ranked}
-use Rattle.target_table.specs.Rows.{TableData, has_id, is_waiting, id_of, pending_of, with_expired, AllPrecede, IdsDiffer, IsTable, ExpiredFirst, without, without_found}
+use Rattle.target_table.specs.Rows.{TableData, is_waiting, id_in_row, command_of, with_expired, AllPrecede, IdsDiffer, IsTable, ExpiredFirst, without, without_found}
+use Rattle.region_model.specs.Represents.{has_id}
 use Rattle.region_model.specs.Sides.{PendingRow}
-use Rattle.target_table.specs.Kept.{place_of, at_id, or_none, row_at, rows_of, Stands, AllStand, is_ranked, IsFree, IsDistinct, IsKept}
+use Rattle.target_table.specs.Kept.{place_of, at_id, or_none, row_at, rows_of, Stands, AllStand, is_ranked, IsFree, IsKept}
 use Rattle.target_table.proofs.Ordered.{order-added, ids-added, differ-added, expired-added, order-without, ids-without, differ-without, length-without, some-expired, expired-without, waiting-without, order-expired, ids-expired, differ-expired, length-expired, expired-more, expired-most, first-any, or-true, eqb-not}
 use Rattle.target_table.proofs.Places.{row_of, row-found, any-row, there, length-rows, eqb-self, at-one, rank-of}
 use Rattle.tcmu_types.proofs.Rises.{among-append}
@@ -64,7 +65,7 @@ or-case : (a b : Bool) → (a || b) ≡ true → (a ≡ true) ⊎ (b ≡ true)
 or-case true b h = inl refl
 or-case false b h = inr h
 
-pub distinct-last : (xs : List ℕ) (x : ℕ) → IsDistinct (xs ++ x ∷ []) → IsDistinct xs × (is_among xs x ≡ false)
+pub distinct-last : (xs : List ℕ) (x : ℕ) → Differ (xs ++ x ∷ []) → Differ xs × (is_among xs x ≡ false)
 distinct-last [] x h = (tt, refl)
 distinct-last (y ∷ ys) x h =
     let i = distinct-last ys x h.1 in
@@ -72,7 +73,7 @@ distinct-last (y ∷ ys) x h =
     let t = or_parts (x == y) false s.1 in
     ((s.0, i.0), rw (eqb-not y x (λ (e : y ≡ x). eqb-false x y t.0 (sym e))) i.1)
 
-pub distinct-more : (xs : List ℕ) (x : ℕ) → IsDistinct xs → is_among xs x ≡ false → IsDistinct (xs ++ x ∷ [])
+pub distinct-more : (xs : List ℕ) (x : ℕ) → Differ xs → is_among xs x ≡ false → Differ (xs ++ x ∷ [])
 distinct-more [] x h f = (refl, tt)
 distinct-more (y ∷ ys) x h f =
     let s = or_parts (y == x) (is_among ys x) f in
@@ -143,7 +144,7 @@ added-kept places free rest order expired id p a =
     let c = k.counted in
     let m = k.most in
     let h = f.high in
-    let d = distinct-last rest id (subst IsDistinct a.last k.once) in
+    let d = distinct-last rest id (subst Differ a.last k.once) in
     let long : length (order ++ o ∷ []) ≡ length order + 1 = length-append order (o ∷ []) in
     let rows = rows_of places order in
     let r : PendingRow = record { id = id; pending = p } in
@@ -274,7 +275,7 @@ taken-first places free order expired id p t =
     row-found places order id (taken-ranked places free order expired id p t) ∙ ap (λ q. Some (record { id = id; pending = or_none q })) (taken-here places free order expired id p t)
 
 pub taken-tells : (places : List (Option PendingData)) (free : List ℕ) (order : List Ranked) (expired id : ℕ) (p : PendingData) → Taking places free order expired id p →
-    pending_of (rows_of places order) id ≡ Some p
+    command_of (rows_of places order) id ≡ Some p
 taken-tells places free order expired id p t = ap (option_map (λ r. r.pending)) (taken-first places free order expired id p t)
 
 abbrev pub less : Bool → ℕ → ℕ
@@ -377,7 +378,7 @@ taken-view places free order expired id p t =
     same-table _ _ _ _ _ r n ∙ sym (ap (without_found was id) (taken-tells places free order expired id p t))
 
 -- nothing has the id
-pub missing-view : (t : TableData) (id : ℕ) → pending_of t.rows id ≡ None → t ≡ without t id
+pub missing-view : (t : TableData) (id : ℕ) → command_of t.rows id ≡ None → t ≡ without t id
 missing-view t id h = sym (ap (without_found t id) h)
 
 -- where the serial of the command stands
@@ -402,7 +403,7 @@ rank-facts places free order expired id p serial rank t e r =
 pub record Expiring (places places' : List (Option PendingData)) (free : List ℕ) (order : List Ranked) (expired id : ℕ) (p : PendingData) : Type 0 where
   pub kept : IsKept places free order expired
   pub found : at_id places id ≡ Some p
-  pub first : id_of (first_of is_waiting (rows_of places order)) ≡ Some id
+  pub first : id_in_row (first_of is_waiting (rows_of places order)) ≡ Some id
   pub here : place_of places' id ≡ Some (record p { expired = true })
   pub others : (other : ℕ) → 1 ≤ other → other ≢ id → place_of places' other ≡ place_of places other
   pub as_long : length places' ≡ length places
@@ -440,7 +441,7 @@ pub expired-rows : (places places' : List (Option PendingData)) (free : List ℕ
 expired-rows places places' free order expired id p x =
     row-expired places places' order id p x.kept.stand x.kept.sound.differ (taken-here places free order expired id p (expiring-row places places' free order expired id p x)) x.here x.others
 
-expired-one : (n id : ℕ) (rows : List PendingRow) (found : Option PendingRow) → first_of is_waiting rows ≡ found → id_of found ≡ Some id → ExpiredFirst n rows → IdsDiffer rows →
+expired-one : (n id : ℕ) (rows : List PendingRow) (found : Option PendingRow) → first_of is_waiting rows ≡ found → id_in_row found ≡ Some id → ExpiredFirst n rows → IdsDiffer rows →
     ExpiredFirst (n + 1) (with_first (has_id id) with_expired rows)
 expired-one n id rows None f h e d = absurd (none-some _ h)
 expired-one n id rows (Some r) f h e d =
@@ -519,14 +520,14 @@ expired-kept places places' free order expired id p x =
     }
 
 -- the first that is not expired is there
-waiting-ranked : (places : List (Option PendingData)) (order : List Ranked) (id : ℕ) (found : Option PendingRow) → first_of is_waiting (rows_of places order) ≡ found → id_of found ≡ Some id → is_ranked order id ≡ true
+waiting-ranked : (places : List (Option PendingData)) (order : List Ranked) (id : ℕ) (found : Option PendingRow) → first_of is_waiting (rows_of places order) ≡ found → id_in_row found ≡ Some id → is_ranked order id ≡ true
 waiting-ranked places order id None f h = absurd (none-some _ h)
 waiting-ranked places order id (Some r) f h =
     let i : r.id ≡ id = cc in
     sym (any-row places order id) ∙ ap (λ n. list_any (has_id n) (rows_of places order)) (sym i) ∙ first-any is_waiting (rows_of places order) r f
 
 pub waiting-found : (places : List (Option PendingData)) (free : List ℕ) (order : List Ranked) (expired id : ℕ) → IsKept places free order expired →
-    id_of (first_of is_waiting (rows_of places order)) ≡ Some id → at_id places id ≡ Some (or_none (place_of places id))
+    id_in_row (first_of is_waiting (rows_of places order)) ≡ Some id → at_id places id ≡ Some (or_none (place_of places id))
 waiting-found places free order expired id k h =
     let t = there places order id k.stand (waiting-ranked places order id (first_of is_waiting (rows_of places order)) refl h) in
     let l = t.low in
@@ -534,7 +535,7 @@ waiting-found places free order expired id k h =
 
 -- the place of a command is emptied and filled again
 pub expiring : (places : List (Option PendingData)) (free : List ℕ) (order : List Ranked) (expired id : ℕ) (p q : PendingData) → IsKept places free order expired →
-    id_of (first_of is_waiting (rows_of places order)) ≡ Some id → at_id places id ≡ Some p → q ≡ record p { expired = true } →
+    id_in_row (first_of is_waiting (rows_of places order)) ≡ Some id → at_id places id ≡ Some p → q ≡ record p { expired = true } →
     Expiring places (slice_set (slice_set places (id - 1) None) (id - 1) (Some q)) free order expired id p
 expiring places free order expired id p q k h f e =
     let t : Taking places free order expired id p = record { kept = k; found = f } in

@@ -5,7 +5,9 @@ use Rattle.std.proofs.lemmas.Bool.{cases_Bool, eqb-false, or_parts}
 use Rattle.std.proofs.Math.Bool.{and-false}
 use Rattle.tcmu_types.specs.Lists.{first_of, without_first, with_first}
 use Rattle.region_model.specs.Pending.{NotAfter, PendingData}
-use Rattle.target_table.specs.Rows.{has_id, is_waiting, is_due, has_passed, with_expired, Precedes, AllPrecede, PrecedesAll, AreInOrder, IdsDiffer, AreIds, ExpiredFirst}
+use Rattle.target_table.specs.Rows.{is_waiting, has_passed, with_expired, Precedes, AllPrecede, PrecedesAll, AreInOrder, IdsDiffer, AreIds, ExpiredFirst}
+use Rattle.region_model.specs.Represents.{has_id}
+use Rattle.region_model.specs.TargetSteps.{is_due_at}
 use Rattle.region_model.specs.Sides.{PendingRow}
 
 no-row : {r : PendingRow} → ◌≡◌ {A = Option PendingRow} None (Some r) → ⊥
@@ -32,40 +34,40 @@ passed-later now (Some a) (Some b) h f = grind arith
 passed-later now None (Some b) h f = absurd h
 passed-later now (Some a) None h f = absurd h
 
-none-due : (now : ℕ) (r : PendingRow) (rs : List PendingRow) → PrecedesAll r rs → has_passed now r.pending.deadline ≡ false → first_of (is_due now) rs ≡ None
+none-due : (now : ℕ) (r : PendingRow) (rs : List PendingRow) → PrecedesAll r rs → has_passed now r.pending.deadline ≡ false → first_of (is_due_at now) rs ≡ None
 none-due now r [] h f = refl
 none-due now r (x ∷ xs) h f =
     let g = passed-later now r.pending.deadline x.pending.deadline h.0.deadline f in
-    let e : is_due now x ≡ false = ap (λ b. is_waiting x && b) g ∙ and-false (is_waiting x) in
+    let e : is_due_at now x ≡ false = ap (λ b. is_waiting x && b) g ∙ and-false (is_waiting x) in
     rw e (none-due now r xs h.1 f)
 
-expired-not-due : (now : ℕ) (r : PendingRow) → r.pending.expired ≡ true → is_due now r ≡ false
+expired-not-due : (now : ℕ) (r : PendingRow) → r.pending.expired ≡ true → is_due_at now r ≡ false
 expired-not-due now r e = ap (λ b. not b && has_passed now r.pending.deadline) e
 
 -- all are expired
-pub due-none : (now n : ℕ) (rows : List PendingRow) → ExpiredFirst n rows → length rows ≤ n → first_of (is_due now) rows ≡ None
+pub due-none : (now n : ℕ) (rows : List PendingRow) → ExpiredFirst n rows → length rows ≤ n → first_of (is_due_at now) rows ≡ None
 due-none now zero [] e l = refl
 due-none now zero (r ∷ rs) e l = absurd (omega arith)
 due-none now (suc n) [] e l = refl
 due-none now (suc n) (r ∷ rs) e l = rw (expired-not-due now r e.0) (due-none now n rs e.1 (omega arith))
 
 -- the first that is not expired is due
-pub due-some : (now n : ℕ) (rows : List PendingRow) (r : PendingRow) → ExpiredFirst n rows → slice_get rows n ≡ Some r → has_passed now r.pending.deadline ≡ true → first_of (is_due now) rows ≡ Some r
+pub due-some : (now n : ℕ) (rows : List PendingRow) (r : PendingRow) → ExpiredFirst n rows → slice_get rows n ≡ Some r → has_passed now r.pending.deadline ≡ true → first_of (is_due_at now) rows ≡ Some r
 due-some now zero [] r e g p = absurd (no-row g)
 due-some now zero (x ∷ xs) r e g p =
     let s : x ≡ r = cc in
-    let d : is_due now x ≡ true = ap (λ b. not b && has_passed now x.pending.deadline) e.0 ∙ ap (λ z. has_passed now z.pending.deadline) s ∙ p in
+    let d : is_due_at now x ≡ true = ap (λ b. not b && has_passed now x.pending.deadline) e.0 ∙ ap (λ z. has_passed now z.pending.deadline) s ∙ p in
     rw d g
 due-some now (suc n) [] r e g p = absurd e
 due-some now (suc n) (x ∷ xs) r e g p = rw (expired-not-due now x e.0) (due-some now n xs r e.1 g p)
 
 -- the first that is not expired is not due, so none is
-pub due-later : (now n : ℕ) (rows : List PendingRow) (r : PendingRow) → ExpiredFirst n rows → AreInOrder rows → slice_get rows n ≡ Some r → has_passed now r.pending.deadline ≡ false → first_of (is_due now) rows ≡ None
+pub due-later : (now n : ℕ) (rows : List PendingRow) (r : PendingRow) → ExpiredFirst n rows → AreInOrder rows → slice_get rows n ≡ Some r → has_passed now r.pending.deadline ≡ false → first_of (is_due_at now) rows ≡ None
 due-later now zero [] r e o g p = refl
 due-later now zero (x ∷ xs) r e o g p =
     let s : x ≡ r = cc in
     let q : has_passed now x.pending.deadline ≡ false = ap (λ z. has_passed now z.pending.deadline) s ∙ p in
-    let d : is_due now x ≡ false = ap (λ b. is_waiting x && b) q ∙ and-false (is_waiting x) in
+    let d : is_due_at now x ≡ false = ap (λ b. is_waiting x && b) q ∙ and-false (is_waiting x) in
     rw d (none-due now x xs o.0 q)
 due-later now (suc n) [] r e o g p = refl
 due-later now (suc n) (x ∷ xs) r e o g p = rw (expired-not-due now x e.0) (due-later now n xs r e.1 o.1 g p)

@@ -9,7 +9,9 @@ use Rattle.region_model.specs.Pending.{PendingData}
 use Rattle.target_table.specs.declared.table.Ranked.{Ranked}
 use Rattle.std.specs.List.Sorted.{IsNonDecreasingBy, IsPartitionPoint}
 use Rattle.std.proofs.lemmas.Option.{none-some}
-use Rattle.target_table.specs.Rows.{has_id, has_passed, is_due, is_behind, id_of, pending_of, PrecedesAll, AreInOrder, ExpiredFirst}
+use Rattle.target_table.specs.Rows.{has_passed, is_behind, id_in_row, command_of, PrecedesAll, AreInOrder, ExpiredFirst}
+use Rattle.region_model.specs.Represents.{has_id}
+use Rattle.region_model.specs.TargetSteps.{is_due_at}
 use Rattle.region_model.specs.Sides.{PendingRow}
 use Rattle.target_table.proofs.Ordered.{due-none, due-some, due-later, or-true, eqb-not}
 use Rattle.target_table.specs.Kept.{place_of, at_id, or_none, row_at, rows_of, Stands, AllStand, is_ranked}
@@ -69,14 +71,14 @@ not-ranked : (order : List Ranked) (id : ℕ) → (is_ranked order id ≡ true �
 not-ranked order id h = ⊎_elim (λ (t : is_ranked order id ≡ true). absurd (h t)) (λ (f : is_ranked order id ≡ false). f) (cases_Bool (is_ranked order id))
 
 -- no command has the id 0
-pub zero-missing : (places : List (Option PendingData)) (order : List Ranked) → AllStand places order → pending_of (rows_of places order) 0 ≡ None
+pub zero-missing : (places : List (Option PendingData)) (order : List Ranked) → AllStand places order → command_of (rows_of places order) 0 ≡ None
 zero-missing places order s =
     let f = not-ranked order 0 (λ t. let b = (there places order 0 s t).low in omega arith) in
     ap (option_map (λ r. r.pending)) (row-missing places order 0 f)
 
 -- what a place has is the command of its id
 pub place-tells : (places : List (Option PendingData)) (order : List Ranked) (id : ℕ) → AllStand places order →
-    ((p : PendingData) → place_of places id ≡ Some p → is_ranked order id ≡ true) → pending_of (rows_of places order) id ≡ place_of places id
+    ((p : PendingData) → place_of places id ≡ Some p → is_ranked order id ≡ true) → command_of (rows_of places order) id ≡ place_of places id
 place-tells places order id s r =
     ⊎_elim
     (λ (t : is_ranked order id ≡ true).
@@ -96,11 +98,11 @@ at-one places id h = rw (eqb-not id 0 h) refl
 
 -- what is looked up is the command of the id
 pub at-tells : (places : List (Option PendingData)) (order : List Ranked) (id : ℕ) → AllStand places order →
-    ((n : ℕ) (p : PendingData) → 1 ≤ n → place_of places n ≡ Some p → is_ranked order n ≡ true) → pending_of (rows_of places order) id ≡ at_id places id
+    ((n : ℕ) (p : PendingData) → 1 ≤ n → place_of places n ≡ Some p → is_ranked order n ≡ true) → command_of (rows_of places order) id ≡ at_id places id
 at-tells places order id s r =
     ⊎_elim
     (λ (z : id ≡ 0).
-    let P : ℕ → Type 0 = λ n. pending_of (rows_of places order) n ≡ at_id places n in
+    let P : ℕ → Type 0 = λ n. command_of (rows_of places order) n ≡ at_id places n in
     subst P (sym z) (zero-missing places order s))
     (λ (d : id ≢ 0). place-tells places order id s (λ p h. r id p (omega arith) h) ∙ sym (at-one places id d))
     (cases_eq id 0)
@@ -146,25 +148,25 @@ pub length-rows : (places : List (Option PendingData)) (order : List Ranked) →
 length-rows places [] = refl
 length-rows places (o ∷ os) = ap suc (length-rows places os)
 
-pub pending-ranked : (places : List (Option PendingData)) (order : List Ranked) (id : ℕ) → is_ranked order id ≡ true → pending_of (rows_of places order) id ≡ Some (or_none (place_of places id))
+pub pending-ranked : (places : List (Option PendingData)) (order : List Ranked) (id : ℕ) → is_ranked order id ≡ true → command_of (rows_of places order) id ≡ Some (or_none (place_of places id))
 pending-ranked places order id t = ap (option_map (λ r. r.pending)) (row-found places order id t)
 
 pub no-due : (places : List (Option PendingData)) (order : List Ranked) (now n : ℕ) → ExpiredFirst n (rows_of places order) →
-    option_map (λ o. o.id) (slice_get order n) ≡ None → id_of (first_of (is_due now) (rows_of places order)) ≡ None
+    option_map (λ o. o.id) (slice_get order n) ≡ None → id_in_row (first_of (is_due_at now) (rows_of places order)) ≡ None
 no-due places order now n e h =
     let l = rank-none order n h in
     let m = length-rows places order in
-    ap id_of (due-none now n (rows_of places order) e (omega arith))
+    ap id_in_row (due-none now n (rows_of places order) e (omega arith))
 
 pub rank-pending : (places : List (Option PendingData)) (order : List Ranked) (n id : ℕ) → AllStand places order → option_map (λ o. o.id) (slice_get order n) ≡ Some id →
-    pending_of (rows_of places order) id ≡ Some (or_none (place_of places id))
+    command_of (rows_of places order) id ≡ Some (or_none (place_of places id))
 rank-pending places order n id s h =
     let f = rank-some order n id h in
     let r = (rank-stands places order n f.0 s f.1).1 in
     pending-ranked places order id (ap (is_ranked order) (sym f.2) ∙ r)
 
 due-row : (places : List (Option PendingData)) (order : List Ranked) (n id : ℕ) (p : PendingData) → AllStand places order → option_map (λ o. o.id) (slice_get order n) ≡ Some id →
-    pending_of (rows_of places order) id ≡ Some p → slice_get (rows_of places order) n ≡ Some (record { id = id; pending = p })
+    command_of (rows_of places order) id ≡ Some p → slice_get (rows_of places order) n ≡ Some (record { id = id; pending = p })
 due-row places order n id p s h q =
     let f = rank-some order n id h in
     let g = rank-get places order n f.0 f.1 in
@@ -173,16 +175,16 @@ due-row places order n id p s h q =
     g ∙ ap (λ i. Some (row_of places i)) f.2 ∙ ap (λ z. Some (record { id = id; pending = z })) k
 
 pub is-first-due : (places : List (Option PendingData)) (order : List Ranked) (now n id : ℕ) (p : PendingData) → AllStand places order → ExpiredFirst n (rows_of places order) →
-    option_map (λ o. o.id) (slice_get order n) ≡ Some id → pending_of (rows_of places order) id ≡ Some p → has_passed now p.deadline ≡ true →
-    id_of (first_of (is_due now) (rows_of places order)) ≡ Some id
+    option_map (λ o. o.id) (slice_get order n) ≡ Some id → command_of (rows_of places order) id ≡ Some p → has_passed now p.deadline ≡ true →
+    id_in_row (first_of (is_due_at now) (rows_of places order)) ≡ Some id
 is-first-due places order now n id p s e h q t =
-    ap id_of (due-some now n (rows_of places order) (record { id = id; pending = p }) e (due-row places order n id p s h q) t)
+    ap id_in_row (due-some now n (rows_of places order) (record { id = id; pending = p }) e (due-row places order n id p s h q) t)
 
 pub first-not-due : (places : List (Option PendingData)) (order : List Ranked) (now n id : ℕ) (p : PendingData) → AllStand places order → ExpiredFirst n (rows_of places order) → AreInOrder (rows_of places order) →
-    option_map (λ o. o.id) (slice_get order n) ≡ Some id → pending_of (rows_of places order) id ≡ Some p → has_passed now p.deadline ≡ false →
-    id_of (first_of (is_due now) (rows_of places order)) ≡ None
+    option_map (λ o. o.id) (slice_get order n) ≡ Some id → command_of (rows_of places order) id ≡ Some p → has_passed now p.deadline ≡ false →
+    id_in_row (first_of (is_due_at now) (rows_of places order)) ≡ None
 first-not-due places order now n id p s e o h q f =
-    ap id_of (due-later now n (rows_of places order) (record { id = id; pending = p }) e o (due-row places order n id p s h q) f)
+    ap id_in_row (due-later now n (rows_of places order) (record { id = id; pending = p }) e o (due-row places order n id p s h q) f)
 
 -- ==== by halving
 
@@ -210,7 +212,7 @@ is-behind-no a b c h e = grind arith
 
 pub behind-first : (places : List (Option PendingData)) (order : List Ranked) (serial rank : ℕ) → AllStand places order →
     IsPartitionPoint (λ o. nat_le o.serial serial ≡ true) (λ o. nat_le o.serial serial ≡ false) order rank →
-    option_map (λ o. o.id) (slice_get order rank) ≡ id_of (first_of (is_behind serial) (rows_of places order))
+    option_map (λ o. o.id) (slice_get order rank) ≡ id_in_row (first_of (is_behind serial) (rows_of places order))
 behind-first places [] serial rank s p = refl
 behind-first places (o ∷ os) serial zero s p =
     let f = p.1 0 o (omega arith) (omega arith) in
@@ -279,6 +281,6 @@ rank-of places (o ∷ os) id (suc rank) s p h l q =
     (cases_Bool (o.id == id))
 
 -- the first of all
-pub least-first : (places : List (Option PendingData)) (order : List Ranked) → option_map (λ o. o.id) (slice_get order 0) ≡ id_of (first_of (λ row. true) (rows_of places order))
+pub least-first : (places : List (Option PendingData)) (order : List Ranked) → option_map (λ o. o.id) (slice_get order 0) ≡ id_in_row (first_of (λ row. true) (rows_of places order))
 least-first places [] = refl
 least-first places (o ∷ os) = refl

@@ -2,7 +2,7 @@
 use Rattle.std.specs.Prelude.{◌≡◌, ℕ, ◌+◌, ◌-◌, ◌≤◌, ◌==◌, Bool, true, false, List, [], ◌∷◌, length, map, slice_index_or, Option, Some, None, if◌then◌else◌}
 use Rattle.std.specs.List.{list_any}
 use Rattle.region_model.specs.Pending.{PendingData}
-use Rattle.tcmu_types.specs.Numbers.{is_among}
+use Rattle.tcmu_types.specs.Numbers.{Differ, is_among}
 use Rattle.target_table.specs.declared.table.Ranked.{Ranked}
 use Rattle.target_table.specs.Rows.{IsTable}
 use Rattle.region_model.specs.Sides.{PendingRow}
@@ -43,11 +43,6 @@ AllStand places (o ∷ os) = Stands places o × AllStand places os
 abbrev pub is_ranked : List Ranked → ℕ → Bool
 is_ranked order id = list_any (λ o. o.id == id) order
 
--- no number stands twice
-abbrev pub IsDistinct : List ℕ → Type 0
-IsDistinct [] = Unit {0}
-IsDistinct (n ∷ ns) = (is_among ns n ≡ false) × IsDistinct ns
-
 -- the place of an id is there, and free
 pub record IsFree (places : List (Option PendingData)) (id : ℕ) : Type 0 where
   pub low : 1 ≤ id
@@ -58,7 +53,7 @@ pub record IsKept (places : List (Option PendingData)) (free : List ℕ) (order 
   pub stand : AllStand places order
   pub ranked : (id : ℕ) (p : PendingData) → 1 ≤ id → place_of places id ≡ Some p → is_ranked order id ≡ true
   pub are_free : (id : ℕ) → is_among free id ≡ true → IsFree places id
-  pub once : IsDistinct free
+  pub once : Differ free
   pub counted : length order + length free ≡ length places
   pub most : length places ≤ 65535
   pub sound : IsTable (record { rows = rows_of places order; expired = expired; spare = length free })

@@ -5,15 +5,13 @@ use Rattle.std.specs.Option.{option_map}
 use Rattle.tcmu_types.specs.Lists.{first_of, without_first}
 use Rattle.region_model.specs.Pending.{NotAfter, PendingData}
 use Rattle.region_model.specs.Sides.{PendingRow}
+use Rattle.region_model.specs.Represents.{has_id}
 
 -- the rows, how many of them are expired, and for how many more there is a place
 pub record TableData : Type 0 where
   pub rows : List PendingRow
   pub expired : ℕ
   pub spare : ℕ
-
-abbrev pub has_id : ℕ → PendingRow → Bool
-has_id id r = r.id == id
 
 abbrev pub is_expired : PendingRow → Bool
 is_expired r = r.pending.expired
@@ -26,19 +24,15 @@ abbrev pub has_passed : ℕ → Option ℕ → Bool
 has_passed now None = false
 has_passed now (Some deadline) = nat_le deadline now
 
--- not expired, with a deadline at most now
-abbrev pub is_due : ℕ → PendingRow → Bool
-is_due now r = is_waiting r && has_passed now r.pending.deadline
-
 abbrev pub is_behind : ℕ → PendingRow → Bool
 is_behind serial r = nat_lt serial r.pending.serial
 
-abbrev pub id_of : Option PendingRow → Option ℕ
-id_of row = option_map (λ r. r.id) row
+abbrev pub id_in_row : Option PendingRow → Option ℕ
+id_in_row row = option_map (λ r. r.id) row
 
 -- the command of an id
-abbrev pub pending_of : List PendingRow → ℕ → Option PendingData
-pending_of rows id = option_map (λ r. r.pending) (first_of (has_id id) rows)
+abbrev pub command_of : List PendingRow → ℕ → Option PendingData
+command_of rows id = option_map (λ r. r.pending) (first_of (has_id id) rows)
 
 abbrev pub with_expired : PendingRow → PendingRow
 with_expired r = record r { pending = record r.pending { expired = true } }
@@ -54,7 +48,7 @@ without_found t id (Some p) =
 
 -- the table after the command of an id, if there is one, is taken out
 abbrev pub without : TableData → ℕ → TableData
-without t id = without_found t id (pending_of t.rows id)
+without t id = without_found t id (command_of t.rows id)
 
 -- ==== what every table keeps
 

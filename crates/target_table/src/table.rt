@@ -4,7 +4,9 @@ ghost use Rattle.std.specs.List.{list_any};
 ghost use Rattle.std.specs.List.Sorted.{IsNonDecreasingBy, IsPartitionPoint};
 ghost use Rattle.std.specs.Option.{option_map};
 ghost use Rattle.tcmu_types.specs.Lists.{first_of, with_first};
-ghost use Rattle.target_table.specs.Rows.{TableData, IsTable, AllPrecede, has_id, has_passed, is_due, is_behind, is_waiting, id_of, pending_of, with_expired, without};
+ghost use Rattle.target_table.specs.Rows.{TableData, IsTable, AllPrecede, has_passed, is_behind, is_waiting, id_in_row, command_of, with_expired, without};
+ghost use Rattle.region_model.specs.Represents.{has_id};
+ghost use Rattle.region_model.specs.TargetSteps.{is_due_at};
 ghost use Rattle.region_model.specs.Sides.{PendingRow};
 ghost use Rattle.target_table.specs.Kept.{at_id};
 
@@ -109,7 +111,7 @@ impl Table {
 
     /// The command of an id.
     pub fn get(&self, id: u16) -> Option<&Pending>
-        ensures { option_copied result ≡ pending_of self.now.rows id }
+        ensures { option_copied result ≡ command_of self.now.rows id }
     {
         let places = &self.places;
         if id == 0 {
@@ -123,7 +125,7 @@ impl Table {
 
     /// Takes the command of an id out; the id is free then.
     pub fn take(&mut self, id: u16) -> Option<Pending>
-        ensures value { result ≡ pending_of self.old.rows id }
+        ensures value { result ≡ command_of self.old.rows id }
         ensures new { self.new ≡ without self.old id }
     {
         let pending = vacate(&mut self.places, id)?;
@@ -136,7 +138,7 @@ impl Table {
 
     /// The id of the first command that is not expired and is due now.
     pub fn next_due(&self, now: u64) -> Option<u16>
-        ensures { result ≡ id_of (first_of (is_due now) self.now.rows) }
+        ensures { result ≡ id_in_row (first_of (is_due_at now) self.now.rows) }
     {
         let id = id_at(&self.order, self.expired)?;
         let pending = match self.get(id) {
@@ -152,7 +154,7 @@ impl Table {
 
     /// Marks the first command that is not expired, which has this id, as expired.
     pub fn expire(&mut self, id: u16)
-        requires { id_of (first_of is_waiting self.old.rows) ≡ Some id }
+        requires { id_in_row (first_of is_waiting self.old.rows) ≡ Some id }
         ensures { self.new ≡ record {
           rows = with_first (has_id id) with_expired self.old.rows;
           expired = self.old.expired + 1;
@@ -169,7 +171,7 @@ impl Table {
 
     /// The id of the least serial.
     pub fn least(&self) -> Option<u16>
-        ensures value { result ≡ id_of (first_of (λ row. true) self.now.rows) }
+        ensures value { result ≡ id_in_row (first_of (λ row. true) self.now.rows) }
         ensures sound { IsTable self.now }
     {
         id_at(&self.order, 0)
@@ -177,7 +179,7 @@ impl Table {
 
     /// The id of the least serial above the given one.
     pub fn after(&self, serial: u64) -> Option<u16>
-        ensures { result ≡ id_of (first_of (is_behind serial) self.now.rows) }
+        ensures { result ≡ id_in_row (first_of (is_behind serial) self.now.rows) }
     {
         id_at(&self.order, rank_behind(&self.order, serial))
     }

@@ -300,9 +300,12 @@ is_due now u = not u.expired && elim (u.deadline) [ None ↦ false | Some at ↦
 abbrev pub has_left : ℕ → Delayed → Bool
 has_left now w = nat_le w.leaves now
 
--- a completion that no handler answered
+-- a completion that no handler answered, of what an initiator sent under a tag
+abbrev pub ending : ℕ → Option SenseData → ℕ → List ℕ → ℕ → DoneData
+ending status sense s init tag = record { serial = s; init = init; tag = tag; status = status; sense = sense; payload = [] }
+
 abbrev pub closing : ℕ → Option SenseData → ℕ → CommandData → DoneData
-closing status sense s c = record { serial = s; init = c.init; tag = c.tag; status = status; sense = sense; payload = [] }
+closing status sense s c = ending status sense s c.init c.tag
 
 abbrev pub check_condition : ℕ → ℕ → ℕ → ℕ → CommandData → DoneData
 check_condition key asc ascq s c = closing 0x02 (Some (record { key = key; asc = asc; ascq = ascq })) s c
@@ -354,8 +357,12 @@ abbrev pub count_in_hand : DeviceState → ℕ
 count_in_hand d = count_by is_in_hand d.unfinished
 
 -- level 1: BUSY; level 2: HARDWARE ERROR, INTERNAL TARGET FAILURE
+abbrev pub reset_ending : ℕ → ℕ → List ℕ → ℕ → DoneData
+reset_ending level s init tag =
+    if level == 1 then ending 0x08 None s init tag else ending 0x02 (Some (record { key = 0x04; asc = 0x44; ascq = 0x00 })) s init tag
+
 abbrev pub reset_completion : ℕ → ℕ → CommandData → DoneData
-reset_completion level s c = if level == 1 then closing 0x08 None s c else check_condition 0x04 0x44 0x00 s c
+reset_completion level s c = reset_ending level s c.init c.tag
 
 abbrev pub is_open : Unfinished → Bool
 is_open u = not u.expired

@@ -36,13 +36,13 @@ pub struct Row {
 
 impl Model for Row {
     ghost use Rattle.tcmu_model.specs.Device.{Unfinished};
-    ghost use Rattle.tcmu_path.specs.Kept.{reply_of, HasRoom};
+    ghost use Rattle.tcmu_path.specs.Kept.{reply_of, HoldsReply};
 
     ghost Value = { Unfinished };
 
     ghost view = { λ a. record { serial = a.serial; command = a.command; state = a.state; deadline = a.deadline; expired = a.expired; reply = reply_of a.head a.buffer.items } };
 
-    ghost invariant = { λ a. HasRoom a.command.in_len a.buffer };
+    ghost invariant = { λ a. HoldsReply a.command.in_len a.buffer };
 }
 
 /// Room for the completion of a command.

@@ -21,9 +21,9 @@ abbrev pub dispatch_serials : DispatchData → List ℕ
 dispatch_serials (ev.Note kind serials) = serials
 dispatch_serials _ = []
 
-abbrev pub answer_bytes : AnswerData → List ℕ
-answer_bytes (ev.Answered a) = handle_bytes a
-answer_bytes _ = []
+abbrev pub bytes_in_answer : AnswerData → List ℕ
+bytes_in_answer (ev.Answered a) = handle_bytes a
+bytes_in_answer _ = []
 
 abbrev pub answer_serials : AnswerData → List ℕ
 answer_serials (ev.Dispatched a) = dispatch_serials a
@@ -35,7 +35,7 @@ pub record RoomData : Type 0 where
   pub serials : ℕ
 
 -- there is room for these
-pub record HasRoom (bytes serials : List ℕ) (room : RoomData) : Type 0 where
+pub record HasCopyRoom (bytes serials : List ℕ) (room : RoomData) : Type 0 where
   pub bytes_fit : length bytes ≤ room.bytes
   pub serials_fit : length serials ≤ room.serials
 

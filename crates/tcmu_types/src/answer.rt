@@ -1,7 +1,7 @@
 //! What the events of a device answer. A refusal of room names what is needed and what is free: bytes of the ring, or data blocks.
 ghost use Rattle.std.specs.Prelude.{◌≡◌, [], IfOk, length};
 ghost use Rattle.tcmu_types.specs.Views.{dispatch_data, answer_data};
-ghost use Rattle.tcmu_types.specs.Copied.{handle_bytes, dispatch_serials, answer_bytes, answer_serials, HasRoom, LeavesRoom};
+ghost use Rattle.tcmu_types.specs.Copied.{handle_bytes, dispatch_serials, bytes_in_answer, answer_serials, HasCopyRoom, LeavesRoom};
 
 use crate::{CopyRoom, NoMemory, Reply, Serials, Stat};
 use std::alloc::Global;
@@ -29,7 +29,7 @@ pub enum Answer {
 impl Answer {
     /// How many bytes it carries, and how many serials it names.
     fn sizes(&self) -> (usize, usize)
-        ensures bytes { result.0 ≡ length (answer_bytes (answer_data self.now)) }
+        ensures bytes { result.0 ≡ length (bytes_in_answer (answer_data self.now)) }
         ensures serials { result.1 ≡ length (answer_serials (answer_data self.now)) }
     {
         match self {
@@ -41,9 +41,9 @@ impl Answer {
 
     /// The same answer once more, what it carries in the room.
     pub fn copied_into(&self, room: &mut CopyRoom) -> Answer
-        requires { HasRoom (answer_bytes (answer_data self.now)) (answer_serials (answer_data self.now)) room.old }
+        requires { HasCopyRoom (bytes_in_answer (answer_data self.now)) (answer_serials (answer_data self.now)) room.old }
         ensures copy { answer_data result ≡ answer_data self.now }
-        ensures room { LeavesRoom (answer_bytes (answer_data self.now)) (answer_serials (answer_data self.now)) room.old room.new }
+        ensures room { LeavesRoom (bytes_in_answer (answer_data self.now)) (answer_serials (answer_data self.now)) room.old room.new }
     {
         match self {
             Answer::Submit(answer) => Answer::Submit(*answer),
@@ -102,7 +102,7 @@ pub enum Dispatch {
 impl Dispatch {
     /// The same answer once more, its serials in the room.
     pub fn copied_into(&self, room: &mut CopyRoom) -> Dispatch
-        requires { HasRoom [] (dispatch_serials (dispatch_data self.now)) room.old }
+        requires { HasCopyRoom [] (dispatch_serials (dispatch_data self.now)) room.old }
         ensures copy { dispatch_data result ≡ dispatch_data self.now }
         ensures room { LeavesRoom [] (dispatch_serials (dispatch_data self.now)) room.old room.new }
     {
@@ -130,7 +130,7 @@ pub enum Handle {
 impl Handle {
     /// The same answer once more, its payload in the room.
     pub fn copied_into(&self, room: &mut CopyRoom) -> Handle
-        requires { HasRoom (handle_bytes self.now) [] room.old }
+        requires { HasCopyRoom (handle_bytes self.now) [] room.old }
         ensures copy { result ≡ self.now }
         ensures room { LeavesRoom (handle_bytes self.now) [] room.old room.new }
     {

@@ -1,7 +1,7 @@
 //! Commands as their initiators send them.
 ghost use Rattle.std.specs.Prelude.{◌≡◌, ◌≤◌, ◌<◌, ◌==◌, if◌then◌else◌, Some, None, [], IfOk, length};
 ghost use Rattle.tcmu_types.specs.Data.{CommandData};
-ghost use Rattle.tcmu_types.specs.Copied.{HasRoom, LeavesRoom};
+ghost use Rattle.tcmu_types.specs.Copied.{HasCopyRoom, LeavesRoom};
 ghost use Rattle.tcmu_types.specs.Rules.{IsCommand, is_sendable, takes_payload, payload_length};
 
 use crate::{Bytes, Cdb, CopyRoom, MOST_PAYLOAD, Name, NoMemory, takes_payload};
@@ -118,7 +118,7 @@ impl Command {
     }
     /// The same command once more, the bytes sent with it in the room.
     pub fn copied_into(&self, room: &mut CopyRoom) -> Command
-        requires { HasRoom self.now.sent [] room.old }
+        requires { HasCopyRoom self.now.sent [] room.old }
         ensures copy { result ≡ self.now }
         ensures room { LeavesRoom self.now.sent [] room.old room.new }
     {

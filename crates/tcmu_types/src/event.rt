@@ -1,7 +1,7 @@
 //! The events of a device, and the entries of its journal.
 ghost use Rattle.std.specs.Prelude.{◌≡◌, IfOk, length};
 ghost use Rattle.tcmu_types.specs.Views.{event_data};
-ghost use Rattle.tcmu_types.specs.Copied.{event_bytes, event_serials, HasRoom, LeavesRoom};
+ghost use Rattle.tcmu_types.specs.Copied.{event_bytes, event_serials, HasCopyRoom, LeavesRoom};
 
 use crate::answer::Answer;
 use crate::{Command, CopyRoom, NoMemory, Serials};
@@ -51,7 +51,7 @@ impl Event {
 
     /// The same event once more, what it carries in the room.
     pub fn copied_into(&self, room: &mut CopyRoom) -> Event
-        requires { HasRoom (event_bytes (event_data self.now)) (event_serials (event_data self.now)) room.old }
+        requires { HasCopyRoom (event_bytes (event_data self.now)) (event_serials (event_data self.now)) room.old }
         ensures copy { event_data result ≡ event_data self.now }
         ensures room { LeavesRoom (event_bytes (event_data self.now)) (event_serials (event_data self.now)) room.old room.new }
     {

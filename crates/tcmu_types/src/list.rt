@@ -3,7 +3,7 @@ ghost use Rattle.std.specs.Prelude.{◌≡◌, ◌+◌, ◌-◌, ◌≤◌, ◌=
 ghost use Rattle.std.specs.List.{list_any};
 ghost use Rattle.std.specs.Vec.{vec_len, vec_capacity};
 ghost use Rattle.tcmu_types.specs.Data.{texts_of};
-ghost use Rattle.tcmu_types.specs.Copied.{HasRoom, LeavesRoom};
+ghost use Rattle.tcmu_types.specs.Copied.{HasCopyRoom, LeavesRoom};
 
 use std::alloc::{AllocError, AllocFailed, Global};
 use std::marker::Model;
@@ -236,7 +236,7 @@ impl CopyRoom {
 
     /// A copy of these bytes.
     pub fn copy_bytes(&mut self, bytes: &[u8]) -> Bytes
-        requires { HasRoom bytes.now [] self.old }
+        requires { HasCopyRoom bytes.now [] self.old }
         ensures copy { result.items ≡ bytes.now }
         ensures room { LeavesRoom bytes.now [] self.old self.new }
     {
@@ -245,7 +245,7 @@ impl CopyRoom {
 
     /// A copy of these serials.
     pub fn copy_serials(&mut self, serials: &[u64]) -> Serials
-        requires { HasRoom [] serials.now self.old }
+        requires { HasCopyRoom [] serials.now self.old }
         ensures copy { result.items ≡ serials.now }
         ensures room { LeavesRoom [] serials.now self.old self.new }
     {

@@ -1,7 +1,7 @@
 //! Replies of handlers, completions, statuses and sense data.
 ghost use Rattle.std.specs.Prelude.{◌≡◌, []};
 ghost use Rattle.tcmu_types.specs.SenseBytes.{fixed_sense, sense_in};
-ghost use Rattle.tcmu_types.specs.Copied.{HasRoom, LeavesRoom};
+ghost use Rattle.tcmu_types.specs.Copied.{HasCopyRoom, LeavesRoom};
 
 use crate::{Bytes, CopyRoom, Name};
 use std::marker::Model;
@@ -63,7 +63,7 @@ impl Model for Reply {
 impl Reply {
     /// The same reply once more, its payload in the room.
     pub fn copied_into(&self, room: &mut CopyRoom) -> Reply
-        requires { HasRoom self.now.payload [] room.old }
+        requires { HasCopyRoom self.now.payload [] room.old }
         ensures copy { result ≡ self.now }
         ensures room { LeavesRoom self.now.payload [] room.old room.new }
     {

@@ -28,7 +28,7 @@ use Rattle.tcmu_model.proofs.Logs.{makes_grows}
 use Rattle.tcmu_model.proofs.Runs.{sound_step}
 use Rattle.text_model.specs.Journals.{Journaled, is_of, entries_of, IsLegalEach}
 use Rattle.text_model.specs.Replay.{made, lines_of, Plays}
-use Rattle.text_model.specs.Schedule.{is_due, is_work, LiveRun, sent_under, sent, to_send, if_admin, admin_made, AllMade, IsSchedule, HasSchedule, StandsAttached, AreSchedules}
+use Rattle.text_model.specs.Schedule.{may_stand, is_work, LiveRun, sent_under, sent, to_send, if_admin, admin_made, AllMade, IsSchedule, HasSchedule, StandsAttached, AreSchedules}
 use Rattle.text_model.specs.ScenarioData.{ScenarioData}
 use Rattle.text_model.specs.ScenarioRules.{IsInitLine, IsAdminEvent, IsScript}
 use Rattle.text_model.specs.Script.{InitLineData, ScriptData, is_admin}
@@ -49,9 +49,9 @@ record IsMade (R : HandlerRelation) (at : ℕ) (event : EventData) (d : Device) 
   step : Step R d entry after
   is : entry.event ≡ event
   own : entry.device ≡ at
-  due : is_due d.state event ≡ true
+  due : may_stand d.state event ≡ true
 
-entry_of : (R : HandlerRelation) (at : ℕ) (d d' : Device) (event : EventData) (a : AnswerData) → Makes R d event a d' → is_due d.state event ≡ true → IsMade R at event d
+entry_of : (R : HandlerRelation) (at : ℕ) (d d' : Device) (event : EventData) (a : AnswerData) → Makes R d event a d' → may_stand d.state event ≡ true → IsMade R at event d
 entry_of R at d d' event a h due =
     let g = makes_grows R d d' event a h in
     record {
@@ -97,7 +97,7 @@ played R at (x ∷ xs) d sound h =
     record {
       entries = m.entry ∷ rest.entries;
       after = rest.after;
-      run = (subst (λ (y : EventData). is_due d.state y ≡ true) (sym m.is) m.due, m.after, m.step, rest.run);
+      run = (subst (λ (y : EventData). may_stand d.state y ≡ true) (sym m.is) m.due, m.after, m.step, rest.run);
       sound = rest.sound;
       are = ap (λ (y : EventData). y ∷ map (λ e. e.event) rest.entries) m.is ∙ ap (λ (l : List EventData). x ∷ l) rest.are;
       own = (m.own, rest.own);
@@ -107,7 +107,7 @@ played R at (x ∷ xs) d sound h =
 
 -- what a drain chooses is due, and is in no list of a script
 record IsPicked (d : DeviceState) (event : EventData) : Type 0 where
-  due : is_due d event ≡ true
+  due : may_stand d event ≡ true
   unsent : (name : List ℕ) → sent_under name event ≡ []
   unlisted : if_admin event ≡ []
 
@@ -315,7 +315,7 @@ pub schedule_sends : (R : HandlerRelation) (device : ℕ) (x : ScriptData) (d d'
 schedule_sends R device x d d' es k i script is found = is.made.lines i.name ∙ own_to_send x.inits k i (apart_of x.inits script.names) found
 
 -- what a drain finds to do it finds on an attached device
-due_attached : (d : DeviceState) (e : EventData) → is_work e ≡ true → is_due d e ≡ true → d.attached ≡ true
+due_attached : (d : DeviceState) (e : EventData) → is_work e ≡ true → may_stand d e ≡ true → d.attached ≡ true
 unfolding todo_of
 due_attached d ev.Dispatch work due = on_attached d.attached due
   where

@@ -17,12 +17,12 @@ use Rattle.text_model.specs.Script.{InitLineData, ScriptData, is_admin, script_o
 
 -- Whether an event may stand here: dispatch, publish, clean and enter where a drain finds them to do, so never on a detached device; all
 -- others anywhere.
-abbrev pub is_due : DeviceState → EventData → Bool
-is_due d ev.Dispatch = (todo_of d).dispatch
-is_due d ev.Publish = (todo_of d).publish
-is_due d ev.Clean = (todo_of d).clean
-is_due d ev.Enter = (todo_of d).enter
-is_due d _ = true
+abbrev pub may_stand : DeviceState → EventData → Bool
+may_stand d ev.Dispatch = (todo_of d).dispatch
+may_stand d ev.Publish = (todo_of d).publish
+may_stand d ev.Clean = (todo_of d).clean
+may_stand d ev.Enter = (todo_of d).enter
+may_stand d _ = true
 
 -- the target or the user side works
 abbrev pub is_work : EventData → Bool
@@ -35,7 +35,7 @@ is_work _ = false
 -- the entries are made one after another, each where it is due
 abbrev pub LiveRun : HandlerRelation → Device → List EntryData → Device → Type 0
 LiveRun R d [] d' = d' ≡ d
-LiveRun R d (e ∷ es) d' = (is_due d.state e.event ≡ true) × (mid : Device) × Step R d e mid × LiveRun R mid es d'
+LiveRun R d (e ∷ es) d' = (may_stand d.state e.event ≡ true) × (mid : Device) × Step R d e mid × LiveRun R mid es d'
 
 -- ==== the lists of a script
 
