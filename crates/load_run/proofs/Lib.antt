@@ -1,3 +1,4 @@
 pub mod Tallying
 pub mod Summing
 pub mod Loads
+pub mod Makeable

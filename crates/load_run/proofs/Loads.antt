@@ -11,7 +11,7 @@ use Rattle.text_model.specs.Load.{load_device, load_lines, random_of, LoadNumber
 use Rattle.tcmu_model.proofs.SoundEvents.{sound_opening}
 use Rattle.tcmu_model.proofs.Runs.{sound_run}
 use Rattle.load_gen.proofs.Limits.{lines_none, lines_more, submit_line, drain_if, command_is, device_is}
-use Rattle.tcmu_path.specs.Tasks.{IsFitFor}
+use Rattle.text_model.specs.ScenarioRules.{IsFitFor}
 use Rattle.load_run.specs.Tallies.{Played, numbers_in}
 use Rattle.load_run.specs.Loading.{opened_over, opened_load, IsLoadText}
 use Rattle.load_run.proofs.Tallying.{run_of}

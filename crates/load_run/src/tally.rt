@@ -8,7 +8,8 @@ ghost use Rattle.text_model.specs.Replay.{Plays};
 ghost use Rattle.text_model.specs.Several.{ReplaysEach};
 ghost use Rattle.tcmu_path.specs.Calls.{Accepts};
 ghost use Rattle.tcmu_model.specs.Steps.{most_accepted};
-ghost use Rattle.tcmu_path.specs.Tasks.{CanBeMade, IsFit, IsFitFor};
+ghost use Rattle.text_model.specs.ScenarioRules.{IsFit, IsFitFor};
+ghost use Rattle.tcmu_path.specs.Tasks.{CanBeMade};
 ghost use Rattle.load_run.specs.Tallies.{IsOf, Played, size_of, size_in};
 
 use scenario_text::{Line, LineKind};

@@ -12,7 +12,7 @@ use Rattle.text_model.specs.ScenarioData.{LineData}
 use Rattle.text_model.specs.Several.{Journaled, DrainsEach, ReplaysEach}
 use Rattle.tcmu_model.proofs.GoesOn.{drains_run}
 use Rattle.tcmu_model.proofs.Runs.{sound_run}
-use Rattle.tcmu_path.specs.Tasks.{IsFitFor}
+use Rattle.text_model.specs.ScenarioRules.{IsFitFor}
 use Rattle.tcmu_top.specs.InPart.{DrainsInPart, DrainsEachInPart}
 use Rattle.tcmu_top.proofs.Each.{Leads, Ending}
 use Rattle.tcmu_top.proofs.Legal.{AreOf, piece_of, legal_none, legal_one, legal_append, drains_own, plays_own}

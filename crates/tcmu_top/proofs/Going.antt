@@ -13,7 +13,7 @@ use Rattle.text_model.specs.Several.{DrainsEach, ReplaysEach}
 use Rattle.tcmu_types.proofs.Everies.{every-weaker, every_at}
 use Rattle.tcmu_top.specs.Playing.{WroteOn, WroteOnFront, WroteEach, WroteEachFront}
 use Rattle.tcmu_top.specs.InPart.{DrainsInPart, PlaysInPart, DrainsEachInPart, ReplaysEachInPart}
-use Rattle.tcmu_path.specs.Tasks.{IsFitFor}
+use Rattle.text_model.specs.ScenarioRules.{IsFitFor}
 use Rattle.tcmu_top.proofs.Each.{Aims, SoFar, sofar_first, sofar_more, sofar_stopped, sofar_done}
 use Rattle.tcmu_top.proofs.Endings.{DrainsFrom, DrainsFromInPart, drains_step, drains_part_step, drains_part_stop, drains_none, ending_drains, ending_lines}
 use Rattle.tcmu_top.proofs.InPart.{drains_part_own, plays_part_own}

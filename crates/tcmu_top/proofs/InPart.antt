@@ -8,7 +8,7 @@ use Rattle.tcmu_model.specs.Drain.{drain_event}
 use Rattle.text_model.specs.ScenarioData.{LineData, LineWhat}
 use Rattle.text_model.specs.ScenarioData as line
 use Rattle.text_model.specs.Several.{DrainsEach, ReplaysEach}
-use Rattle.tcmu_path.specs.Tasks.{IsFit, IsFitFor}
+use Rattle.text_model.specs.ScenarioRules.{IsFit, IsFitFor}
 use Rattle.tcmu_top.specs.InPart.{DrainsInPart, PlaysInPart, DrainsEachInPart, ReplaysEachInPart}
 use Rattle.tcmu_top.proofs.Legal.{AreOf, plays_own}
 use Rattle.tcmu_top.proofs.Places.{set_same}

@@ -26,8 +26,7 @@ use Rattle.tcmu_model.proofs.Logs.{makes_grows}
 use Rattle.tcmu_top.specs.InPart.{DrainsInPart, PlaysInPart}
 use Rattle.tcmu_top.proofs.InPart.{drains_part_more}
 use Rattle.tcmu_top.specs.Playing.{event_lines, run_text, MadeEvent, Played, Stopped, Wrote, RunAllButLast, CanEnd, WroteFront}
-use Rattle.text_model.specs.ScenarioRules.{IsEvent}
-use Rattle.tcmu_path.specs.Tasks.{IsFit}
+use Rattle.text_model.specs.ScenarioRules.{IsEvent, IsFit}
 use Rattle.tcmu_top.proofs.Telling.{gained_none, gained_more, gained_as, front_none, front_whole, front_behind}
 use Rattle.tcmu_top.proofs.RunTexts.{run_append, text_more, text_one, drop_front}
 use Rattle.tcmu_model.proofs.Runs.{sound_step}

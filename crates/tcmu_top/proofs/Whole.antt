@@ -13,11 +13,10 @@ use Rattle.tcmu_model.specs.Work.{HasOutcomes}
 use Rattle.text_model.specs.ScenarioData.{DeviceLineData, LineData, LineWhat}
 use Rattle.text_model.specs.ScenarioData as line
 use Rattle.text_model.specs.Scenario.{is_dump}
-use Rattle.text_model.specs.ScenarioRules.{IsLine, IsWhat}
+use Rattle.text_model.specs.ScenarioRules.{IsLine, IsWhat, IsFit, IsFitFor}
 use Rattle.text_model.specs.Several.{Journaled, ReplaysEach, IsLegalEach, journaled_text, ends_text, IsReplayOf}
 use Rattle.text_model.specs.Text.{device_text, end_text}
 use Rattle.tcmu_top.specs.Playing.{WroteEach, WroteEachFront}
-use Rattle.tcmu_path.specs.Tasks.{IsFit, IsFitFor}
 use Rattle.tcmu_top.specs.InPart.{ReplaysEachInPart}
 use Rattle.tcmu_top.specs.Top.{Replayed, MadeInPart, ReplayedInPart}
 use Rattle.tcmu_top.proofs.InPart.{none_replayed, all_replayed}

@@ -82,6 +82,17 @@ pub record IsScenarioWithin (limits : Limits) (s : ScenarioData) : Type 0 where
 abbrev pub IsScenario : ScenarioData → Type 0
 IsScenario s = IsScenarioWithin scenario_limits s
 
+-- an event within its limits, or a drain; dumps are not served yet
+abbrev pub IsFit : LineWhat → Type 0
+IsFit (EventLine event) = IsEvent event
+IsFit DrainLine = Unit {0}
+IsFit DumpLine = ⊥
+
+-- a line that is served, of one of so many devices
+pub record IsFitFor (devices : ℕ) (l : LineData) : Type 0 where
+  pub device : l.device < devices
+  pub what : IsFit l.what
+
 -- What is served so far: no dumps.
 pub record IsServed (s : ScenarioData) : Type 0 where
   pub no_dumps : All (λ l. is_dump l ≡ false) s.lines

@@ -4,7 +4,7 @@ use Rattle.tcmu_model.specs.Device.{Device}
 use Rattle.tcmu_types.specs.Lists.{Every}
 use Rattle.text_model.specs.ScenarioData.{LineData}
 use Rattle.load_gen.proofs.Limits.{lines_few}
-use Rattle.tcmu_path.specs.Tasks.{IsFitFor}
+use Rattle.text_model.specs.ScenarioRules.{IsFitFor}
 use Rattle.load_run.specs.Tallies.{numbers_in}
 use Rattle.load_run.specs.Loading.{opened_over}
 use Rattle.load_run.proofs.Loads.{opened_none, lines_fit, load_played, load_text}

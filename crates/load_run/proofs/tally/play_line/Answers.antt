@@ -3,7 +3,7 @@ use Rattle.std.proofs.lemmas.Result.{on_ok_weaker}
 use Rattle.tcmu_types.specs.Views.{event_data}
 use Rattle.text_model.specs.ScenarioData.{LineData}
 use Rattle.scenario_text.specs.Views.{kind_data}
-use Rattle.tcmu_path.proofs.Picked.{can_of_fit}
+use Rattle.load_run.proofs.Makeable.{can_of_fit}
 use Rattle.load_run.proofs.Tallying.{line_played}
 use Rattle.load_run.proofs.tally.play_line.Goals as goal
 

@@ -1,7 +1,7 @@
 use Rattle.std.proofs.Common.{drop}
 use Rattle.tcmu_types.specs.Lists.{Every}
 use Rattle.tcmu_path.specs.Calls.{Accepts}
-use Rattle.tcmu_path.specs.Tasks.{IsFitFor}
+use Rattle.text_model.specs.ScenarioRules.{IsFitFor}
 use Rattle.load_run.proofs.Tallying.{Playing}
 use Rattle.load_run.proofs.tally.play_lines.Given as goal
 

@@ -3,7 +3,7 @@ use Rattle.std.proofs.lemmas.Result.{on_ok_weaker, on_err_weaker}
 use Rattle.tcmu_types.specs.Views.{event_data}
 use Rattle.text_model.specs.ScenarioData.{LineData}
 use Rattle.scenario_text.specs.Views.{kind_data}
-use Rattle.tcmu_path.proofs.Picked.{can_of_fit}
+use Rattle.load_run.proofs.Makeable.{can_of_fit}
 use Rattle.tcmu_top.proofs.Playing.{told_task, stopped_task, drained_task, drained_task_front}
 use Rattle.tcmu_top.proofs.lines.play_line.Goals as goal
 

@@ -10,7 +10,7 @@ use Rattle.text_model.specs.Text.{device_text}
 use Rattle.tcmu_types.proofs.Everies.{every-weaker}
 use Rattle.tcmu_top.specs.Playing.{states_of, WroteEach, WroteEachFront}
 use Rattle.tcmu_top.specs.InPart.{ReplaysEachInPart}
-use Rattle.tcmu_path.specs.Tasks.{IsFitFor}
+use Rattle.text_model.specs.ScenarioRules.{IsFitFor}
 use Rattle.tcmu_top.proofs.Sets.{states_count}
 use Rattle.tcmu_top.proofs.Telling.{on_err}
 use Rattle.text_laws.proofs.Replays.{opened_count}

@@ -4,7 +4,7 @@ use Rattle.std.proofs.lemmas.Result.{on_ok_weaker, on_err_weaker}
 use Rattle.tcmu_model.specs.Device.{Device}
 use Rattle.tcmu_types.specs.Lists.{Every}
 use Rattle.tcmu_types.proofs.Everies.{every-weaker}
-use Rattle.tcmu_path.specs.Tasks.{IsFitFor}
+use Rattle.text_model.specs.ScenarioRules.{IsFitFor}
 use Rattle.tcmu_top.specs.Playing.{states_of}
 use Rattle.tcmu_top.proofs.Each.{sofar_then, sofar_then_front}
 use Rattle.tcmu_top.proofs.Going.{drains_each, replays_each, PlaysLine, every_turned, count_kept, played_more, played_stopped}

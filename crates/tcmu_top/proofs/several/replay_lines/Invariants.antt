@@ -2,7 +2,7 @@ use Rattle.std.proofs.Common.{◌≡◌, ◌+◌, ◌<◌, ◌^◌, length, drop
 use Rattle.tcmu_types.specs.Lists.{Every}
 use Rattle.device_set.specs.Sets.{names}
 use Rattle.tcmu_top.specs.Playing.{states_of}
-use Rattle.tcmu_path.specs.Tasks.{IsFitFor}
+use Rattle.text_model.specs.ScenarioRules.{IsFitFor}
 use Rattle.tcmu_top.proofs.Each.{SoFar}
 use Rattle.tcmu_top.proofs.Going.{replays_each}
 use Rattle.tcmu_top.proofs.several.replay_lines.Given as goal
