@@ -18,6 +18,7 @@ use Rattle.tcmu_types.specs.ByteFields.{le, put}
 use Rattle.region_model.specs.Regions.{RegionState}
 use Rattle.region_model.specs.Pending.{PendingData}
 use Rattle.tcmu_model.proofs.DrainEnds.{clean_logs}
+use Rattle.tcmu_model.proofs.ResetMade.{reset_made, by_reset}
 use Rattle.tcmu_types.proofs.Everies.{map_filter}
 use Rattle.tcmu_model.proofs.SoundEvents.{sound_after_reset}
 use Rattle.tcmu_types.proofs.ByteFields.{length-le, length-put}
@@ -38,60 +39,6 @@ use Rattle.ring_laws.proofs.CleanedRecords.{target_cleaned_keeps}
 use Rattle.ring_laws.proofs.AttachedUser.{attached_same, reattached_same}
 use Rattle.ring_laws.proofs.RestartedAnswer.{jobs_counted}
 use Rattle.tcmu_model.proofs.ListsKept.{lists_emptied, none_kept}
-
--- ==== the device
-
--- what the answer says
-record Resets (d : DeviceState) (level n : ℕ) : Type 0 where
-  blocked : d.blocked ≡ true
-  none : count_in_hand d ≡ 0
-  number : n ≡ clean_answer d + length (reset_completions (after_clean d) level)
-  after : after_reset d level ≡ emptied (after_clean d) level
-
-said : (b : Bool) (c m n : ℕ) → cond b (cond (eqb c 0) (reset.Reset m) (reset.HandlersOut c)) reset.NotBlocked ≡ reset.Reset n → (b ≡ true) × (c ≡ 0) × (n ≡ m)
-said true c m n h =
-    ⊎_elim
-    (λ (k : eqb c 0 ≡ true). let e : reset.Reset m ≡ reset.Reset n = rw k at h in let q : n ≡ m = cc in (refl, eqb-true c 0 k, q))
-    (λ (k : eqb c 0 ≡ false). let e : reset.HandlersOut c ≡ reset.Reset n = rw k at h in absurd (cc))
-    (cases_Bool (eqb c 0))
-said false c m n h = absurd (cc)
-
-resets : (d : DeviceState) (level n : ℕ) → reset_answer d level ≡ reset.Reset n → Resets d level n
-unfolding reset_answer after_reset
-resets d level n h =
-    let s = said d.blocked (count_in_hand d) (clean_answer d + length (reset_completions (after_clean d) level)) n h in
-    let e : DeviceState = emptied (after_clean d) level in
-    record {
-      blocked = s.0;
-      none = s.1;
-      number = s.2;
-      after = ap (λ b. cond (b && eqb (count_in_hand d) 0) e d) s.0 ∙ ap (λ b. cond (true && b) e d) (eq-eqb (count_in_hand d) 0 s.1);
-    }
-
-refused : (b : Bool) (c m : ℕ) (x y : DeviceState) → (cond b (cond (eqb c 0) (reset.Reset m) (reset.HandlersOut c)) reset.NotBlocked ≡ reset.Reset m → ⊥) → cond (b && eqb c 0) x y ≡ y
-refused true c m x y h =
-    ⊎_elim
-    (λ (k : eqb c 0 ≡ true). absurd (h (rw k refl)))
-    (λ (k : eqb c 0 ≡ false). rw k refl)
-    (cases_Bool (eqb c 0))
-refused false c m x y h = refl
-
--- where it is not blocked, or jobs are in hand, nothing changes
-pub refused_reset : (d : DeviceState) (level : ℕ) → ((n : ℕ) → reset_answer d level ≡ reset.Reset n → ⊥) → after_reset d level ≡ d
-unfolding reset_answer after_reset
-refused_reset d level h =
-    let m : ℕ = clean_answer d + length (reset_completions (after_clean d) level) in
-    refused d.blocked (count_in_hand d) m (emptied (after_clean d) level) d (h m)
-
-pub not_blocked_same : (d : DeviceState) (level : ℕ) → reset_answer d level ≡ reset.NotBlocked → after_reset d level ≡ d
-not_blocked_same d level h = refused_reset d level (λ n k. let z : reset.NotBlocked ≡ reset.Reset n = sym h ∙ k in absurd (cc))
-
-pub handlers_out_same : (d : DeviceState) (level m : ℕ) → reset_answer d level ≡ reset.HandlersOut m → after_reset d level ≡ d
-handlers_out_same d level m h = refused_reset d level (λ n k. let z : reset.HandlersOut m ≡ reset.Reset n = sym h ∙ k in absurd (cc))
-
--- what holds behind a reset that is made holds of the device that is emptied
-pub by_reset : (P : DeviceState → Type 0) (d : DeviceState) (level n : ℕ) → reset_answer d level ≡ reset.Reset n → P (emptied (after_clean d) level) → P (after_reset d level)
-by_reset P d level n h p = let k = resets d level n h in subst P (sym k.after) p
 
 -- ==== the log
 
@@ -129,7 +76,7 @@ number_reset r t d lists level h =
 -- ==== the answers
 
 pub logged_reset : (r : RegionState) (t : TargetState) (d : DeviceState) (lists : List Taken) (level n : ℕ) → CanClean r t d lists → reset_answer d level ≡ reset.Reset n → target_reset_answer r t level ≡ n
-logged_reset r t d lists level n h a = let k = resets d level n a in number_reset r t d lists level h ∙ sym k.number
+logged_reset r t d lists level n h a = let k = reset_made d level n a in number_reset r t d lists level h ∙ sym k.number
 
 pub answer_reset : (r : RegionState) (t : TargetState) (user : UserState) (hand : List InHand) (d : DeviceState) (lists : List Taken) (level : ℕ) → CanClean r t d lists → JobsStand user hand t.rows d lists →
     reset_answered r t hand user level ≡ reset_answer d level
@@ -144,7 +91,7 @@ answer_reset r t user hand d lists level h jobs =
 
 no-jobs : (user : UserState) (hand : List InHand) (rows : List PendingRow) (d : DeviceState) (lists : List Taken) (level n : ℕ) → reset_answer d level ≡ reset.Reset n → JobsStand user hand rows d lists → user.jobs ≡ []
 no-jobs user hand rows d lists level n a h =
-    let k = resets d level n a in
+    let k = reset_made d level n a in
     let l : length (filter is_in_hand d.unfinished) ≡ count_by is_in_hand d.unfinished = length-filter is_in_hand d.unfinished in
     let e : filter is_in_hand d.unfinished ≡ [] = nil_from_length (filter is_in_hand d.unfinished) (l ∙ k.none) in
     none_given user.jobs (subst (AreGiven d.settings rows lists user.jobs) e h.given)
@@ -155,7 +102,7 @@ no-jobs user hand rows d lists level n a h =
 
 pub hand_reset : (user : UserState) (hand : List InHand) (rows : List PendingRow) (d : DeviceState) (lists : List Taken) (level n : ℕ) → reset_answer d level ≡ reset.Reset n → JobsStand user hand rows d lists → hand ≡ []
 hand_reset user hand rows d lists level n a h =
-    let k = resets d level n a in
+    let k = reset_made d level n a in
     let c : length hand + count_parked user.jobs ≡ count_in_hand d = jobs_counted user hand rows d lists h in
     let z : count_in_hand d ≡ 0 = k.none in
     nil_from_length hand (omega (arith, c, z))
@@ -284,7 +231,7 @@ opened d level sound =
 pub attached_reset : (r : RegionState) (t : TargetState) (d : DeviceState) (lists : List Taken) (level n : ℕ) → IsSound d → RingStands r.front t.items d lists → r.pages ≡ d.settings.pages → reset_answer d level ≡ reset.Reset n →
     user_attached (region_reset r) ≡ Ok (opening_user d.settings)
 attached_reset r t d lists level n sound h pages a =
-    let k = resets d level n a in
+    let k = reset_made d level n a in
     attached_same (region_reset r) (target_reset r t level).items (after_reset d level) [] (sound_after_reset d level sound) (ring_reset r t d lists level n sound h a) (pages_reset r d level n pages a)
     ∙ ap (λ e. Ok (attached_user e)) k.after ∙ ap Ok (opened d level sound)
 

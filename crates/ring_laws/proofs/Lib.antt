@@ -51,7 +51,6 @@ pub mod Responds
 pub mod RespondsWhole
 pub mod HandTells
 pub mod HandRises
-pub mod SentNone
 pub mod SameJobs
 pub mod LaidPoints
 pub mod Sized
@@ -80,7 +79,6 @@ pub mod RestartedAnswer
 pub mod AttachedUser
 pub mod AttachedOpening
 pub mod EmptiedKept
-pub mod LaidItems
 pub mod PendingRows
 pub mod CountedSerials
 pub mod AnyCalls

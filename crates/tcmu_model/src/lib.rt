@@ -4,6 +4,7 @@
 
 mod laws_drain;
 mod laws_journal;
+mod laws_laid;
 mod laws_lists;
 mod laws_log;
 mod laws_ring;
@@ -18,6 +19,7 @@ mod worked;
 
 pub use laws_drain::{drain_empties, drain_ends, drain_goes_on};
 pub use laws_journal::{asked_law, cause_law, journal_law};
+pub use laws_laid::laid_law;
 pub use laws_lists::{block_lists_alone, block_lists_law};
 pub use laws_log::{delayed_law, log_law, open_law};
 pub use laws_ring::{answers_law, publish_law, ring_law, room_law};

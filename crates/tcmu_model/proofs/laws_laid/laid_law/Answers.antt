@@ -1,5 +1,5 @@
-use Rattle.ring_laws.proofs.LaidItems.{laid_blocked, laid_cleaned, laid_delayed, laid_dispatched, laid_entered, laid_handled, laid_noted, laid_published, laid_queued, laid_reset, laid_responded, laid_restarted, laid_ticked}
-use Rattle.ring_laws.proofs.laid_items.laid_law.Goals as goal
+use Rattle.tcmu_model.proofs.LaidAfter.{laid_blocked, laid_cleaned, laid_delayed, laid_dispatched, laid_entered, laid_handled, laid_noted, laid_published, laid_queued, laid_reset, laid_responded, laid_restarted, laid_ticked}
+use Rattle.tcmu_model.proofs.laws_laid.laid_law.Goals as goal
 
 pub returns : goal.returns
 returns c = record {

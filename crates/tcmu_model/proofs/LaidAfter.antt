@@ -8,7 +8,7 @@ use Rattle.tcmu_types.specs.declared.answer.Tmr.TheVariants.{Noted}
 use Rattle.tcmu_model.specs.Device.{Delayed, DeviceState}
 use Rattle.tcmu_model.specs.Events.{after_block, after_clean, after_dispatch, after_enter, after_entering, after_handle, after_item, after_publish, after_reset, after_respond, after_restart, after_submit, after_tick, after_tmr, entry_length_in, is_handled, next_item, passed, placing, publishable, reset_answer, tmr_length_of, with_command, with_delayed, with_note}
 use Rattle.tcmu_model.specs.RingState.{Item, Cmd, Tmr, with_item}
-use Rattle.ring_laws.proofs.EmptiedKept.{by_reset}
+use Rattle.tcmu_model.proofs.ResetMade.{by_reset}
 
 pub laid_queued : (d : DeviceState) (c : CommandData) (s : ℕ) → (after_submit d c (submit.Queued s)).ring.laid ≡ (with_item d.ring (record { len = entry_length_in d c; laid = Cmd s c })).laid
 unfolding after_submit with_command
