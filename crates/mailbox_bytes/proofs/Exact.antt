@@ -3,6 +3,7 @@ use Rattle.std.proofs.Common.{◌≡◌, inl, inr, ⊎_elim, ℕ, ◌%◌, ◌�
 use Rattle.std.specs.Prelude.{IfOk}
 use Rattle.std.proofs.lemmas.Bool.{cases_lt}
 use Rattle.std.proofs.lemmas.Bool.Decides.{nat_tests}
+use Rattle.tcmu_types.proofs.Readings.{same_ok}
 use Rattle.tcmu_types.proofs.Guards.{guard_ok, differs, is_same, is_below, not_below, is_most, not_most}
 use Rattle.region_model.proofs.RingSizes.{is_ring_sized}
 use Rattle.region_model.specs.declared.mailbox.Mailbox.{Mailbox}
@@ -190,10 +191,7 @@ sound xs m h =
       head_inside = not_most _ _ g6.0;
       tail_inside = not_most _ _ g7.0;
     } in
-    subst (λ (w : Mailbox). IsMailbox w) (ok_is _ _ g7.1) whole
-  where
-    ok_is : (x y : Mailbox) → ◌≡◌ {A = Result Mailbox MailboxFault} (Ok x) (Ok y) → x ≡ y
-    ok_is x y h = cc
+    subst (λ (w : Mailbox). IsMailbox w) (same_ok _ _ g7.1) whole
 
 pub read_sound : (xs : List ℕ) (r : Result Mailbox MailboxFault) → mailbox_read xs ≡ r → IfOk r (λ m. IsMailbox m)
 read_sound xs (Ok m) h = sound xs m h

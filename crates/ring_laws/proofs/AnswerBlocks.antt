@@ -31,7 +31,7 @@ use Rattle.ring_laws.specs.Placed.{CanAnswer, CanPlace, CanFill, placed_in, answ
 use Rattle.tcmu_model.specs.Owned.{ListsSound}
 use Rattle.ring_laws.proofs.Layouts.{take-past}
 use Rattle.ring_laws.proofs.LaidBlocks.{stand-other}
-use Rattle.tcmu_model.proofs.FirstItems.{first-passes}
+use Rattle.tcmu_types.proofs.Firsts.{first-passes}
 use Rattle.ring_laws.proofs.AnswerData.{returned-other, returned-data, scattered-payload, length-scattered, sizes-scattered, length-gathered, iovs-numbers}
 use Rattle.ring_laws.proofs.PlacedAnswers.{Into, goes_into}
 use Rattle.tcmu_types.proofs.Rises.{among-append, among_every, every-among, differ_front}

@@ -18,7 +18,7 @@ use Rattle.region_model.specs.TargetSteps.{closed, checked}
 use Rattle.region_model.specs.TargetCleans.{length_told, payload_read, sense_read, completion_read, completions_read, answered_by, response_in, one_cleaned, target_cleaned}
 use Rattle.tcmu_types.proofs.Everies.{every-append, every-weaker}
 use Rattle.ring_laws.specs.Calls.{TargetSound, CompletesOwn, CompletedBy, CleanLogs}
-use Rattle.tcmu_model.proofs.FirstItems.{first-passes}
+use Rattle.tcmu_types.proofs.Firsts.{first-passes}
 use Rattle.ring_laws.proofs.CountedSerials.{read_serial}
 use Rattle.ring_laws.proofs.AnyCalls.{sound_one, clean_keeps}
 

@@ -4,6 +4,7 @@ use Rattle.std.specs.List.{sum_by}
 use Rattle.std.proofs.Math.Nat.{mod-add-mod, mod-eq_of_lt, mod-lt}
 use Rattle.std.proofs.lemmas.Bool.{eqb-true, false≢true}
 use Rattle.std.proofs.lemmas.List.Sums.{sum_by-cons}
+use Rattle.tcmu_types.proofs.Readings.{same_some}
 use Rattle.tcmu_types.specs.Data.{SettingsData}
 use Rattle.tcmu_types.specs.declared.dump.ItemKind.{ItemKind}
 use Rattle.tcmu_types.specs.declared.dump.ItemKind.TheVariants as kind
@@ -170,12 +171,10 @@ all_stop r tail t (x ∷ xs) id e n =
     Stops : TargetState → Type 0
     Stops z = z.broken ≡ Some id → StopsAt r id z
 
-    same : (a b : ℕ) → Some a ≡ Some b → a ≡ b
-    same a b q = cc
 
     stands : Stopped r t next x.kind → Stops (record t { broken = Some (response_in r t).id })
     stands s h =
-        let q : (response_in r t).id ≡ id = same (response_in r t).id id h in
+        let q : (response_in r t).id ≡ id = same_some (response_in r t).id id h in
         record {
           kept = h;
           none = subst (λ i. first_of (has_id i) t.rows ≡ None) q s.none;

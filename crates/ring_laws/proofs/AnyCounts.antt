@@ -5,6 +5,7 @@ use Rattle.std.specs.Option.{is_some}
 use Rattle.std.proofs.Math.Nat.{mod-add-mod, mod-eq_of_lt}
 use Rattle.std.proofs.lemmas.Bool.{cases_Bool, and_parts, eqb-false, false≢true}
 use Rattle.std.proofs.lemmas.List.Sums.{sum_by-cons, sum_by-append, sum_by-take-drop}
+use Rattle.tcmu_types.proofs.Readings.{same_ok}
 use Rattle.tcmu_types.specs.declared.dump.ItemKind.{ItemKind}
 use Rattle.tcmu_types.specs.declared.dump.ItemKind.TheVariants as kind
 use Rattle.region_model.specs.declared.mailbox.Mailbox.{Mailbox}
@@ -15,9 +16,8 @@ use Rattle.region_model.specs.Sides.{GivenJob, Parked, Recorded, UserState}
 use Rattle.region_model.specs.UserSteps.{Placing, is_cmd, is_open_job, is_unanswered, movable, moving, moving_items, placed_at, placed_front, placed_one, placing_by, user_abandoned, user_attached, user_mailbox, user_of, user_published, user_responded, attached_to, with_jobs, with_parked}
 use Rattle.region_model.specs.UserNext.{with_passed, with_job, nexted}
 use Rattle.tcmu_types.proofs.Counts.{sum-with_first_less, sum-without_first}
-use Rattle.tcmu_types.proofs.Firsts.{length-with_first}
+use Rattle.tcmu_types.proofs.Firsts.{length-with_first, first-passes}
 use Rattle.ring_laws.specs.UserKept.{UserCounts, UsesEntries}
-use Rattle.tcmu_model.proofs.FirstItems.{first-passes}
 use Rattle.ring_laws.proofs.HandTells.{some_first}
 use Rattle.ring_laws.proofs.AnyAttached.{attached_sound}
 use Rattle.ring_laws.proofs.AnyUsers.{next_user}
@@ -70,8 +70,6 @@ attach_counts r u h = go (user_mailbox r) h
     below : u.tail < u.ring
     below = (attached_sound r u h).0.tail.below
 
-    same : (x y : UserState) → ◌≡◌ {A = Result UserState MailboxFault} (Ok x) (Ok y) → x ≡ y
-    same x y q = cc
 
     opened : (m : Mailbox) → m.tail < m.cmdr_size → UserCounts (user_of r.pages m)
     opened m l =
@@ -81,7 +79,7 @@ attach_counts r u h = go (user_mailbox r) h
     go : (o : Result Mailbox MailboxFault) → attached_to r.pages o ≡ Ok u → UserCounts u
     go (Err fault) q = absurd (cc)
     go (Ok m) q =
-        let e : user_of r.pages m ≡ u = same (user_of r.pages m) u q in
+        let e : user_of r.pages m ≡ u = same_ok (user_of r.pages m) u q in
         subst UserCounts e (opened m (subst (λ (v : UserState). v.tail < v.ring) (sym e) below))
 
 pub abandon_counts : (u : UserState) → UserCounts u → UserCounts (user_abandoned u)

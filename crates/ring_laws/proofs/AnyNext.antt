@@ -7,6 +7,7 @@ use Rattle.std.proofs.lemmas.Bool.{cases_Bool, cases_lt, eqb-true, eqb-false, lt
 use Rattle.std.proofs.lemmas.List.{length-set}
 use Rattle.std.proofs.lemmas.Option.{slice_get-get_or}
 use Rattle.byteorder.specs.Endian.{little_number}
+use Rattle.tcmu_types.proofs.Readings.{same_some}
 use Rattle.tcmu_types.specs.declared.dump.ItemKind.{ItemKind}
 use Rattle.tcmu_types.specs.declared.dump.ItemKind.TheVariants as kind
 use Rattle.tcmu_types.specs.declared.iovec.Iov.{Iov}
@@ -119,8 +120,6 @@ bits_more xs ys zs k f g i =
     eighth : (i : ℕ) → ring_start + 7 ≤ i → i % 8 ≡ 7 → (i - 7) % 8 ≡ 0
     eighth i a b = omega (arith, a, b)
 
-    same_some : (a b : ℕ) → Some a ≡ Some b → a ≡ b
-    same_some a b h = cc
 
     twice : (a b : ℕ) → a % 2 ≡ 0 → b % 2 ≡ 0 → a + 1 ≡ b → ⊥
     twice a b h k e = omega (arith, h, k, e)

@@ -3,6 +3,7 @@ use Rattle.std.proofs.Common.{◌≡◌, ℕ, ◌+◌, ◌*◌, ◌%◌, ◌<◌
 use Rattle.std.specs.Prelude.{unwrap_or}
 use Rattle.std.proofs.Math.Nat.{mod-lt}
 use Rattle.std.proofs.lemmas.Bool.{and_parts, false≢true}
+use Rattle.tcmu_types.proofs.Readings.{same_ok}
 use Rattle.tcmu_types.specs.declared.dump.ItemKind.TheVariants as kind
 use Rattle.tcmu_types.specs.declared.iovec.Iov.{Iov}
 use Rattle.region_model.specs.declared.mailbox.Mailbox.{Mailbox}
@@ -177,12 +178,9 @@ pub attach_jobs : (r : RegionState) (u : UserState) → user_attached r ≡ Ok u
 unfolding user_attached
 attach_jobs r u h = go (user_mailbox r) h
   where
-    same : (x y : UserState) → ◌≡◌ {A = Result UserState MailboxFault} (Ok x) (Ok y) → x ≡ y
-    same x y q = cc
-
     go : (o : Result Mailbox MailboxFault) → attached_to r.pages o ≡ Ok u → AreWholeJobs u
     go (Err fault) q = absurd (cc)
-    go (Ok m) q = subst AreWholeJobs (same (user_of r.pages m) u q) tt
+    go (Ok m) q = subst AreWholeJobs (same_ok (user_of r.pages m) u q) tt
 
 -- ==== a respond
 

@@ -19,7 +19,7 @@ use Rattle.region_model.specs.Regions.{RegionState}
 use Rattle.region_model.specs.Sides.{Recorded, PendingRow, TargetState, UserState}
 use Rattle.region_model.specs.Represents.{RingStands, IdsStand, NotesStand, BlocksOf, BlocksStand, TargetKeeps, UserKeeps, pending_of}
 use Rattle.region_model.specs.Picture.{with_answer}
-use Rattle.tcmu_model.proofs.FirstItems.{first-passes}
+use Rattle.tcmu_types.proofs.Firsts.{first-passes}
 use Rattle.ring_laws.proofs.Ticked.{ring_by, ids_by}
 use Rattle.ring_laws.proofs.CleanedAll.{not_there}
 

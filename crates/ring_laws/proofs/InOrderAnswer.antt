@@ -29,7 +29,8 @@ use Rattle.ring_laws.proofs.InOrderKept.{Begun, begins}
 use Rattle.ring_laws.proofs.Numbered.{can_answer}
 use Rattle.ring_laws.proofs.OrderedRows.{HandFirst, InOrder, not_handled, rise_back}
 use Rattle.ring_laws.proofs.PlacedRun.{first-past, found_next, goes, in_hand_behind, none-with, order_placed, ran, ran_laid, stops}
-use Rattle.ring_laws.proofs.RespondedJobs.{one_serial, some_same}
+use Rattle.ring_laws.proofs.RespondedJobs.{one_serial}
+use Rattle.tcmu_types.proofs.Readings.{same_some}
 use Rattle.ring_laws.proofs.RespondedKept.{found-state}
 use Rattle.ring_laws.proofs.TakenOut.{none_at}
 use Rattle.ring_laws.proofs.Matched.{matched, unmatched}
@@ -158,7 +159,7 @@ first_answers st rows lists s id (g ∷ gs) low (v ∷ us) high w di i r hf f h 
     mine k own q =
         let a : is_unanswered g ≡ true = ap (λ o. not (is_some o)) q in
         let y : v.serial ≡ s = serial_at s Handled v k in
-        let t : eqb g.id id ≡ true = eq-eqb g.id id (some_same g.id id (sym own ∙ ap (id_of rows) y ∙ i)) in
+        let t : eqb g.id id ≡ true = eq-eqb g.id id (same_some g.id id (sym own ∙ ap (id_of rows) y ∙ i)) in
         let z : has_serial s v ≡ true = eq-eqb v.serial s y in
         rw (k, a, t, z) refl
 

@@ -28,7 +28,7 @@ use Rattle.tcmu_model.proofs.FreeBlocks.{length-least_free, least-are, IsFree, l
 use Rattle.ring_laws.proofs.Scatter.{grown, scattered-other, scattered-data, along-same, grown-old}
 use Rattle.ring_laws.proofs.LaidEntry.{laid_in}
 use Rattle.tcmu_model.proofs.ListsLaid.{unlisted, cmd_item, with_waiting, rows_below, lists_below, held_length}
-use Rattle.tcmu_model.proofs.FirstItems.{first-append, first-here}
+use Rattle.tcmu_types.proofs.Firsts.{first-append, first-here}
 use Rattle.ring_laws.proofs.LaidIds.{every-push}
 use Rattle.tcmu_types.proofs.Everies.{every-weaker}
 use Rattle.tcmu_types.proofs.Rises.{among-append, among_every, every-among}

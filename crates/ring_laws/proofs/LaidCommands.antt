@@ -22,7 +22,7 @@ use Rattle.region_model.specs.TargetSteps.{block_data, blocks_given, region_laid
 use Rattle.tcmu_model.specs.Owned.{HasRoom, ListsSound}
 use Rattle.ring_laws.proofs.LaidRing.{laid_command}
 use Rattle.tcmu_model.proofs.ListsLaid.{not_below, cmd_item, with_waiting, lists_below, rows_below}
-use Rattle.tcmu_model.proofs.FirstItems.{first-append, first-here}
+use Rattle.tcmu_types.proofs.Firsts.{first-append, first-here}
 use Rattle.ring_laws.proofs.LaidIds.{entries_laid}
 use Rattle.ring_laws.proofs.LaidPoints.{jobs_laid, notes_laid, side_laid}
 use Rattle.ring_laws.proofs.SameJobs.{HasSame}

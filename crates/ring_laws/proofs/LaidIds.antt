@@ -35,7 +35,7 @@ use Rattle.ring_laws.proofs.LaidPoints.{SameEntries}
 use Rattle.ring_laws.proofs.Agree.{blocks-same}
 use Rattle.ring_laws.proofs.LaidRing.{commands-append, LaidCommand, laid_command, within_ring}
 use Rattle.tcmu_model.proofs.ListsLaid.{not_below, unlisted, cmd_item, with_waiting, rows_below, lists_below}
-use Rattle.tcmu_model.proofs.FirstItems.{first-append, first-here}
+use Rattle.tcmu_types.proofs.Firsts.{first-append, first-here}
 use Rattle.tcmu_model.proofs.SoundLaying.{entry_least}
 
 -- ==== what is below the new serial

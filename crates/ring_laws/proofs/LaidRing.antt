@@ -36,7 +36,7 @@ use Rattle.ring_laws.proofs.RingLaid.{SameItems, ring-laid}
 use Rattle.ring_laws.proofs.Agree.{Agrees, agrees, blocks-same}
 use Rattle.region_model.proofs.PartLengths.{length-iovs, length-request}
 use Rattle.tcmu_model.proofs.ListsLaid.{not_below, unlisted, cmd_item, with_waiting}
-use Rattle.tcmu_model.proofs.FirstItems.{first-append, first-here}
+use Rattle.tcmu_types.proofs.Firsts.{first-append, first-here}
 
 -- ==== what is laid
 

@@ -11,7 +11,7 @@ use Rattle.region_model.specs.Pending.{PendingData}
 use Rattle.region_model.specs.Sides.{PendingRow}
 use Rattle.region_model.specs.Represents.{AreNoteIds, IsLeftOver, IsNoteId, NoteStands, has_id, id_of, pending_of, row_has, serial_with}
 use Rattle.ring_laws.proofs.Found.{found_by}
-use Rattle.tcmu_model.proofs.FirstItems.{first-passes}
+use Rattle.tcmu_types.proofs.Firsts.{first-passes}
 
 -- ==== a serial and its id
 

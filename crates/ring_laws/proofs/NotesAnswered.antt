@@ -29,7 +29,7 @@ use Rattle.ring_laws.specs.Dispatched.{CanDispatch}
 use Rattle.ring_laws.proofs.AnswerBlocks.{differ-split}
 use Rattle.ring_laws.proofs.Nexts.{ids_at}
 use Rattle.ring_laws.proofs.NoteIds.{serial_under}
-use Rattle.ring_laws.proofs.RespondedJobs.{some_same}
+use Rattle.tcmu_types.proofs.Readings.{same_some}
 use Rattle.ring_laws.proofs.Matched.{unmatched}
 use Rattle.tcmu_types.proofs.Rises.{rise_differ}
 
@@ -183,7 +183,7 @@ agree d rows lists gs i s id sound l differ given note =
           ⊎_elim
           (λ (k : is_running d.unfinished s ≡ true).
           let j : JobOpen rows gs s = open_running d.settings rows lists s gs d.unfinished given k in
-          let q : j.id ≡ id = some_same j.id id (sym j.named ∙ mine k) in
+          let q : j.id ≡ id = same_some j.id id (sym j.named ∙ mine k) in
           absurd (false≢true (sym o ∙ ap (λ y. list_any (is_open_job y) gs) (sym q) ∙ j.there)))
           (λ (k : is_running d.unfinished s ≡ false). o ∙ sym k)
           (cases_Bool (is_running d.unfinished s)))
@@ -212,13 +212,13 @@ agree d rows lists gs i s id sound l differ given note =
         let apart : Differ (D' ++ serials_in (drop i d.ring.laid)) = subst Differ (sym (serials_split i d.ring.laid)) (rise_differ 0 (serials_in d.ring.laid) d.accepted (laid_rise d sound.serials)) in
         ⊎_elim
         (λ (m : id_of rows s ≡ Some id).
-        let q : s ≡ u.serial = some_same s u.serial (sym (serial_under rows s id differ m) ∙ under) in
+        let q : s ≡ u.serial = same_some s u.serial (sym (serial_under rows s id differ m) ∙ under) in
         ap (is_running d.unfinished) q ∙ k)
         (λ (n : (id_of rows s ≡ None) × IsLeftOver rows (serials_in (drop i d.ring.laid)) id).
         ⊎_elim
         (λ (z : serial_with rows id ≡ None). let w : None ≡ Some u.serial = sym z ∙ under in absurd (cc))
         (λ (m : (t : ℕ) × (serial_with rows id ≡ Some t) × (is_among (serials_in (drop i d.ring.laid)) t ≡ true)).
-        let q : m.0 ≡ u.serial = some_same m.0 u.serial (sym m.1 ∙ under) in
+        let q : m.0 ≡ u.serial = same_some m.0 u.serial (sym m.1 ∙ under) in
         let b : is_among (serials_in (drop i d.ring.laid)) u.serial ≡ true = ap (is_among (serials_in (drop i d.ring.laid))) (sym q) ∙ m.2 in
         absurd (false≢true (sym (differ-split D' (serials_in (drop i d.ring.laid)) u.serial apart b) ∙ first)))
         n.1)

@@ -2,6 +2,7 @@
 use Rattle.std.proofs.Common.{◌≡◌, ◌≢◌, ℕ, ◌+◌, ◌-◌, ◌*◌, ◌%◌, ◌<◌, ◌≤◌, Bool, true, false, not, cond, eqb, ltb, leb, ◌==◌, List, length, zero, suc, Option, Some, None, Result, Ok, Err, refl, ap, ◌∙◌, arith, subst, ⊎_elim}
 use Rattle.std.specs.List.{list_all}
 use Rattle.std.proofs.lemmas.Bool.{cases_Bool, eqb-true, eqb-false}
+use Rattle.tcmu_types.proofs.Readings.{same_ok}
 use Rattle.region_model.proofs.EntriesThere.{least_eight}
 use Rattle.region_model.specs.declared.mailbox.Mailbox.{Mailbox}
 use Rattle.region_model.specs.declared.mailbox.MailboxFault.{MailboxFault}
@@ -46,10 +47,7 @@ bounded_read xs m h =
       tail_below = not_most _ _ g7.0;
       tail_aligned = is_same _ _ g5.0;
     } in
-    subst Bounded (ok_is _ _ g7.1) whole
-  where
-    ok_is : (x y : Mailbox) → ◌≡◌ {A = Result Mailbox MailboxFault} (Ok x) (Ok y) → x ≡ y
-    ok_is x y h = cc
+    subst Bounded (same_ok _ _ g7.1) whole
 
 -- the mailbox that the user side reads: its ring size is that of the region
 pub record ReadFrom (r : RegionState) (m : Mailbox) : Type 0 where
@@ -60,11 +58,8 @@ pub read_from : (r : RegionState) (m : Mailbox) → user_mailbox r ≡ Ok m → 
 unfolding user_mailbox
 read_from r m h = go (mailbox_read r.front) refl h
   where
-    same : (x y : Mailbox) → ◌≡◌ {A = Result Mailbox MailboxFault} (Ok x) (Ok y) → x ≡ y
-    same x y q = cc
-
     sized : (x : Mailbox) (b : Bool) → (x.cmdr_size == ring_size r) ≡ b → cond b (Ok x) (Err (mailbox.Size x.cmdr_size)) ≡ Ok m → (x ≡ m) × (x.cmdr_size ≡ ring_size r)
-    sized x true e q = (same x m q, eqb-true x.cmdr_size (ring_size r) e)
+    sized x true e q = (same_ok x m q, eqb-true x.cmdr_size (ring_size r) e)
     sized x false e q = absurd (cc)
 
     go : (o : Result Mailbox MailboxFault) → mailbox_read r.front ≡ o → of_size (ring_size r) o ≡ Ok m → ReadFrom r m
@@ -157,20 +152,14 @@ of_tmr : (front : List ℕ) (area start b op len : ℕ) (e : EntryRef) → tmr_r
 unfolding tmr_read
 of_tmr front area start b op len e h =
     let g0 = guard_ok (ltb len (32 + 2 * id_cnt_at front b)) (fault.BadCount (id_cnt_at front b)) _ _ h in
-    let s : entry.Tmr len (kind_at front b) (id_cnt_at front b) ≡ e = is_it (entry.Tmr len (kind_at front b) (id_cnt_at front b)) e g0.1 in
+    let s : entry.Tmr len (kind_at front b) (id_cnt_at front b) ≡ e = same_ok (entry.Tmr len (kind_at front b) (id_cnt_at front b)) e g0.1 in
     let k : OfKind front area start b op len (entry.Tmr len (kind_at front b) (id_cnt_at front b)) = record { same = refl; least = least_eight op; unknown = λ z. tt; inside = tt } in
     subst (λ (y : EntryRef). OfKind front area start b op len y) s k
-  where
-    is_it : (x y : EntryRef) → ◌≡◌ {A = Result EntryRef EntryFault} (Ok x) (Ok y) → x ≡ y
-    is_it x y q = cc
 
 of_kind : (front : List ℕ) (area start b op len : ℕ) (e : EntryRef) → kind_read front area start b op len ≡ Ok e → OfKind front area start b op len e
 unfolding kind_read
 of_kind front area start b op len e h = by_pad (op == 0) refl h
   where
-    is_it : (x y : EntryRef) → ◌≡◌ {A = Result EntryRef EntryFault} (Ok x) (Ok y) → x ≡ y
-    is_it x y q = cc
-
     by_other : (t : Bool) → (op == 0) ≡ false → (op == 1) ≡ false → (op == 2) ≡ t → cond t (tmr_read front b len) (Ok (entry.Unknown op len)) ≡ Ok e → OfKind front area start b op len e
     by_other true x y z q = of_tmr front area start b op len e q
     by_other false x y z q =
@@ -178,7 +167,7 @@ of_kind front area start b op len e h = by_pad (op == 0) refl h
         let c : op ≢ 1 = eqb-false op 1 y in
         let d : op ≢ 2 = eqb-false op 2 z in
         let k : OfKind front area start b op len (entry.Unknown op len) = record { same = refl; least = least_eight op; unknown = λ w. omega (arith, a, c, d, w); inside = tt } in
-        subst (λ (v : EntryRef). OfKind front area start b op len v) (is_it (entry.Unknown op len) e q) k
+        subst (λ (v : EntryRef). OfKind front area start b op len v) (same_ok (entry.Unknown op len) e q) k
 
     by_command : (t : Bool) → (op == 0) ≡ false → (op == 1) ≡ t → cond t (command_read front area start b len) (cond (op == 2) (tmr_read front b len) (Ok (entry.Unknown op len))) ≡ Ok e → OfKind front area start b op len e
     by_command true x y q = of_command front area start b op len e (command_least op y) q
@@ -187,7 +176,7 @@ of_kind front area start b op len e h = by_pad (op == 0) refl h
     by_pad : (t : Bool) → (op == 0) ≡ t → cond t (Ok (entry.Pad len)) (cond (op == 1) (command_read front area start b len) (cond (op == 2) (tmr_read front b len) (Ok (entry.Unknown op len)))) ≡ Ok e → OfKind front area start b op len e
     by_pad true x q =
         let k : OfKind front area start b op len (entry.Pad len) = record { same = refl; least = least_eight op; unknown = λ w. tt; inside = tt } in
-        subst (λ (v : EntryRef). OfKind front area start b op len v) (is_it (entry.Pad len) e q) k
+        subst (λ (v : EntryRef). OfKind front area start b op len v) (same_ok (entry.Pad len) e q) k
     by_pad false x q = by_command (op == 1) x refl q
 
 pub within_read : (front : List ℕ) (area : ℕ) (m : Mailbox) (at : ℕ) (e : EntryRef) → entry_read front area m at ≡ Ok e → Within front m at e

@@ -3,6 +3,7 @@ use Rattle.std.proofs.Common.{◌≡◌, ◌≢◌, ℕ, ◌&&◌, true, false, 
 use Rattle.std.specs.Option.{is_some, option_map}
 use Rattle.std.proofs.lemmas.Bool.{cases_Bool, eqb-true, ne_eqb, eq-eqb, true≢false, and_parts}
 use Rattle.std.specs.List.{list_any}
+use Rattle.tcmu_types.proofs.Readings.{same_some}
 use Rattle.tcmu_types.specs.Data.{SettingsData}
 use Rattle.tcmu_types.specs.declared.settings.Flags.{Flags}
 use Rattle.tcmu_types.specs.declared.answer.Respond.TheVariants as respond
@@ -82,14 +83,11 @@ one_serial (e ∷ rows) a b id d h g =
 abbrev answered_rows : ℕ → List Unfinished → List Unfinished
 answered_rows s us = turned s Parked Placed (turned s Handled Parked us)
 
-pub some_same : (a b : ℕ) → Some a ≡ Some b → a ≡ b
-some_same a b h = cc
-
 pub opens : (s : SettingsData) (rows : List PendingRow) (lists : List Taken) (g : GivenJob) (v : Unfinished) (id : ℕ) → v.state ≡ Handled → id_of rows v.serial ≡ Some id → IsGiven s rows lists g v → is_open_job id g ≡ true
 opens s rows lists g v id st i h =
     let n : has_state state.Parked v ≡ false = rw st refl in
     let q : g.parked ≡ None = unmatched (has_state state.Parked v) _ _ n h.1 in
-    let e : eqb g.id id ≡ true = eq-eqb g.id id (some_same g.id id (sym h.0 ∙ i)) in
+    let e : eqb g.id id ≡ true = eq-eqb g.id id (same_some g.id id (sym h.0 ∙ i)) in
     ap (λ b. b && not (is_some g.parked)) e ∙ ap (λ o. not (is_some o)) q
 
 given_left : (st : SettingsData) (rows : List PendingRow) (lists : List Taken) (s id : ℕ) (gs : List GivenJob) (us : List Unfinished) (w : Unfinished) →

@@ -22,7 +22,7 @@ use Rattle.tcmu_model.specs.Sound.{IsSound, dispatched_serials, finished, is_rig
 use Rattle.tcmu_model.specs.States.{same_state}
 use Rattle.tcmu_model.proofs.Basics.{cleared_published, commands_serials, laid_rise, rows_rise, serials_split}
 use Rattle.tcmu_model.proofs.Fronts.{commands_more}
-use Rattle.tcmu_model.proofs.Facts.{count_rows, placed_dispatched}
+use Rattle.tcmu_model.proofs.Facts.{count_rows, placed_dispatched, waits_or}
 use Rattle.tcmu_model.proofs.Standing.{any_among, placed_there}
 use Rattle.region_model.specs.Pending.{PendingData}
 use Rattle.region_model.specs.Represents.{AreOut, JobsStand, RingStands, TargetKeeps, UserKeeps, is_out, pending_of}
@@ -70,20 +70,6 @@ count_same st rows lists t f (x ∷ hs) (u ∷ us) e h =
     (cases_Bool (is_out u))
 
 -- ==== one command, by its state
-
-waits : (a b c p : Bool) (t : CommandState) (r : Bool) → state_fits a b c p t r ≡ true → same_state t Waiting ≡ not a
-waits true b c p Waiting r h = absurd (false≢true h)
-waits false b c p Waiting r h = refl
-waits true b c p Out r h = refl
-waits false b c p Out r h = absurd (false≢true h)
-waits true b c p Handled r h = refl
-waits false b c p Handled r h = absurd (false≢true h)
-waits true b c p Parked r h = refl
-waits false b c p Parked r h = absurd (false≢true h)
-waits true b c p Placed r h = refl
-waits false b c p Placed r h = absurd (false≢true h)
-waits true b c p Lost r h = refl
-waits false b c p Lost r h = absurd (false≢true h)
 
 -- on an attached device the answered ones are placed
 placed_attached : (a b c : Bool) (t : CommandState) (r : Bool) → (b ≡ true → a ≡ true) → state_fits a b c true t r ≡ true → same_state t Placed ≡ b
@@ -240,7 +226,7 @@ waiting_count d sound =
     let differ : Differ (D ++ W) = subst Differ (sym whole) (rise_differ 0 L d.accepted (laid_rise d sound.serials)) in
     let rows : Every (λ (u : Unfinished). has_state Waiting u ≡ is_among W u.serial) us =
     every-weaker (λ (u : Unfinished). (is_right d u ≡ true) × (is_among L u.serial ≡ true)) (λ (u : Unfinished). has_state Waiting u ≡ is_among W u.serial) us
-    (λ u h. in_one D W L u.serial (has_state Waiting u) whole differ (waits (is_among D u.serial) (is_among d.placed u.serial) (is_among (answered d) u.serial) d.attached u.state (is_some u.reply) h.0) h.1)
+    (λ u h. in_one D W L u.serial (has_state Waiting u) whole differ (waits_or (is_among D u.serial) (is_among d.placed u.serial) (is_among (answered d) u.serial) d.attached u.state (is_some u.reply) h.0) h.1)
     (every-both (λ (u : Unfinished). is_right d u ≡ true) (λ (u : Unfinished). is_among L u.serial ≡ true) us sound.answers.states (laid_rows d sound)) in
     let there : Every (λ s. list_any (has_serial s) us ≡ true) W =
     every-weaker (λ s. is_among W s ≡ true) (λ s. list_any (has_serial s) us ≡ true) W (λ s h. unfinished_there d s sound (not_finished D F s (every-take (λ x. is_among D x ≡ true) (cleared_commands d.ring) d.placed sound.answers.dispatched) (differ-split D W s differ h)) (sym (ap (λ xs. is_among xs s) whole) ∙ among-append D W s ∙ or_right (is_among D s) (is_among W s) h)) (every-among W) in

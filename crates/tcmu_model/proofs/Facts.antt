@@ -86,7 +86,7 @@ bounded_rows d h =
 
 -- ==== the unfinished commands that wait are those that are not dispatched
 
-waits_or : (dispatched placed published attached : Bool) (t : CommandState) (r : Bool) → state_fits dispatched placed published attached t r ≡ true → same_state t Waiting ≡ not dispatched
+pub waits_or : (dispatched placed published attached : Bool) (t : CommandState) (r : Bool) → state_fits dispatched placed published attached t r ≡ true → same_state t Waiting ≡ not dispatched
 waits_or true b p q Waiting r h = absurd (false≢true h)
 waits_or false b p q Waiting r h = refl
 waits_or true b p q Out r h = refl

@@ -3,6 +3,7 @@ use Rattle.std.proofs.Common.{◌≡◌, ℕ, ◌+◌, ◌≤◌, ◌<◌, true,
 use Rattle.std.proofs.lemmas.Bool.{cases_Bool, eqb-true, ne_eqb, or_parts}
 use Rattle.tcmu_types.specs.Numbers.{is_among, Differ}
 use Rattle.tcmu_types.specs.Lists.{Every}
+use Rattle.tcmu_types.proofs.Rises.{differ-take}
 use Rattle.tcmu_model.specs.BlockLists.{free_from, least_free}
 use Rattle.tcmu_types.proofs.Everies.{every-take}
 
@@ -82,15 +83,5 @@ free-differ held n (suc k) =
     (λ (a : is_among held n ≡ false). rw a (above-none held (n + 1) (n + 1 + k) n (free_from held (n + 1) k) (omega arith) (free-are held (n + 1) k), free-differ held (n + 1) k))
     (cases_Bool (is_among held n))
 
-among-take : (xs : List ℕ) (n b : ℕ) → is_among xs b ≡ false → is_among (take n xs) b ≡ false
-among-take xs zero b h = refl
-among-take [] (suc n) b h = refl
-among-take (x ∷ xs) (suc n) b h = let p = or_parts (eqb x b) (is_among xs b) h in rw p.0 (among-take xs n b p.1)
-
-differ-take : (xs : List ℕ) (n : ℕ) → Differ xs → Differ (take n xs)
-differ-take xs zero d = tt
-differ-take [] (suc n) d = tt
-differ-take (x ∷ xs) (suc n) d = (among-take xs n x d.0, differ-take xs n d.1)
-
 pub least-differ : (limit : ℕ) (held : List ℕ) (n : ℕ) → Differ (least_free limit held n)
-least-differ limit held n = differ-take (free_from held 0 limit) n (free-differ held 0 limit)
+least-differ limit held n = differ-take n (free_from held 0 limit) (free-differ held 0 limit)

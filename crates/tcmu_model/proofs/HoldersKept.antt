@@ -14,7 +14,7 @@ use Rattle.tcmu_model.specs.Device.{Unfinished, DeviceState, is_at, has_state}
 use Rattle.tcmu_model.specs.Events.{with_delayed, after_submit, in_state, turned, after_item, after_dispatch, with_reply, after_handle, Placing, with_placed, run_placed, placed_by, placing, with_parked, after_respond, after_publish, later, is_due, expire, after_tick, after_block, answered, is_losing, lose, after_restart}
 use Rattle.tcmu_model.specs.BlockLists.{Taken}
 use Rattle.tcmu_model.specs.Owned.{ListsSound}
-use Rattle.tcmu_model.proofs.FirstItems.{map-with_first}
+use Rattle.tcmu_types.proofs.Firsts.{map-with_first}
 use Rattle.tcmu_model.proofs.Unnamed.{dispatch_kept, respond_kept, publish_kept}
 use Rattle.tcmu_model.proofs.ListsKept.{Called, called, Holders, holders, lists_same}
 

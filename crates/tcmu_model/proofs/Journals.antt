@@ -25,7 +25,7 @@ use Rattle.tcmu_model.specs.Steps.{HandlerRelation, Makes, Handles, Step, Run}
 use Rattle.tcmu_model.specs.Journals.{WasAccepted, HasReplied, moment, MadeAt, IsAnswered, Logs, cleaned, reset_cleaned, expired, left, reset, IsExplainedAt, IsExplained, deadline_from, IsKnown, IsWaiting, IsOfJournal, WasAsked}
 use Rattle.tcmu_model.proofs.CommandStates.{serial_at}
 use Rattle.tcmu_types.proofs.Everies.{every-weaker, every-map, every-both, every-append, every-filter, every-passes, every-first, every-with_first}
-use Rattle.tcmu_model.proofs.FirstItems.{first-passes}
+use Rattle.tcmu_types.proofs.Firsts.{first-passes}
 use Rattle.tcmu_model.proofs.KeptByEvents.{KeptByEvents, made}
 use Rattle.tcmu_model.proofs.Moments.{accepted_front, replied_more, split_more, made_last, has_made, delayed_more, laid_more, delayed_was, laid_was, settings_step, settings_run, clock_step}
 use Rattle.tcmu_model.proofs.Logged.{clean_known, Gains, step_gains, step_explains}

@@ -21,7 +21,7 @@ use Rattle.tcmu_model.specs.Sound.{IsSound}
 use Rattle.tcmu_model.proofs.Basics.{rows_among}
 use Rattle.tcmu_model.proofs.Laying.{serials-append}
 use Rattle.tcmu_model.proofs.LaidItems.{laid_with, LaidCase, laid_case, Old, Padding, New, serial_at}
-use Rattle.tcmu_model.proofs.FirstItems.{first-append, first-here}
+use Rattle.tcmu_types.proofs.Firsts.{first-append, first-here}
 use Rattle.tcmu_model.proofs.FreeBlocks.{IsFree, length-least_free, least-are, least-differ}
 use Rattle.tcmu_model.proofs.AnsweredRoom.{queued_room, above_accepted, room_answered, above_laid}
 

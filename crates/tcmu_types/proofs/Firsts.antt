@@ -1,5 +1,5 @@
 -- The first item that passes a test, by its place.
-use Rattle.std.proofs.Common.{◌≡◌, ℕ, ◌+◌, ◌≤◌, Bool, true, false, cond, List, [], ◌∷◌, length, get_or, Option, Some, None, refl, sym, ap, ◌∙◌, arith, suc, zero, ⊎_elim, not, ltb}
+use Rattle.std.proofs.Common.{◌≡◌, ℕ, ◌+◌, ◌≤◌, Bool, true, false, cond, List, [], ◌∷◌, ◌++◌, length, map, get_or, Option, Some, None, refl, sym, ap, ◌∙◌, arith, subst, suc, zero, ⊎_elim, not, ltb}
 use Rattle.std.proofs.Math.ListN.{set}
 use Rattle.std.specs.List.{position, position_or_len, prefix_len, remove, list_any}
 use Rattle.std.specs.Option.{MatchOption}
@@ -123,3 +123,38 @@ none_first p (y ∷ xs) h =
     (λ (e : p y ≡ true). let k : Some y ≡ None = rw e at h in absurd (cc))
     (λ (e : p y ≡ false). let k : first_of p xs ≡ None = rw e at h in rw e (none_first p xs k))
     (cases_Bool (p y))
+
+-- ---- by the item
+
+pub first-passes : {X : Type 0} (p : X → Bool) (xs : List X) (x : X) → first_of p xs ≡ Some x → p x ≡ true
+first-passes p [] x f = absurd (cc)
+first-passes p (y ∷ xs) x f =
+    ⊎_elim
+    (λ (k : p y ≡ true). let g : Some y ≡ Some x = rw k at f in let q : y ≡ x = cc in subst (λ z. p z ≡ true) q k)
+    (λ (k : p y ≡ false). let g : first_of p xs ≡ Some x = rw k at f in first-passes p xs x g)
+    (cases_Bool (p y))
+
+pub first-append : {X : Type 0} (p : X → Bool) (xs : List X) (y : X) → p y ≡ false → first_of p (xs ++ y ∷ []) ≡ first_of p xs
+first-append p [] y h = rw h refl
+first-append p (x ∷ xs) y h =
+    ⊎_elim
+    (λ (e : p x ≡ true). rw e refl)
+    (λ (e : p x ≡ false). rw e (first-append p xs y h))
+    (cases_Bool (p x))
+
+pub first-here : {X : Type 0} (p : X → Bool) (xs : List X) (y : X) → p y ≡ true → first_of p xs ≡ None → first_of p (xs ++ y ∷ []) ≡ Some y
+first-here p [] y h n = rw h refl
+first-here p (x ∷ xs) y h n =
+    ⊎_elim
+    (λ (e : p x ≡ true). let k : Some x ≡ None = rw e at n in absurd (cc))
+    (λ (e : p x ≡ false). let k : first_of p xs ≡ None = rw e at n in rw e (first-here p xs y h k))
+    (cases_Bool (p x))
+
+-- the first that passes is changed, and keeps what the change keeps
+pub map-with_first : {X Y : Type 0} (p : X → Bool) (f : X → X) (g : X → Y) (xs : List X) → ((x : X) → g (f x) ≡ g x) → map g (with_first p f xs) ≡ map g xs
+map-with_first p f g [] h = refl
+map-with_first p f g (x ∷ xs) h =
+    ⊎_elim
+    (λ (e : p x ≡ true). rw (e, h x) refl)
+    (λ (e : p x ≡ false). rw e (ap (λ ys. g x ∷ ys) (map-with_first p f g xs h)))
+    (cases_Bool (p x))
