@@ -86,23 +86,23 @@ pub fn numbers_of<P: Path>(path: &P, sizes: &[Option<u32>]) -> Numbers
 }
 
 /// Appends a word and a number.
-fn push_number(alloc: Global, text: &mut Vec<u8>, word: &[u8], n: u128) -> Result<(), NoMemory>
+fn push_number(text: &mut Vec<u8>, word: &[u8], n: u128) -> Result<(), NoMemory>
     ensures { OnOk result (text.new.items ≡ (text.old.items ++ word.now) ++ decimal n) }
 {
-    let digits = n.to_string(alloc)?;
+    let mut digits = itoa::Buffer::new();
     text.extend_from_slice(word)?;
-    text.extend_from_slice(digits.as_bytes())?;
+    text.extend_from_slice(digits.format(n).as_bytes())?;
     Ok(())
 }
 
 /// Appends the numbers.
-fn push_numbers(alloc: Global, text: &mut Vec<u8>, numbers: &Numbers) -> Result<(), NoMemory>
+fn push_numbers(text: &mut Vec<u8>, numbers: &Numbers) -> Result<(), NoMemory>
     ensures { OnOk result (text.new.items ≡ text.old.items ++ codes " queued " ++ decimal numbers.now.queued ++ codes " good " ++ decimal numbers.now.good ++ codes " bytes " ++ decimal numbers.now.bytes ++ codes " open " ++ decimal numbers.now.unanswered) }
 {
-    push_number(alloc, text, b" queued ", u128::from(numbers.queued))?;
-    push_number(alloc, text, b" good ", u128::from(numbers.good))?;
-    push_number(alloc, text, b" bytes ", numbers.bytes)?;
-    push_number(alloc, text, b" open ", u128::from(numbers.unanswered))
+    push_number(text, b" queued ", u128::from(numbers.queued))?;
+    push_number(text, b" good ", u128::from(numbers.good))?;
+    push_number(text, b" bytes ", numbers.bytes)?;
+    push_number(text, b" open ", u128::from(numbers.unanswered))
 }
 
 /// The line of a load, with its line feed.
@@ -111,9 +111,9 @@ pub fn summary(alloc: Global, seed: u64, count: u32, numbers: &Numbers) -> Resul
     ensures { IfOk result (λ text. text.items ≡ summary_text seed count numbers.now) }
 {
     let mut text = Vec::new(alloc);
-    push_number(alloc, &mut text, b"load ", u128::from(seed))?;
-    push_number(alloc, &mut text, b" ", u128::from(count))?;
-    push_numbers(alloc, &mut text, numbers)?;
+    push_number(&mut text, b"load ", u128::from(seed))?;
+    push_number(&mut text, b" ", u128::from(count))?;
+    push_numbers(&mut text, numbers)?;
     text.push(b'\n')?;
     Ok(text)
 }

@@ -35,10 +35,15 @@ fn note(sizes: &mut Vec<Option<u32>>, event: &Event, answer: &Answer) -> Result<
     let Event::Submit(command) = event else {
         return Ok(());
     };
+    let Answer::Submit(answer) = answer else {
+        return Ok(());
+    };
     match answer {
-        Answer::Submit(Submit::Queued(_)) => sizes.push(size_of(command))?,
-        Answer::Submit(Submit::Delayed(_)) => sizes.push(size_of(command))?,
-        _ => {}
+        Submit::Queued(_) | Submit::Delayed(_) => sizes.push(size_of(command))?,
+        Submit::Busy
+        | Submit::TooBig { .. }
+        | Submit::FullRing { .. }
+        | Submit::FullBlocks { .. } => {}
     }
     Ok(())
 }

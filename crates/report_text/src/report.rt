@@ -1,5 +1,5 @@
 //! Whole lines of a journal.
-ghost use Rattle.std.specs.Prelude.{◌≡◌, ◌+◌, ◌≤◌, ◌++◌, length, OnOk, OnErr};
+ghost use Rattle.std.specs.Prelude.{◌≡◌, ◌+◌, ◌≤◌, ◌++◌, length, IfOk, OnOk, OnErr};
 ghost use Rattle.std.specs.List.{flat_map};
 ghost use Rattle.tcmu_types.specs.Views.{event_data, answer_data};
 ghost use Rattle.text_model.specs.Text.{payload_text, completion_text, event_line as event_spelling, entry_text as entry_spelling, end_text as end_spelling, dump_text as dump_spelling, device_text as device_spelling};
@@ -24,21 +24,20 @@ fn append(into: &mut Bytes, text: &[u8]) -> Result<(), NoMemory>
 }
 
 #[tactic(auto, unfolding(text_model::specs::Text::completion_text))]
-fn push_completion(alloc: Global, out: &mut Vec<u8>, name: &[u8], d: &Done) -> Result<(), NoMemory>
+fn push_completion(out: &mut Vec<u8>, name: &[u8], d: &Done) -> Result<(), NoMemory>
     ensures { OnOk result (out.new.items ≡ out.old.items ++ completion_text name.now d.now) }
 {
     push_all(out, b"# done")?;
     push_field(out, name)?;
-    push_number_field(alloc, out, d.serial)?;
+    push_number_field(out, d.serial)?;
     push_field(out, d.init.as_bytes())?;
-    push_number_field(alloc, out, d.tag as u64)?;
-    push_result(alloc, out, d.status.0, d.sense, d.payload.as_slice())?;
+    push_number_field(out, d.tag as u64)?;
+    push_result(out, d.status.0, d.sense, d.payload.as_slice())?;
     push_all(out, b"\n")
 }
 
 #[tactic(auto, unfolding(text_model::specs::Text::event_line))]
 fn push_line(
-    alloc: Global,
     out: &mut Vec<u8>,
     name: &[u8],
     qfull: u32,
@@ -47,14 +46,13 @@ fn push_line(
 ) -> Result<(), NoMemory>
     ensures { OnOk result (out.new.items ≡ out.old.items ++ event_spelling name.now qfull (event_data event.now) (answer_data answer.now)) }
 {
-    push_event(alloc, out, name, event)?;
+    push_event(out, name, event)?;
     push_all(out, b" # ")?;
-    push_answer(alloc, out, qfull, event, answer)?;
+    push_answer(out, qfull, event, answer)?;
     push_all(out, b"\n")
 }
 
 fn push_completions(
-    alloc: Global,
     out: &mut Vec<u8>,
     name: &[u8],
     logged: &[Done],
@@ -62,14 +60,13 @@ fn push_completions(
     ensures { OnOk result (out.new.items ≡ out.old.items ++ flat_map (completion_text name.now) logged.now) }
 {
     for done in logged {
-        push_completion(alloc, out, name, done)?;
+        push_completion(out, name, done)?;
     }
     Ok(())
 }
 
 #[tactic(auto, unfolding(text_model::specs::Text::entry_text))]
 fn push_entry(
-    alloc: Global,
     out: &mut Vec<u8>,
     name: &[u8],
     qfull: u32,
@@ -78,17 +75,17 @@ fn push_entry(
 ) -> Result<(), NoMemory>
     ensures { OnOk result (out.new.items ≡ out.old.items ++ entry_spelling name.now qfull entry.now logged.now) }
 {
-    push_line(alloc, out, name, qfull, &entry.event, &entry.answer)?;
-    push_completions(alloc, out, name, logged)
+    push_line(out, name, qfull, &entry.event, &entry.answer)?;
+    push_completions(out, name, logged)
 }
 
 #[tactic(auto, unfolding(text_model::specs::Text::end_text))]
-fn push_end(alloc: Global, out: &mut Vec<u8>, name: &[u8], count: u64) -> Result<(), NoMemory>
+fn push_end(out: &mut Vec<u8>, name: &[u8], count: u64) -> Result<(), NoMemory>
     ensures { OnOk result (out.new.items ≡ out.old.items ++ end_spelling name.now count) }
 {
     push_all(out, b"# open")?;
     push_field(out, name)?;
-    push_number_field(alloc, out, count)?;
+    push_number_field(out, count)?;
     push_all(out, b"\n")
 }
 
@@ -99,7 +96,7 @@ pub fn runs_text(alloc: Global, bytes: &[u8], into: &mut Bytes) -> Result<(), No
     ensures room { into.old.spare + length into.old.items ≤ into.new.spare + length into.new.items }
 {
     let mut text = Vec::new(alloc);
-    push_payload(alloc, &mut text, bytes)?;
+    push_payload(&mut text, bytes)?;
     append(into, &text)
 }
 
@@ -110,43 +107,32 @@ pub fn device_text(alloc: Global, device: &DeviceLine, into: &mut Bytes) -> Resu
     ensures room { into.old.spare + length into.old.items ≤ into.new.spare + length into.new.items }
 {
     let mut text = Vec::new(alloc);
-    push_device(alloc, &mut text, device)?;
+    push_device(&mut text, device)?;
     append(into, &text)
 }
 
-/// Appends the line of an event of the device of this name, with its answer; on a device with a `qfull` above 0 a stat shows its delayed
-/// commands. NoMemory changes nothing.
+/// The line of an event of the device of this name, with its answer; on a device with a `qfull` above 0 a stat shows its delayed commands.
 pub fn event_line(
     alloc: Global,
     name: &Name,
     qfull: u32,
     event: &Event,
     answer: &Answer,
-    into: &mut Bytes,
-) -> Result<(), NoMemory>
-    ensures ok { OnOk result (into.new.items ≡ into.old.items ++ event_spelling name.now qfull (event_data event.now) (answer_data answer.now)) }
-    ensures err { OnErr result (into.new.items ≡ into.old.items) }
-    ensures room { into.old.spare + length into.old.items ≤ into.new.spare + length into.new.items }
+) -> Result<Vec<u8>, NoMemory>
+    ensures { IfOk result (λ text. text.items ≡ event_spelling name.now qfull (event_data event.now) (answer_data answer.now)) }
 {
     let mut text = Vec::new(alloc);
-    push_line(alloc, &mut text, name.as_bytes(), qfull, event, answer)?;
-    append(into, &text)
+    push_line(&mut text, name.as_bytes(), qfull, event, answer)?;
+    Ok(text)
 }
 
-/// Appends the line of a completion. NoMemory changes nothing.
-pub fn completion_line(
-    alloc: Global,
-    name: &Name,
-    done: &Done,
-    into: &mut Bytes,
-) -> Result<(), NoMemory>
-    ensures ok { OnOk result (into.new.items ≡ into.old.items ++ completion_text name.now done.now) }
-    ensures err { OnErr result (into.new.items ≡ into.old.items) }
-    ensures room { into.old.spare + length into.old.items ≤ into.new.spare + length into.new.items }
+/// The line of a completion.
+pub fn completion_line(alloc: Global, name: &Name, done: &Done) -> Result<Vec<u8>, NoMemory>
+    ensures { IfOk result (λ text. text.items ≡ completion_text name.now done.now) }
 {
     let mut text = Vec::new(alloc);
-    push_completion(alloc, &mut text, name.as_bytes(), done)?;
-    append(into, &text)
+    push_completion(&mut text, name.as_bytes(), done)?;
+    Ok(text)
 }
 
 /// Appends the line of an entry and those of the completions that it logged, as `event_line` and `completion_line` do. NoMemory changes
@@ -164,7 +150,7 @@ pub fn entry_text(
     ensures room { into.old.spare + length into.old.items ≤ into.new.spare + length into.new.items }
 {
     let mut text = Vec::new(alloc);
-    push_entry(alloc, &mut text, name.as_bytes(), qfull, entry, logged)?;
+    push_entry(&mut text, name.as_bytes(), qfull, entry, logged)?;
     append(into, &text)
 }
 
@@ -175,7 +161,7 @@ pub fn end_text(alloc: Global, name: &Name, count: u64, into: &mut Bytes) -> Res
     ensures room { into.old.spare + length into.old.items ≤ into.new.spare + length into.new.items }
 {
     let mut text = Vec::new(alloc);
-    push_end(alloc, &mut text, name.as_bytes(), count)?;
+    push_end(&mut text, name.as_bytes(), count)?;
     append(into, &text)
 }
 
@@ -186,6 +172,6 @@ pub fn dump_text(alloc: Global, name: &Name, dump: &Dump, into: &mut Bytes) -> R
     ensures room { into.old.spare + length into.old.items ≤ into.new.spare + length into.new.items }
 {
     let mut text = Vec::new(alloc);
-    push_dump(alloc, &mut text, name.as_bytes(), dump)?;
+    push_dump(&mut text, name.as_bytes(), dump)?;
     append(into, &text)
 }

@@ -54,21 +54,16 @@ fn lines(rt: HostRuntime) -> Result<(), Fail> {
     let alloc = rt.alloc();
     let name = name().ok_or("name")?;
     let done = [done(alloc).ok_or("done")?];
+    let tick = event_line(alloc, &name, 0, &Event::Tick(5), &Answer::Logged(1))?;
+    let logged = completion_line(alloc, &name, &done[0])?;
+    assert_eq!(rt; tick.as_slice(), b"tick d0 5 # expired 1\n".as_slice());
+    assert_eq!(rt; logged.as_slice(), b"# done d0 3 a 7 02 05/21/00 -\n".as_slice());
     let mut text = Bytes::new(alloc);
-    event_line(
-        alloc,
-        &name,
-        0,
-        &Event::Tick(5),
-        &Answer::Logged(1),
-        &mut text,
-    )?;
-    completion_line(alloc, &name, &done[0], &mut text)?;
     end_text(alloc, &name, 2, &mut text)?;
     runs_text(alloc, &[0xab, 0xab, 0x0c], &mut text)?;
     assert_eq!(rt;
         text.as_slice(),
-        b"tick d0 5 # expired 1\n# done d0 3 a 7 02 05/21/00 -\n# open d0 2\nab*2,0c*1".as_slice()
+        b"# open d0 2\nab*2,0c*1".as_slice()
     );
     Ok(())
 }
@@ -121,26 +116,12 @@ fn numbers(rt: HostRuntime) -> Result<(), Fail> {
         items: 2,
         commands: 1,
     };
-    let mut text = Bytes::new(alloc);
-    event_line(
-        alloc,
-        &name,
-        4,
-        &Event::Stat,
-        &Answer::Stat(STAT),
-        &mut text,
-    )?;
-    event_line(
-        alloc,
-        &name,
-        4,
-        &Event::Publish,
-        &Answer::Publish(moved),
-        &mut text,
-    )?;
+    let stat = event_line(alloc, &name, 4, &Event::Stat, &Answer::Stat(STAT))?;
+    let publish = event_line(alloc, &name, 4, &Event::Publish, &Answer::Publish(moved))?;
     assert_eq!(rt;
-        text.as_slice(),
-        b"stat d0 # now 9 blocked 1 attached 0 head 128 used 256 waiting 1 out 2 handled 3 parked 4 placed 5 lost 6 expired 7 held 8 delayed 10\npublish d0 # moved 2 1\n".as_slice()
+        stat.as_slice(),
+        b"stat d0 # now 9 blocked 1 attached 0 head 128 used 256 waiting 1 out 2 handled 3 parked 4 placed 5 lost 6 expired 7 held 8 delayed 10\n".as_slice()
     );
+    assert_eq!(rt; publish.as_slice(), b"publish d0 # moved 2 1\n".as_slice());
     Ok(())
 }

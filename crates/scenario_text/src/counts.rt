@@ -12,12 +12,10 @@ pub fn note_initiator(initiators: &mut Vec<Names>, line: &Line) -> Result<(), No
     requires { line.now.device < length initiators.old.items }
     ensures { OnOk result (initiators.new.items ≡ noted initiators.old.items line.now) }
 {
-    match &line.what {
-        LineKind::Event(Event::Submit(command)) => {
-            initiators[line.device as usize].note(command.init())
-        }
-        _ => Ok(()),
-    }
+    let LineKind::Event(Event::Submit(command)) = &line.what else {
+        return Ok(());
+    };
+    initiators[line.device as usize].note(command.init())
 }
 
 /// The initiators of the device of this number.
@@ -55,10 +53,10 @@ pub fn bytes_in(line: &Line) -> u64
     ensures value { result ≡ bytes_in line.now }
     ensures most { result < 4294967296 }
 {
-    match &line.what {
-        LineKind::Event(Event::Submit(command)) => command.in_len() as u64,
-        _ => 0,
-    }
+    let LineKind::Event(Event::Submit(command)) = &line.what else {
+        return 0;
+    };
+    command.in_len() as u64
 }
 
 /// How many bytes are sent with the command of a line; none where it is no submit line.
@@ -66,8 +64,8 @@ pub fn bytes_out(line: &Line) -> u64
     ensures value { result ≡ bytes_out line.now }
     ensures most { result < 9223372036854775808 }
 {
-    match &line.what {
-        LineKind::Event(Event::Submit(command)) => command.sent().as_slice().len() as u64,
-        _ => 0,
-    }
+    let LineKind::Event(Event::Submit(command)) = &line.what else {
+        return 0;
+    };
+    command.sent().as_slice().len() as u64
 }

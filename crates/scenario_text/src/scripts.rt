@@ -16,15 +16,13 @@ use tcmu_types::{Command, Event, Name, NoMemory, Serials};
 fn note_initiator_of(names: &mut Names, device: u32, line: &Line) -> Result<(), NoMemory>
     ensures { OnOk result (names.new ≡ with_initiator device names.old line.now) }
 {
-    match &line.what {
-        LineKind::Event(Event::Submit(command)) => {
-            if line.device != device {
-                return Ok(());
-            }
-            names.note(command.init())
-        }
-        _ => Ok(()),
+    let LineKind::Event(Event::Submit(command)) = &line.what else {
+        return Ok(());
+    };
+    if line.device != device {
+        return Ok(());
     }
+    names.note(command.init())
 }
 
 /// The initiators of a device.
@@ -46,18 +44,13 @@ fn sent_by(
 ) -> Result<Option<Command>, NoMemory>
     ensures { IfOk result (λ o. as_list o ≡ sent_by device name.now line.now) }
 {
-    match &line.what {
-        LineKind::Event(Event::Submit(command)) => {
-            if line.device != device {
-                return Ok(None);
-            }
-            if command.init().as_bytes() != name {
-                return Ok(None);
-            }
-            Ok(Some(command.try_clone(alloc)?))
-        }
-        _ => Ok(None),
+    let LineKind::Event(Event::Submit(command)) = &line.what else {
+        return Ok(None);
+    };
+    if line.device != device || command.init().as_bytes() != name {
+        return Ok(None);
     }
+    Ok(Some(command.try_clone(alloc)?))
 }
 
 /// The commands that an initiator sends to a device.
@@ -94,7 +87,13 @@ fn admin_event(alloc: Global, event: &Event) -> Result<Option<Event>, NoMemory>
             serials: Serials::from_slice(alloc, serials.as_slice())?,
         })),
         Event::Stat => Ok(Some(Event::Stat)),
-        _ => Ok(None),
+        Event::Submit(_)
+        | Event::Dispatch
+        | Event::Handle(_)
+        | Event::Respond(_)
+        | Event::Publish
+        | Event::Clean
+        | Event::Enter => Ok(None),
     }
 }
 

@@ -213,8 +213,8 @@ unfoldable pub reset_row : List Ask
 reset_row = submits (read_one 1) ∷ does ev.Dispatch ∷ does (ev.Reset 1) ∷ does ev.Block ∷ does ev.Block ∷ does (ev.Reset 1) ∷ does ev.Restart ∷ does (ev.Reset 1) ∷ does ev.Stat ∷ submits (read_one 2) ∷ []
 
 -- a reset wants a blocked device with no command in a handler's hand
-abbrev pub Resets : Type 0
-Resets = answers (opening_state dev) reset_row ≡ ev.Submitted (submit.Queued 1) ∷ ev.Dispatched (Job 1) ∷ ev.WasReset reset.NotBlocked ∷ ev.Changed true ∷ ev.Changed false ∷ ev.WasReset (reset.HandlersOut 1) ∷ ev.Lost 1 ∷ ev.WasReset (reset.Reset 1) ∷ ev.Told (record { now = 0; blocked = true; attached = true; head = 0; used = 0; waiting = 0; out = 0; handled = 0; parked = 0; placed = 0; lost = 0; expired = 0; held = 0; delayed = 0 }) ∷ ev.Submitted submit.Busy ∷ []
+abbrev pub ResetAnswers : Type 0
+ResetAnswers = answers (opening_state dev) reset_row ≡ ev.Submitted (submit.Queued 1) ∷ ev.Dispatched (Job 1) ∷ ev.WasReset reset.NotBlocked ∷ ev.Changed true ∷ ev.Changed false ∷ ev.WasReset (reset.HandlersOut 1) ∷ ev.Lost 1 ∷ ev.WasReset (reset.Reset 1) ∷ ev.Told (record { now = 0; blocked = true; attached = true; head = 0; used = 0; waiting = 0; out = 0; handled = 0; parked = 0; placed = 0; lost = 0; expired = 0; held = 0; delayed = 0 }) ∷ ev.Submitted submit.Busy ∷ []
 
 -- and completes what is open with BUSY
 abbrev pub ResetStatus : Type 0
@@ -255,8 +255,8 @@ unfoldable pub note_row : List Ask
 note_row = does (ev.Tmr 1 (1 ∷ [])) ∷ submits (read_one 2) ∷ does ev.Dispatch ∷ replies 2 good ∷ does (ev.Respond 2) ∷ does (ev.Tmr 1 (2 ∷ [])) ∷ does ev.Dispatch ∷ []
 
 -- a note names unfinished commands alone, and tells the user side of those that run
-abbrev pub Notes : Type 0
-Notes = answers (device_with (record dev { flags = record { ooo = true; read_len = false; tmr = true } }) note_front) note_row ≡ ev.Noted (tmr.Unknown 1) ∷ ev.Submitted (submit.Queued 2) ∷ ev.Dispatched (Job 2) ∷ ev.Answered (handle.Done good) ∷ ev.Responded respond.Placed ∷ ev.Noted tmr.Noted ∷ ev.Dispatched (Note 1 []) ∷ []
+abbrev pub NoteAnswers : Type 0
+NoteAnswers = answers (device_with (record dev { flags = record { ooo = true; read_len = false; tmr = true } }) note_front) note_row ≡ ev.Noted (tmr.Unknown 1) ∷ ev.Submitted (submit.Queued 2) ∷ ev.Dispatched (Job 2) ∷ ev.Answered (handle.Done good) ∷ ev.Responded respond.Placed ∷ ev.Noted tmr.Noted ∷ ev.Dispatched (Note 1 []) ∷ []
 
 -- it is published and cleared with what stands before it
 abbrev pub NotesPass : Type 0

@@ -1,5 +1,5 @@
 //! Worked examples of the device: what the definitions give for events that engineers know.
-ghost use Rattle.tcmu_model.specs.Examples.{RingFills, ExactlyFull, BlocksFill, BlocksFree, TooLong, LongEnough, TooManyBlocks, OutOfOrder, LoggedAsPlaced, InOrder, LoggedAsLaid, Expires, ExpiredSense, LoggedOnce, NotDue, NeverDue, Resets, ResetStatus, LostReset, LostLog, LostLogTarget, LostCount, DoesNothingDetached, Notes, NotesPass, NotesOff, Waits, LeavesFull, StaysDelayed, WaitsReset, WaitsBusy, WaitsDrained, ExpiresInTime, ExpiresNotEarly, ExpiresNotLate, CleanExpiresNone, LeavesInTime, LeavesNotEarly, LeavesNotLate};
+ghost use Rattle.tcmu_model.specs.Examples.{RingFills, ExactlyFull, BlocksFill, BlocksFree, TooLong, LongEnough, TooManyBlocks, OutOfOrder, LoggedAsPlaced, InOrder, LoggedAsLaid, Expires, ExpiredSense, LoggedOnce, NotDue, NeverDue, ResetAnswers, ResetStatus, LostReset, LostLog, LostLogTarget, LostCount, DoesNothingDetached, NoteAnswers, NotesPass, NotesOff, Waits, LeavesFull, StaysDelayed, WaitsReset, WaitsBusy, WaitsDrained, ExpiresInTime, ExpiresNotEarly, ExpiresNotLate, CleanExpiresNone, LeavesInTime, LeavesNotEarly, LeavesNotLate};
 
 /// The ring and the data area fill exactly, and what no empty one takes is too big.
 pub fn room_examples()
@@ -31,7 +31,7 @@ pub fn expiry_examples()
 
 /// A reset wants a blocked device with nothing in hand; a restart loses what the user side had.
 pub fn reset_examples()
-    ensures resets { Resets }
+    ensures resets { ResetAnswers }
     ensures reset_status { ResetStatus }
     ensures lost_reset { LostReset }
     ensures lost_log { LostLog }
@@ -42,7 +42,7 @@ pub fn reset_examples()
 
 /// A note names unfinished commands, and tells the user side of those that run.
 pub fn note_examples()
-    ensures notes { Notes }
+    ensures notes { NoteAnswers }
     ensures notes_pass { NotesPass }
     ensures notes_off { NotesOff }
 {}

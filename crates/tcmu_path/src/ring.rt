@@ -63,7 +63,8 @@ impl RingItem {
     {
         match &self.content {
             Content::Command { serial, .. } => Some(*serial),
-            _ => None,
+            Content::Pad => None,
+            Content::Note { .. } => None,
         }
     }
 }

@@ -34,7 +34,11 @@ fn fault_line(status: Status) -> Line
     match status {
         Status::BadScenario { line, why } => return scenario_line(line, why),
         Status::BadWords => text.push_str("tcmu_lab: words\n"),
-        _ => {}
+        Status::Ok
+        | Status::ReadFault
+        | Status::WriteFault
+        | Status::NoMemory
+        | Status::OpenFault => {}
     }
     text
 }

@@ -81,16 +81,8 @@ fn write_event<K: Sink>(
     ensures err { OnErr result (GainedFront (K.written out.old) (spelled.event_line device.now.name device.now.settings.qfull (event_data event.now) (answer_data answer.now)) (K.written out.new)) }
     ensures faults { SinkFaults (K.faults out.old) (K.faults out.new) result }
 {
-    let mut text = Bytes::new(alloc);
-    event_line(
-        alloc,
-        &device.name,
-        device.settings.qfull,
-        event,
-        answer,
-        &mut text,
-    )?;
-    write_line(out, text.as_slice())
+    let line = event_line(alloc, &device.name, device.settings.qfull, event, answer)?;
+    write_line(out, &line)
 }
 
 /// Writes the line of a completion.
@@ -104,9 +96,8 @@ fn write_completion<K: Sink>(
     ensures err { OnErr result (GainedFront (K.written out.old) (spelled.completion_text device.now.name done.now) (K.written out.new)) }
     ensures faults { SinkFaults (K.faults out.old) (K.faults out.new) result }
 {
-    let mut text = Bytes::new(alloc);
-    completion_line(alloc, &device.name, done, &mut text)?;
-    write_line(out, text.as_slice())
+    let line = completion_line(alloc, &device.name, done)?;
+    write_line(out, &line)
 }
 
 /// Writes the lines of completions, in order.

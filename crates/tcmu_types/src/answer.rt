@@ -35,7 +35,18 @@ impl Answer {
         match self {
             Answer::Handle(Handle::Done(reply)) => (reply.payload.len(), 0),
             Answer::Dispatch(Dispatch::Note { serials, .. }) => (0, serials.len()),
-            _ => (0, 0),
+            Answer::Handle(Handle::NotOut(_))
+            | Answer::Dispatch(Dispatch::Job(_) | Dispatch::Nothing | Dispatch::Detached)
+            | Answer::Submit(_)
+            | Answer::Respond(_)
+            | Answer::Publish(_)
+            | Answer::Enter(_)
+            | Answer::Logged(_)
+            | Answer::Changed(_)
+            | Answer::Reset(_)
+            | Answer::Lost(_)
+            | Answer::Tmr(_)
+            | Answer::Stat(_) => (0, 0),
         }
     }
 

@@ -45,7 +45,18 @@ impl Event {
         match self {
             Event::Submit(command) => (command.sent().len(), 0),
             Event::Tmr { serials, .. } => (0, serials.len()),
-            _ => (0, 0),
+            Event::Dispatch
+            | Event::Handle(_)
+            | Event::Respond(_)
+            | Event::Publish
+            | Event::Clean
+            | Event::Tick(_)
+            | Event::Block
+            | Event::Unblock
+            | Event::Reset(_)
+            | Event::Restart
+            | Event::Stat
+            | Event::Enter => (0, 0),
         }
     }
 

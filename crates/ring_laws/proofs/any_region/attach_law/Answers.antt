@@ -1,6 +1,6 @@
-use Rattle.ring_laws.proofs.AnyAttached.{attached_sound, attached_pages}
-use Rattle.ring_laws.proofs.AnyCounts.{attach_counts}
-use Rattle.ring_laws.proofs.AnyWhole.{attach_jobs}
+use Rattle.ring_laws.proofs.any_region.AnyAttached.{attached_sound, attached_pages}
+use Rattle.ring_laws.proofs.any_region.AnyCounts.{attach_counts}
+use Rattle.ring_laws.proofs.any_region.AnyWhole.{attach_jobs}
 use Rattle.ring_laws.proofs.any_region.attach_law.Goals as goal
 
 pub returns : goal.returns

@@ -1,0 +1,13 @@
+pub mod AnyAreas
+pub mod AnyCalls
+pub mod AnyCleans
+pub mod AnyCleared
+pub mod AnyCommands
+pub mod AnyDates
+pub mod AnyKeptId
+pub mod AnyLogs
+pub mod AnyRing
+pub mod AnyRows
+pub mod AnySerials
+pub mod AnySettings
+pub mod AnyStops

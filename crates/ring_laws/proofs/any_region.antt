@@ -1,0 +1,9 @@
+pub mod AnyAnswers
+pub mod AnyAttached
+pub mod AnyCounts
+pub mod AnyFaults
+pub mod AnyHeads
+pub mod AnyJobs
+pub mod AnyNext
+pub mod AnyUsers
+pub mod AnyWhole

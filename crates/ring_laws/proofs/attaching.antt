@@ -1,0 +1,2 @@
+pub mod AttachedUser
+pub mod MailboxThere

@@ -1,0 +1,10 @@
+pub mod DispatchAnswers
+pub mod DispatchBlocks
+pub mod DispatchJobs
+pub mod DispatchKept
+pub mod Nexts
+pub mod NextCases
+pub mod NextNothing
+pub mod NotesAnswered
+pub mod Sending
+pub mod Lending

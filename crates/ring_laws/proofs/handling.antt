@@ -1,0 +1,2 @@
+pub mod HandledJobs
+pub mod HandledKept

@@ -1,0 +1,2 @@
+pub mod HandRises
+pub mod HandTells

@@ -1,0 +1,2 @@
+pub mod ParkedJobs
+pub mod ParkedKept

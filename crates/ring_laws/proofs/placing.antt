@@ -1,0 +1,6 @@
+pub mod AnswerBlocks
+pub mod AnswerBytes
+pub mod AnswerData
+pub mod Answered
+pub mod Numbered
+pub mod PlacedAnswers

@@ -1,0 +1,3 @@
+pub mod StatSame
+pub mod TodoSame
+pub mod PictureShown
