@@ -14,8 +14,11 @@ use tcmu_types::{Command, Done, Listed, NoMemory, ScsiStatus};
 /// A command that waits for room up to a moment (ticks).
 #[derive(Drop)]
 pub struct DelayedCommand {
+    /// From 1; the command keeps it when it enters the ring.
     pub serial: u64,
+    /// As it was submitted, with the bytes that it sends.
     pub command: Command,
+    /// In ticks of the device's clock: the submit's moment plus `qfull`; a tick to it or beyond ends the wait.
     pub leaves: u64,
 }
 

@@ -21,7 +21,9 @@ use text_model::{ConfigFault, Subtype};
 /// What keeps a device's bytes: memory of so many logical blocks of 512 bytes, or the file of this name.
 #[derive(Debug, Drop)]
 pub enum MediumKind {
+    /// Logical blocks of 512 bytes: 1 to 32,768.
     Memory(u32),
+    /// The name of a file, of 1 to 200 characters, as the text has it.
     File(Bytes),
 }
 
@@ -29,10 +31,15 @@ pub enum MediumKind {
 /// calls of the medium fail, counted from 1.
 #[derive(Debug, Drop)]
 pub struct Config {
+    /// `hba_num` of the text: 0 to 65,535.
     pub hba: u32,
+    /// The text's `device_name`; in a scenario the device line has the same.
     pub name: Name,
+    /// Of the path, also behind `ro/` and `fail/`.
     pub kind: MediumKind,
+    /// The subtype is `ro`: commands that write are refused, and MODE SENSE shows it.
     pub protected: bool,
+    /// Numbers of calls, from 1, rising: at most 64, each at most 1,000,000; empty without `fail/`.
     pub fails: Serials,
 }
 

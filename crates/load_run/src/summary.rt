@@ -14,9 +14,13 @@ use tcmu_types::{Done, NoMemory, ScsiStatus};
 /// The accepted commands, the completions that are GOOD, the bytes that those moved, and the commands without a completion.
 #[derive(Clone, Copy, Debug, PartialEq, Eq)]
 pub struct Numbers {
+    /// As many as there are serials.
     pub queued: u64,
+    /// Completions with GOOD (SAM-5, 5.3).
     pub good: u64,
+    /// Of reads the bytes answered, of writes those sent; GOOD ones alone.
     pub bytes: u128,
+    /// Accepted commands that have no completion yet (`open` in the line).
     pub unanswered: u64,
 }
 

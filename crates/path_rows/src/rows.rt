@@ -11,10 +11,15 @@ use tcmu_types::{
 /// A command by its parts: the bytes sent are runs of a byte and how often it stands.
 #[derive(Clone, Copy)]
 pub struct Sent {
+    /// The initiator's name: 1 to 16 characters.
     pub init: &'static str,
+    /// The initiator's own number of the command (SAM-5).
     pub tag: u32,
+    /// 6, 10, 12 or 16 bytes, by the group of the first (SPC-4, 4.2.5.1).
     pub cdb: &'static [u8],
+    /// A byte, and how often it stands, one run behind the other; none where nothing is sent.
     pub runs: &'static [(u8, u16)],
+    /// How many bytes are asked for; 0 where bytes are sent.
     pub in_len: u32,
 }
 
@@ -23,10 +28,13 @@ pub struct Sent {
 pub enum Call {
     Submit(Sent),
     Dispatch,
+    /// A serial, from 1.
     Handle(u64),
+    /// A serial, from 1.
     Respond(u64),
     Publish,
     Clean,
+    /// How many ticks pass.
     Tick(u32),
     Block,
     Unblock,
@@ -48,6 +56,7 @@ pub enum Call {
 #[derive(Clone, Copy, PartialEq, Eq)]
 pub enum Told {
     Submit(Submit),
+    /// The serial of a dispatched command.
     Job(u64),
     /// The kind of a note, and how many commands it names.
     Note(u8, usize),
@@ -55,11 +64,13 @@ pub enum Told {
     Detached,
     /// A status, and how many bytes go back.
     Reply(u8, usize),
+    /// The serial that was asked for.
     NotOut(u64),
     Respond(Respond),
     Publish(Publish),
     /// How many completions were logged, or commands were lost.
     Number(u64),
+    /// False where a block or an unblock finds the device so already.
     Changed(bool),
     Reset(Reset),
     Tmr(Tmr),
@@ -71,11 +82,17 @@ pub enum Told {
 /// A completion: its serial, initiator and tag, its status, its sense codes (zeros where there is none), and so many copies of a byte.
 #[derive(Clone, Copy)]
 pub struct Finished {
+    /// From 1, in the order in which the commands were accepted.
     pub serial: u64,
+    /// The initiator's name: 1 to 16 characters.
     pub init: &'static str,
+    /// The tag that the command was sent with.
     pub tag: u32,
+    /// A status byte (SAM-5, 5.3).
     pub status: u8,
+    /// The key, the additional sense code and its qualifier (SPC-4, 4.5).
     pub sense: (u8, u8, u8),
+    /// A byte, and how often it stands; any byte and 0 where no bytes come back.
     pub payload: (u8, usize),
 }
 

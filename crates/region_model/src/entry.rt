@@ -9,12 +9,14 @@ pub enum EntryRef {
     Pad {
         len: u32,
     },
+    /// `id` is the entry's `cmd_id`, at byte 4.
     Cmd {
         len: u32,
         id: u16,
         iov_cnt: u32,
         cdb: Cdb,
     },
+    /// `kind` is byte 8 as it stands, the type (the kernel's `TCMU_TMR_*`).
     Tmr {
         len: u32,
         kind: u8,
@@ -52,9 +54,14 @@ pub enum EntryFault {
 /// where `read_len` is set), the status (SAM-5), how many bytes were read, and the sense buffer.
 #[derive(Clone, Copy, Debug, PartialEq, Eq)]
 pub struct Response {
+    /// `cmd_id` of the entry that is answered, at byte 4.
     pub id: u16,
+    /// Byte 7 of the entry: bit 0 `TCMU_UFLAG_UNKNOWN_OP`, bit 1 `TCMU_UFLAG_READ_LEN`.
     pub uflags: u8,
+    /// `scsi_status`, byte 8 of the entry (SAM-5, 5.3).
     pub status: u8,
+    /// In bytes, at byte 12 of the entry; it tells something where `uflags` has bit 1.
     pub read_len: u32,
+    /// `sense_buffer`, from byte 16 of the entry on; of fixed format (SPC-4, 4.5.3) with CHECK CONDITION.
     pub sense: [u8; 96],
 }

@@ -5,11 +5,17 @@ use thiserror::Error;
 /// ring, both in bytes, and the head and the tail, which are byte offsets in the ring.
 #[derive(Clone, Copy, Debug, PartialEq, Eq)]
 pub struct Mailbox {
+    /// At byte 0; 2, or the bytes do not read as a mailbox.
     pub version: u16,
+    /// At byte 2; bit 0 completions in any order, bit 1 read lengths, bit 2 task management.
     pub flags: u16,
+    /// At byte 4: where the ring begins, from the region's start; 128.
     pub cmdr_off: u32,
+    /// At byte 8, in bytes: a multiple of 4096, 4096 to 4,194,304.
     pub cmdr_size: u32,
+    /// At byte 12: `cmd_head`, a multiple of 8 below `cmdr_size`, moved by the target alone.
     pub head: u32,
+    /// At byte 64: `cmd_tail`, a multiple of 8 below `cmdr_size`, moved by the user side alone.
     pub tail: u32,
 }
 

@@ -12,8 +12,11 @@ use thiserror::Error;
 /// What a device line says.
 #[derive(Debug, Drop)]
 pub struct DeviceLine {
+    /// As the other lines call it; no other device has it.
     pub name: Name,
+    /// The device's medium, with the same name in it; a file is no other device's.
     pub config: Config,
+    /// Of the device's ring, data area and clock; absent fields are 0 for `qfull` and 1 for `pages`.
     pub settings: Settings,
 }
 
@@ -28,6 +31,7 @@ impl Model for DeviceLine {
 /// What another line asks for: an event, the events of the drain up to its end, or a picture of the device's region.
 #[derive(Debug, Drop)]
 pub enum LineKind {
+    /// Made once, and answered by the device.
     Event(Event),
     Drain,
     Dump,
@@ -36,7 +40,9 @@ pub enum LineKind {
 /// A line that is no device line, with the number of its device, from 0 in the order of the device lines.
 #[derive(Debug, Drop)]
 pub struct Line {
+    /// Below the number of devices.
     pub device: u32,
+    /// What its verb asks for.
     pub what: LineKind,
 }
 
@@ -58,7 +64,9 @@ pub type Lines = Listed<Line>;
 /// What a scenario says.
 #[derive(Debug, Drop)]
 pub struct Scenario {
+    /// At most 16; their lines stand before all others.
     pub devices: Devices,
+    /// In the order of the text, of all devices together.
     pub lines: Lines,
 }
 
@@ -79,7 +87,9 @@ pub type Events = Listed<Event>;
 /// What one initiator sends.
 #[derive(Debug, Drop)]
 pub struct InitLine {
+    /// The initiator's: 1 to 16 characters.
     pub name: Name,
+    /// Those that name the initiator, from the first line to the last.
     pub commands: Commands,
 }
 
@@ -98,7 +108,9 @@ pub type InitLines = Listed<InitLine>;
 /// restart, task management, stat).
 #[derive(Debug, Drop)]
 pub struct Script {
+    /// At most 16 to a device, no name twice.
     pub inits: InitLines,
+    /// In the order of the lines.
     pub admin: Events,
 }
 
@@ -115,6 +127,7 @@ impl Model for Script {
 /// Why a line is not taken.
 #[derive(Clone, Copy, Debug, Drop, PartialEq, Eq)]
 pub enum LineFault {
+    /// The first rule that the line breaks, by the order of `Why`.
     Bad(Why),
     NoMemory,
 }
@@ -146,6 +159,7 @@ impl<T: Drop> From<AllocFailed<T>> for LineFault {
 /// Why a text is no scenario: the first bad line, counted from 1, and why; line 0 where the text is too long.
 #[derive(Clone, Copy, Debug, PartialEq, Eq, Error)]
 pub enum ScenarioFault {
+    /// Of the lowest line alone.
     #[error("line {line}: {}", .why.text())]
     Bad { line: u32, why: Why },
     #[error("no memory")]

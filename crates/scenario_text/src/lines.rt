@@ -140,17 +140,24 @@ pub fn three_fields(text: &[u8]) -> Option<(&[u8], &[u8], &[u8])>
 #[derive(Clone, Copy, Drop)]
 pub enum Payload<'a> {
     Nothing,
+    /// The decimal digits behind `in=`: how many bytes are asked for.
     InBytes(&'a [u8]),
+    /// What stands behind `out=`: runs of bytes that are sent.
     OutRuns(&'a [u8]),
 }
 
 /// The fields of a submit line.
 #[derive(Clone, Copy, Drop)]
 pub struct SubmitWords<'a> {
+    /// The device's; not yet looked up.
     pub name: &'a [u8],
+    /// The initiator's name; not yet checked.
     pub init: &'a [u8],
+    /// Decimal digits, 0 to 4,294,967,295 where the line is taken.
     pub tag: &'a [u8],
+    /// Lower-case hexadecimal digits, two to a byte, where the line is taken.
     pub cdb: &'a [u8],
+    /// The last field, or nothing.
     pub payload: Payload<'a>,
 }
 
@@ -200,7 +207,9 @@ pub fn submit_fields(text: &[u8]) -> Option<SubmitWords<'_>>
 /// The last fields of a device line, which may be absent.
 #[derive(Clone, Copy, Drop)]
 pub struct LastWords<'a> {
+    /// What stands behind `qfull=`; None counts as 0.
     pub qfull: Option<&'a [u8]>,
+    /// What stands behind `pages=`; None counts as 1.
     pub pages: Option<&'a [u8]>,
 }
 
@@ -254,12 +263,19 @@ fn last_fields(text: &[u8]) -> Option<LastWords<'_>>
 /// The fields of a device line.
 #[derive(Clone, Copy, Drop)]
 pub struct DeviceWords<'a> {
+    /// A new name; not yet checked.
     pub name: &'a [u8],
+    /// A config text, with slashes.
     pub config: &'a [u8],
+    /// What stands behind `ring=`: bytes of the ring, in decimal digits.
     pub ring: &'a [u8],
+    /// What stands behind `blocks=`: the most data blocks, in decimal digits.
     pub blocks: &'a [u8],
+    /// What stands behind `flags=`: `none`, or words joined by commas.
     pub flags: &'a [u8],
+    /// What stands behind `timeout=`: ticks, in decimal digits, 0 for never.
     pub timeout: &'a [u8],
+    /// `qfull=` and `pages=`, if they are there.
     pub last: LastWords<'a>,
 }
 

@@ -28,7 +28,9 @@ use text_model::{ConfigFault, Verb, Why};
 /// What a line says: a device, or a line of a device.
 #[derive(Debug, Drop)]
 pub enum SaidLine {
+    /// Of the verb `device`.
     Device(DeviceLine),
+    /// Of every other verb.
     Line(Line),
 }
 

@@ -16,10 +16,12 @@ use tcmu_types::{Command, NoMemory, Serials};
 #[derive(Drop)]
 pub enum Content {
     Pad,
+    /// Its serial, from 1.
     Command {
         serial: u64,
         command: Snapshot<Command>,
     },
+    /// A task management function: its type (`TCMU_TMR_*`) and the serials that it names.
     Note {
         kind: u8,
         serials: Serials,
@@ -29,7 +31,9 @@ pub enum Content {
 /// An item of the ring, with its length in bytes.
 #[derive(Drop)]
 pub struct RingItem {
+    /// A multiple of 8.
     pub len: u32,
+    /// Set when the item is laid, and never changed.
     pub content: Content,
 }
 

@@ -18,7 +18,9 @@ use tcmu_types::{Bytes, Command, Done, NoMemory, Reply, ScsiStatus, Sense};
 /// What a reply says beside its bytes.
 #[derive(Clone, Copy, Debug)]
 pub struct ReplyHead {
+    /// The handler's status byte (SAM-5, 5.3).
     pub status: ScsiStatus,
+    /// Some exactly where the status is CHECK CONDITION.
     pub sense: Option<Sense>,
 }
 

@@ -23,7 +23,9 @@ fn next_in(rows: &VecDeque<Row>, from: usize, state: CommandState) -> Option<u64
 /// The least serial of the commands in a state, and how many they are: kept, so that no step of a drain looks for them.
 #[derive(Clone, Copy, Debug)]
 pub struct Tally {
+    /// None where no command is in the state.
     pub least: Option<u64>,
+    /// At most as many as there are unfinished commands.
     pub count: usize,
 }
 

@@ -88,11 +88,16 @@ impl Answer {
 /// `FullRing` (bytes) and `FullBlocks` (data blocks) come where room lacks now and no command waits for room.
 #[derive(Clone, Copy, Debug, Drop, PartialEq, Eq)]
 pub enum Submit {
+    /// The serial of the command, which is laid in the ring.
     Queued(u64),
+    /// The serial of the command, which waits for room; of devices with `qfull` above 0 alone.
     Delayed(u64),
     Busy,
+    /// What the command takes and the most that there may be: bytes of the ring, or else data blocks. It will never fit.
     TooBig { have: u32, limit: u32 },
+    /// Bytes, padding among those needed.
     FullRing { need: u32, free: u32 },
+    /// Data blocks.
     FullBlocks { need: u32, free: u32 },
 }
 
@@ -167,6 +172,7 @@ pub enum Respond {
 /// attached.
 #[derive(Clone, Copy, Debug, Drop, PartialEq, Eq)]
 pub enum Publish {
+    /// Both 0 where the tail stays.
     Moved { items: u64, commands: u64 },
     Detached,
 }
@@ -175,8 +181,10 @@ pub enum Publish {
 /// that a handler still has, or whose answers are not in the ring yet.
 #[derive(Clone, Copy, Debug, Drop, PartialEq, Eq)]
 pub enum Reset {
+    /// How many completions were logged.
     Reset(u64),
     NotBlocked,
+    /// How many commands are Out, Handled or Parked; at least 1.
     HandlersOut(u64),
 }
 
@@ -190,6 +198,7 @@ pub enum Tmr {
     Busy,
     /// The first of the named serials that has no unfinished command in the ring.
     Unknown(u64),
+    /// Bytes of the ring for the note, padding among those needed.
     FullRing { need: u32, free: u32 },
 }
 
@@ -200,6 +209,8 @@ pub enum Enter {
     Entered(u64),
     /// No command waits.
     Empty,
+    /// Bytes, padding among those needed; the command goes on waiting.
     FullRing { need: u32, free: u32 },
+    /// Data blocks; the command goes on waiting.
     FullBlocks { need: u32, free: u32 },
 }

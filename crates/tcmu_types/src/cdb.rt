@@ -11,7 +11,9 @@ use thiserror::Error;
 #[derive(Clone, Copy, Debug, PartialEq, Eq, Error)]
 #[error("a command descriptor block of {want} bytes is wanted, not of {have}")]
 pub struct CdbLength {
+    /// In bytes: 6, 10, 12 or 16 by the group of the first byte (SPC-4, 4.2.5.1), or 0 without one.
     pub want: u8,
+    /// How many bytes there were.
     pub have: u64,
 }
 

@@ -13,8 +13,11 @@ pub enum ItemKind {
 /// A ring item: its offset in the ring, and its bytes with each command id as zero.
 #[derive(Debug, Drop)]
 pub struct Item {
+    /// Where it begins, in bytes from the ring's start; a multiple of 8.
     pub at: u32,
+    /// From the low three bits of its first byte.
     pub kind: ItemKind,
+    /// The whole item, its header too, with zeros for each command id.
     pub bytes: Bytes,
 }
 
@@ -29,8 +32,11 @@ impl Model for Item {
 /// An unfinished command: its data blocks, and its payload as it stands in them.
 #[derive(Debug, Drop)]
 pub struct Held {
+    /// From 1, in the order in which the device accepted commands.
     pub serial: u64,
+    /// Numbers of data blocks, from 0, rising; none where the command carries no bytes.
     pub blocks: BlockList,
+    /// As many bytes as the command sends or asks for, without the rest of its last block.
     pub payload: Bytes,
 }
 
@@ -52,8 +58,11 @@ pub type HeldList = Listed<Held>;
 /// serial.
 #[derive(Debug, Drop)]
 pub struct Dump {
+    /// 128 bytes, from the region's start.
     pub mailbox: Bytes,
+    /// Laid and not cleared, the earliest first; task management and padding among them.
     pub items: Items,
+    /// None of the commands that wait for room: these have no blocks.
     pub held: HeldList,
 }
 

@@ -101,9 +101,13 @@ impl Event {
 /// One entry of a journal: the device's number, an event with its answer, and the number of completions that it logged.
 #[derive(Debug, Drop)]
 pub struct Entry {
+    /// From 0, in the order in which the devices were made.
     pub device: u32,
+    /// What was asked of the device.
     pub event: Event,
+    /// Of the event's own kind.
     pub answer: Answer,
+    /// How many completions the event appended to the device's log.
     pub logged: u64,
 }
 

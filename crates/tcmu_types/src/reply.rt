@@ -23,8 +23,11 @@ impl ScsiStatus {
 /// Sense data (SPC-4, 4.5): the key, of 0h to Fh, and the additional sense code with its qualifier.
 #[derive(Clone, Copy, Debug, PartialEq, Eq)]
 pub struct Sense {
+    /// SENSE KEY, 0h to Fh: the low half of byte 2 of the fixed format (SPC-4, 4.5.3).
     pub key: u8,
+    /// ADDITIONAL SENSE CODE: byte 12 of the fixed format (SPC-4, 4.5.3).
     pub asc: u8,
+    /// ADDITIONAL SENSE CODE QUALIFIER: byte 13 of the fixed format (SPC-4, 4.5.3).
     pub ascq: u8,
 }
 
@@ -44,8 +47,11 @@ impl Model for Sense {
 /// What a handler answers: a status, sense data exactly with CHECK CONDITION, and bytes only with GOOD.
 #[derive(Debug, Drop)]
 pub struct Reply {
+    /// The handler's status byte (SAM-5, 5.3).
     pub status: ScsiStatus,
+    /// Some exactly where the status is CHECK CONDITION.
     pub sense: Option<Sense>,
+    /// The data-in bytes; empty unless the status is GOOD.
     pub payload: Bytes,
 }
 
@@ -78,11 +84,17 @@ impl Reply {
 /// One completion: the serial, initiator and task tag of its command, and what the initiator gets.
 #[derive(Debug, Drop)]
 pub struct Done {
+    /// From 1, in the order in which the device accepted commands.
     pub serial: u64,
+    /// The initiator that sent the command, and gets this.
     pub init: Name,
+    /// The initiator's own number of the command (SAM-5); it need not be unique.
     pub tag: u32,
+    /// Of the handler, or of the target where it ends the command itself (SAM-5, 5.3).
     pub status: ScsiStatus,
+    /// None where the completion carries no sense data.
     pub sense: Option<Sense>,
+    /// The data-in bytes, at most as many as the command asked for.
     pub payload: Bytes,
 }
 

@@ -10,6 +10,7 @@ use thiserror::Error;
 /// in the text comes before all of them; `Colon` names its first place, in bytes from 0.
 #[derive(Clone, Copy, Debug, PartialEq, Eq, Error)]
 pub enum ConfigFault {
+    /// An offset in bytes, below the text's length.
     #[error("a colon at byte {0}")]
     Colon(u64),
     #[error("no tcm-user/ in front")]

@@ -19,14 +19,18 @@ pub struct Receipt<A, T> {
 /// What was asked last, and what was told. It has no bytes.
 #[derive(Drop)]
 pub struct Note<A, T> {
+    /// A copy for proofs of what the value was asked.
     pub ask: Snapshot<A>,
+    /// A copy for proofs of the value's answer.
     pub told: Snapshot<T>,
 }
 
 /// What the slot has: the value, and a note of the last ask that was told something, from which the pass gets its receipt.
 #[derive(Drop)]
 pub struct Slot<K, A, T> {
+    /// None while the pass that has the turn has moved the value out.
     pub value: Option<K>,
+    /// None before the first ask, and where the last one was told nothing.
     pub note: Option<Note<A, T>>,
 }
 
@@ -44,13 +48,16 @@ pub struct View<K, E, A, T> {
     pub holds: bool,
     /// The history of the value, while it holds the turn.
     pub kept: LinkedList<E>,
+    /// One for each ask that was told something, those of passes joined to it too.
     pub receipts: LinkedList<Receipt<A, T>>,
 }
 
 /// What is fixed when a turn is made: the value as it was then, and the number of all parts.
 #[derive(Drop)]
 pub struct Opening<K> {
+    /// A copy for proofs of the value that was put behind the turn.
     pub value: Snapshot<K>,
+    /// From 1, and below 2^32; the passes' parts sum to it.
     pub parts: u64,
 }
 
