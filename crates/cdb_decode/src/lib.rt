@@ -1,7 +1,6 @@
 //! Command descriptor blocks, decoded into operations (SPC-4, SBC-3).
 #![tactic(auto)]
 
-mod opcode;
 mod table;
 #[cfg(test)]
 mod tests;

@@ -4,10 +4,9 @@ ghost use Rattle.byteorder.specs.Endian.{big_from};
 ghost use Rattle.scsi_model.specs.Decoding.{decoded, ruled, rule, asks_page, asked_page, inquiry_page, is_vpd_page, is_mode_page, no_high_bits, no_low_bit, no_low_bits, same_count, count6, IsDecoded};
 ghost use Rattle.scsi_model.specs.declared.op.Op.TheVariants.{RequestSense, Inquiry, ModeSense, Capacity16, ReportLuns, Unmap, CompareWrite};
 
-use crate::opcode;
-use scsi_model::{CdbFault, MAXIMUM_WRITE_SAME_LENGTH, Op};
-use tcmu_types::Cdb;
+use scsi_model::{CdbFault, MAXIMUM_WRITE_SAME_LENGTH, Op, pages};
 use tcmu_types::big_endian::{be_u16_at, be_u32_at, be_u64_at};
+use tcmu_types::{Cdb, opcode};
 
 /// What a command descriptor block asks, or why it asks nothing: `Opcode` exactly where its operation code is not in the table,
 /// and `Field` with the lowest byte of which a field breaks its rule (SPC-4 and SBC-3, by the names of the commands).
@@ -196,14 +195,23 @@ fn request_sense(bytes: &[u8]) -> Result<Op, CdbFault>
 fn is_vpd_page(page: u8) -> bool
     ensures { result ≡ is_vpd_page page }
 {
-    matches!(page, 0x00 | 0x80 | 0x83 | 0xb0)
+    matches!(
+        page,
+        pages::SUPPORTED_VPD_PAGES
+            | pages::UNIT_SERIAL_NUMBER
+            | pages::DEVICE_IDENTIFICATION
+            | pages::BLOCK_LIMITS
+    )
 }
 
 /// The mode pages that are served: Caching, Control and all pages, with PC at 0, the current values.
 fn is_mode_page(page: u8) -> bool
     ensures { result ≡ is_mode_page page }
 {
-    matches!(page, 0x08 | 0x0a | 0x3f)
+    matches!(
+        page,
+        pages::CACHING | pages::CONTROL | pages::ALL_MODE_PAGES
+    )
 }
 
 /// INQUIRY: with EVPD a served page, and else no page.
@@ -253,7 +261,7 @@ fn read_capacity_16(bytes: &[u8]) -> Result<Op, CdbFault>
     ensures value { result ≡ ruled (rule 1 (not (slice_index bytes.now 1 % 32 == 0x10)) ∷ []) (Capacity16 (big_from 10 4 bytes.now)) }
     ensures sound { IfOk result IsDecoded }
 {
-    if bytes[1] % 32 != 0x10 {
+    if bytes[1] % 32 != pages::READ_CAPACITY_16 {
         return Err(CdbFault::Field(1));
     }
     Ok(Op::Capacity16 {

@@ -5,6 +5,7 @@ mod closings;
 mod waiting;
 
 pub use closings::{
-    COMMUNICATION_TIME_OUT, INTERNAL_TARGET_FAILURE, closing, ending, reset_completion, reset_ending,
+    COMMUNICATION_TIME_OUT, INTERNAL_TARGET_FAILURE, closing, ending, reset_completion,
+    reset_ending,
 };
 pub use waiting::{DelayedCommand, DelayedCommands};

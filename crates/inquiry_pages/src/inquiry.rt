@@ -5,10 +5,18 @@ ghost use Rattle.scsi_model.specs.Decoding.{is_vpd_page};
 
 use byteorder::{BigEndian, ByteOrder};
 use scsi_model::{
-    MAXIMUM_UNMAP_DESCRIPTOR_COUNT, MAXIMUM_UNMAP_LBA_COUNT, MAXIMUM_WRITE_SAME_LENGTH,
+    MAXIMUM_UNMAP_DESCRIPTOR_COUNT, MAXIMUM_UNMAP_LBA_COUNT, MAXIMUM_WRITE_SAME_LENGTH, pages,
 };
 use std::alloc::Global;
 use tcmu_types::{Bytes, Name, NoMemory};
+
+/// The codes of the pages that are served, rising.
+const SERVED_PAGES: [u8; 4] = [
+    pages::SUPPORTED_VPD_PAGES,
+    pages::UNIT_SERIAL_NUMBER,
+    pages::DEVICE_IDENTIFICATION,
+    pages::BLOCK_LIMITS,
+];
 
 /// Standard INQUIRY data, 36 bytes (SPC-4): a direct access block device, with VERSION 05h (SPC-3).
 #[tactic(auto, unfolding(scsi_model::specs::Pages::standard_inquiry))]
@@ -69,9 +77,9 @@ pub fn vpd_page(alloc: Global, name: &Name, page: u8) -> Result<Bytes, NoMemory>
 {
     let name = name.as_bytes();
     match page {
-        0x00 => vital_page(alloc, page, &[0x00, 0x80, 0x83, 0xb0]),
-        0x80 => vital_page(alloc, page, name),
-        0x83 => vital_page(alloc, page, &designator(alloc, name)?),
-        _ => vital_page(alloc, 0xb0, &block_limits()),
+        pages::SUPPORTED_VPD_PAGES => vital_page(alloc, page, &SERVED_PAGES),
+        pages::UNIT_SERIAL_NUMBER => vital_page(alloc, page, name),
+        pages::DEVICE_IDENTIFICATION => vital_page(alloc, page, &designator(alloc, name)?),
+        _ => vital_page(alloc, pages::BLOCK_LIMITS, &block_limits()),
     }
 }

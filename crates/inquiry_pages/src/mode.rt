@@ -3,16 +3,36 @@ ghost use Rattle.std.specs.Prelude.{◌≡◌, ◌≤◌, ◌+◌, ◌++◌, [],
 ghost use Rattle.scsi_model.specs.Pages.{mode_sense, mode_pages};
 ghost use Rattle.scsi_model.specs.Decoding.{is_mode_page};
 
+use scsi_model::pages;
 use std::alloc::Global;
 use tcmu_types::{Bytes, NoMemory};
 
 /// The Caching mode page (SBC-3), its code and its length before zeros.
 const CACHING_PAGE: [u8; 20] = [
-    0x08, 0x12, 0, 0, 0, 0, 0, 0, 0, 0, 0, 0, 0, 0, 0, 0, 0, 0, 0, 0,
+    pages::CACHING,
+    0x12,
+    0,
+    0,
+    0,
+    0,
+    0,
+    0,
+    0,
+    0,
+    0,
+    0,
+    0,
+    0,
+    0,
+    0,
+    0,
+    0,
+    0,
+    0,
 ];
 
 /// The Control mode page (SPC-4), its code and its length before zeros.
-const CONTROL_PAGE: [u8; 12] = [0x0a, 0x0a, 0, 0, 0, 0, 0, 0, 0, 0, 0, 0];
+const CONTROL_PAGE: [u8; 12] = [pages::CONTROL, 0x0a, 0, 0, 0, 0, 0, 0, 0, 0, 0, 0];
 
 /// The mode parameter header (SPC-4), and these pages behind it.
 fn with_header(
@@ -40,8 +60,8 @@ pub fn mode_sense(alloc: Global, page: u8, protected: bool) -> Result<Bytes, NoM
     ensures { IfOk result (λ bytes. bytes.items ≡ mode_sense page protected) }
 {
     match page {
-        0x08 => with_header(alloc, protected, &CACHING_PAGE, &[]),
-        0x0a => with_header(alloc, protected, &CONTROL_PAGE, &[]),
+        pages::CACHING => with_header(alloc, protected, &CACHING_PAGE, &[]),
+        pages::CONTROL => with_header(alloc, protected, &CONTROL_PAGE, &[]),
         _ => with_header(alloc, protected, &CACHING_PAGE, &CONTROL_PAGE),
     }
 }

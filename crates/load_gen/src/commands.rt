@@ -6,13 +6,8 @@ ghost use Rattle.text_model.specs.Load.{load_cdb, load_command, load_fill, load_
 
 use crate::numbers::{load_count, load_fill, load_lba, load_writes};
 use std::alloc::Global;
+use tcmu_types::opcode::{READ_10, WRITE_10};
 use tcmu_types::{Bytes, Cdb, Command, LOGICAL_BLOCK, Name, NoMemory};
-
-/// The operation code READ(10) (SBC-3).
-const READ_10: u8 = 0x28;
-
-/// The operation code WRITE(10) (SBC-3).
-const WRITE_10: u8 = 0x2a;
 
 /// READ(10) or WRITE(10), by its operation code.
 #[tactic(auto, unfolding(text_model::specs::Load::load_cdb))]

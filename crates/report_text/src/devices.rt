@@ -50,12 +50,7 @@ fn push_config(out: &mut Vec<u8>, config: &Config) -> Result<(), NoMemory>
 }
 
 /// Appends a word and a number, unless the number is the usual one.
-fn push_unless(
-    out: &mut Vec<u8>,
-    word: &[u8],
-    usual: u32,
-    n: u32,
-) -> Result<(), NoMemory>
+fn push_unless(out: &mut Vec<u8>, word: &[u8], usual: u32, n: u32) -> Result<(), NoMemory>
     ensures { OnOk result (out.new.items ≡ out.old.items ++ (if n == usual then [] else word.now ++ decimal n)) }
 {
     if n == usual {

@@ -52,11 +52,7 @@ fn push_line(
     push_all(out, b"\n")
 }
 
-fn push_completions(
-    out: &mut Vec<u8>,
-    name: &[u8],
-    logged: &[Done],
-) -> Result<(), NoMemory>
+fn push_completions(out: &mut Vec<u8>, name: &[u8], logged: &[Done]) -> Result<(), NoMemory>
     ensures { OnOk result (out.new.items ≡ out.old.items ++ flat_map (completion_text name.now) logged.now) }
 {
     for done in logged {

@@ -57,14 +57,14 @@ fn lines(rt: HostRuntime) -> Result<(), Fail> {
     let tick = event_line(alloc, &name, 0, &Event::Tick(5), &Answer::Logged(1))?;
     let logged = completion_line(alloc, &name, &done[0])?;
     assert_eq!(rt; tick.as_slice(), b"tick d0 5 # expired 1\n".as_slice());
-    assert_eq!(rt; logged.as_slice(), b"# done d0 3 a 7 02 05/21/00 -\n".as_slice());
+    assert_eq!(rt;
+        logged.as_slice(),
+        b"# done d0 3 a 7 02 05/21/00 -\n".as_slice()
+    );
     let mut text = Bytes::new(alloc);
     end_text(alloc, &name, 2, &mut text)?;
     runs_text(alloc, &[0xab, 0xab, 0x0c], &mut text)?;
-    assert_eq!(rt;
-        text.as_slice(),
-        b"# open d0 2\nab*2,0c*1".as_slice()
-    );
+    assert_eq!(rt; text.as_slice(), b"# open d0 2\nab*2,0c*1".as_slice());
     Ok(())
 }
 

@@ -4,6 +4,7 @@
 
 pub mod laws;
 mod op;
+pub mod pages;
 pub mod senses;
 
 pub use op::{

@@ -2,6 +2,7 @@
 ghost use Rattle.std.specs.Prelude.{◌≡◌, ◌≢◌, ◌≤◌, ◌<◌, ◌↔◌, IfOk, IfErr, IsOk, length};
 ghost use Rattle.tcmu_types.specs.Rules.{IsCdb, group_length, wanted_length, takes_payload, is_data_out};
 
+use crate::opcode;
 use arrayvec::ArrayVec;
 use std::marker::Model;
 use thiserror::Error;
@@ -100,7 +101,15 @@ fn is_data_out(code: u8) -> bool
 {
     matches!(
         code,
-        0x0a | 0x2a | 0xaa | 0x8a | 0x41 | 0x93 | 0x42 | 0x89 | 0x5f
+        opcode::WRITE_6
+            | opcode::WRITE_10
+            | opcode::WRITE_12
+            | opcode::WRITE_16
+            | opcode::WRITE_SAME_10
+            | opcode::WRITE_SAME_16
+            | opcode::UNMAP
+            | opcode::COMPARE_AND_WRITE
+            | opcode::PERSISTENT_RESERVE_OUT
     )
 }
 

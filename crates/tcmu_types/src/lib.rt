@@ -14,6 +14,7 @@ mod laws;
 mod list;
 pub mod little_endian;
 mod name;
+pub mod opcode;
 mod reply;
 mod settings;
 mod sizes;

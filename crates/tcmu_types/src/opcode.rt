@@ -1,4 +1,4 @@
-//! The operation codes that are served, by the names of the commands (SPC-4, SBC-3).
+//! Operation codes by the names of their commands (SPC-4, SBC-3): those that are served, and those that send data.
 
 pub const TEST_UNIT_READY: u8 = 0x00;
 
@@ -23,6 +23,8 @@ pub const SYNCHRONIZE_CACHE_10: u8 = 0x35;
 pub const WRITE_SAME_10: u8 = 0x41;
 
 pub const UNMAP: u8 = 0x42;
+
+pub const PERSISTENT_RESERVE_OUT: u8 = 0x5f;
 
 pub const READ_16: u8 = 0x88;
 
