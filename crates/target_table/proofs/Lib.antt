@@ -1,3 +1,6 @@
 pub mod Ordered
 pub mod Places
-pub mod Changes
+pub mod Added
+pub mod TakenOut
+pub mod Expiring
+pub mod PlacesAdded

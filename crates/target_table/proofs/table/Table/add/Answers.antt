@@ -2,7 +2,7 @@ use Rattle.std.proofs.Common.{◌≡◌, ◌-◌, ◌+◌, ◌≤◌, ◌<◌, �
 use Rattle.region_model.specs.Pending.{PendingData}
 use Rattle.target_table.specs.Kept.{rows_of}
 use Rattle.target_table.proofs.Ordered.{all-precede-same}
-use Rattle.target_table.proofs.Changes.{Adding, last-free, added-fresh, added-kept, added-view, length-added}
+use Rattle.target_table.proofs.Added.{Adding, last-free, added-fresh, added-kept, added-view, length-added}
 use Rattle.target_table.proofs.table.Table.add.Goals as goal
 
 pub overflow_sub-id : goal.overflow_sub-id

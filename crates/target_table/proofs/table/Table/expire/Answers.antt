@@ -1,6 +1,6 @@
 use Rattle.std.proofs.Common.{◌-◌, Some, slice_set, sym, refl, ◌∙◌, arith}
 use Rattle.std.proofs.lemmas.Option.{none-some}
-use Rattle.target_table.proofs.Changes.{Expiring, waiting-found, expiring, expired-kept, expired-rows, expired-fits}
+use Rattle.target_table.proofs.Expiring.{Expiring, waiting-found, expiring, expired-kept, expired-rows, expired-fits}
 use Rattle.target_table.proofs.table.Table.expire.Goals as goal
 
 pub unreachable-requires : goal.unreachable-requires

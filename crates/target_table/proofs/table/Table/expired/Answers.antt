@@ -1,5 +1,5 @@
 use Rattle.std.proofs.Common.{arith}
-use Rattle.target_table.proofs.Changes.{expired-fits}
+use Rattle.target_table.proofs.Expiring.{expired-fits}
 use Rattle.target_table.proofs.table.Table.expired.Goals as goal
 
 pub overflow_cast-result : goal.overflow_cast-result

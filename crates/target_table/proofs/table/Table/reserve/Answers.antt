@@ -1,6 +1,6 @@
 use Rattle.std.proofs.Common.{◌≡◌, ◌+◌, ◌∷◌, ◌++◌, [], None, length, length-append, vec_len, sym, ap, ◌∙◌, arith}
 use Rattle.std.proofs.lemmas.Bool.{eqb-true}
-use Rattle.target_table.proofs.Changes.{Placing, placed-kept, placed-rows}
+use Rattle.target_table.proofs.PlacesAdded.{Placing, placed-kept, placed-rows}
 use Rattle.target_table.proofs.table.Table.reserve.Goals as goal
 
 placing : (c : goal.After-append-then-len-lt-MOST_PLACES) → Placing c.self.inside.places.items c.self.inside.free.items c.self.inside.order.items c.self.inside.expired

@@ -3,7 +3,8 @@ use Rattle.std.specs.List.Sorted.{IsNonDecreasingBy, IsPartitionPoint}
 use Rattle.tcmu_types.specs.Lists.{without_first}
 use Rattle.target_table.specs.declared.table.Ranked.{Ranked}
 use Rattle.target_table.proofs.Places.{at-tells, serials-rise}
-use Rattle.target_table.proofs.Changes.{Taking, Ranking, rank-facts, taken-some, taken-tells, taken-kept, taken-view, missing-view, length-added, less}
+use Rattle.target_table.proofs.TakenOut.{Taking, Ranking, rank-facts, taken-some, taken-tells, taken-kept, taken-view, missing-view, less}
+use Rattle.target_table.proofs.Added.{length-added}
 use Rattle.target_table.proofs.table.Table.take.Goals as goal
 
 pub returns-in_err-pending-clause-value : goal.returns-in_err-pending-clause-value
