@@ -17,7 +17,6 @@ use Rattle.tcmu_model.specs.Events.{is_open}
 use Rattle.tcmu_model.specs.Sound.{open_count, is_open_at, is_delayed_at, times_logged, times_open, IsSound}
 use Rattle.scsi_model.specs.Scsi.{Serves}
 use Rattle.text_model.specs.ScenarioData.{DeviceLineData}
-use Rattle.text_model.specs.Several.{Journaled, is_of, RunLogs}
 use Rattle.tcmu_model.specs.Journals.{Has, WasAccepted, IsExplained}
 use Rattle.tcmu_types.specs.Numbers.{Differ}
 use Rattle.tcmu_types.specs.Lists.{Every}
@@ -27,19 +26,25 @@ use Rattle.tcmu_model.proofs.Drained as emptied
 use Rattle.tcmu_types.proofs.Everies.{every_at}
 use Rattle.tcmu_model.proofs.Journals.{run_explains, entry_explains, handler_asked}
 use Rattle.tcmu_model.proofs.Runs.{sound_run}
+use Rattle.tcmu_model.proofs.Moments.{settings_run}
+use Rattle.text_model.specs.Journals.{Journaled, is_of, RunLogs, entries_of}
 use Rattle.tcmu_types.proofs.Readings.{same_some}
 use Rattle.tcmu_types.proofs.Places.{get_within}
 use Rattle.load_run.specs.Tallies.{size_in, GivesNext, RunNumbers}
 use Rattle.load_run.proofs.Tallying.{numbered, counted}
-use Rattle.text_laws.specs.Replays.{entries_of, OpenAs}
+use Rattle.text_laws.specs.Replays.{OpenAs}
 use Rattle.text_laws.proofs.Accepted.{makes_accepts}
+use Rattle.region_model.specs.Picture.{picture_of}
+use Rattle.text_model.specs.Scenario.{scenario_limits}
+use Rattle.text_model.specs.Printed.{entries_in}
+use Rattle.text_model.proofs.PrintedJournals.{legal_entries}
+use Rattle.text_model.proofs.ServedLaws.{scenario_served}
 use Rattle.text_laws.proofs.Carried.{spelled_read}
 use Rattle.text_laws.proofs.OneReading.{opened_sound}
 use Rattle.text_laws.proofs.Replays.{opened_count, replay_asked, replay_journal}
 use Rattle.tcmu_top.proofs.Opened.{open_as}
 use Rattle.tcmu_top.specs.Laws.{completions_of, accepts, CompletesOnce, CommandsComplete, DevicesStay}
 use Rattle.tcmu_top.proofs.Legal.{logs_run}
-use Rattle.tcmu_top.proofs.Settings.{settings_stay}
 
 -- ---- what is logged
 
@@ -165,7 +170,7 @@ completes_once R l d d' js opened sound done run =
     let numbers = run_numbers R d d' es made in
     let started : d.state.accepted ≡ 0 = ap (λ (x : Device). x.state.accepted) opened.1 in
     let explains = run_explains R l.settings l.name opened.0 es d' (subst (λ (x : Device). Run R x es d') opened.1 made) in
-    let settings : d'.state.settings ≡ l.settings = settings_stay R d d' es made ∙ ap (λ (x : Device). x.state.settings) opened.1 in
+    let settings : d'.state.settings ≡ l.settings = settings_run R d d' es made ∙ ap (λ (x : Device). x.state.settings) opened.1 in
     let once : (s : ℕ) (c : CommandData) → WasAccepted es s c → times_logged (completions_of js) s + times_open d'.state s ≡ 1 =
     λ s c was.
     let given = accepted_given R d d' es s c numbers was in
@@ -199,17 +204,18 @@ opens_at (k ∷ ls) (x ∷ ds) (suc at) l d h p q = opens_at ls ds at l d h.1 p 
 pub devices_stay : DevicesStay
 devices_stay files bytes text s read is =
     let opens = open_as files s.devices is.opened is.opens in
-    let journal = replay_journal Serves bytes text s is.opened read opens is.replay in
+    let journal = replay_journal Serves picture_of bytes text s is.opened read (scenario_served scenario_limits bytes s read).no_dumps opens is.replay in
     record { opened = opened_count s.devices is.opened opens; ends = journal.count; entries = journal.devices }
 
 pub commands_complete : CommandsComplete
 commands_complete files bytes text s read is at l d named found =
     let ds = is.opened in
+    let js = entries_in is.replay.printed in
     let opens = open_as files s.devices ds is.opens in
-    let journal = replay_journal Serves bytes text s ds read opens is.replay in
-    let asked = replay_asked Serves bytes text s ds read opens is.replay in
-    let start = get_within ds at (omega (arith, slice_get_within is.replay.ends at d found, journal.count, opened_count s.devices ds opens)) in
-    completes_once Serves l start.0 d (filter (is_of at) is.replay.journal) (opens_at s.devices ds at l start.0 opens named start.1)
-    (every_at (λ (x : Device). IsSound x.state) ds at start.0 (opened_sound s.devices ds (spelled_read _ bytes s read) opens) start.1)
+    let asked = replay_asked Serves picture_of bytes text s ds read opens is.replay in
+    let legal = legal_entries Serves picture_of ds is.replay.printed is.replay.ends is.replay.legal in
+    let start = get_within ds at (omega (arith, slice_get_within is.replay.ends at d found, asked.count, opened_count s.devices ds opens)) in
+    completes_once Serves l start.0 d (filter (is_of at) js) (opens_at s.devices ds at l start.0 opens named start.1)
+    (every_at (λ (x : Device). IsSound x.state) ds at start.0 (opened_sound s.devices ds (spelled_read scenario_limits bytes s read) opens) start.1)
     (every_at (λ (x : Device). drain_event x.state ≡ None) is.replay.ends at d asked.rest found)
-    (is.replay.legal at start.0 d start.1 found)
+    (legal at start.0 d start.1 found)

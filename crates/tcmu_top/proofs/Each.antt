@@ -10,19 +10,19 @@ use Rattle.tcmu_model.specs.Steps.{HandlerRelation, Run}
 use Rattle.tcmu_model.specs.Sound.{IsSound}
 use Rattle.tcmu_types.specs.Lists.{Every}
 use Rattle.text_model.specs.ScenarioData.{DeviceLineData}
-use Rattle.text_model.specs.Several.{Journaled, IsLegalEach, journaled_text}
 use Rattle.tcmu_types.proofs.Everies.{every-front, every-back, every_at}
 use Rattle.tcmu_model.proofs.Runs.{sound_run}
 use Rattle.tcmu_model.specs.Work.{HasOutcomes}
+use Rattle.text_model.specs.Journals.{Journaled, IsLegalEach, journaled_text, entries_of}
 use Rattle.tcmu_top.specs.Playing.{CanEnd, WroteOn, WroteOnFront, CanEndEach, WroteEach, WroteEachFront}
-use Rattle.tcmu_top.proofs.Legal.{AreOf, Piece, piece_of, piece_append, piece_count, piece_text, legal_none, legal_one, legal_append}
+use Rattle.tcmu_top.proofs.Legal.{Piece, piece_of, piece_append, piece_count, piece_text, legal_none, legal_one, legal_append}
 use Rattle.tcmu_top.proofs.RunTexts.{run_append}
 use Rattle.tcmu_top.proofs.Telling.{gained_none, gained_more, gained_as, front_behind}
 use Rattle.tcmu_types.proofs.Places.{get_set}
+use Rattle.text_laws.proofs.Matching.{AreOf}
 use Rattle.text_laws.proofs.Sets.{every_set}
-use Rattle.text_laws.specs.Replays.{entries_of}
 
--- what entries_of there may be, and where they may lead
+-- what entries there may be, and where they may lead
 abbrev pub Leads : Type 1
 Leads = List EntryData → List Device → Type 0
 

@@ -9,19 +9,21 @@ use Rattle.tcmu_model.specs.Sound.{IsSound}
 use Rattle.tcmu_types.specs.Lists.{Every}
 use Rattle.tcmu_model.specs.Work.{HasOutcomes}
 use Rattle.text_model.specs.ScenarioData.{LineData}
-use Rattle.text_model.specs.Several.{Journaled, DrainsEach, ReplaysEach}
+use Rattle.text_model.specs.Replay.{Plays}
+use Rattle.text_model.specs.Several.{DrainsEach, ReplaysEach}
 use Rattle.tcmu_model.proofs.GoesOn.{drains_run}
 use Rattle.tcmu_model.proofs.Runs.{sound_run}
 use Rattle.text_model.specs.ScenarioRules.{IsFitFor}
+use Rattle.text_model.specs.Journals.{Journaled, entries_of}
 use Rattle.tcmu_top.specs.InPart.{DrainsInPart, DrainsEachInPart}
 use Rattle.tcmu_top.proofs.Each.{Leads, Ending}
-use Rattle.tcmu_top.proofs.Legal.{AreOf, piece_of, legal_none, legal_one, legal_append, drains_own, plays_own}
+use Rattle.tcmu_top.proofs.Legal.{piece_of, legal_none, legal_one, legal_append, plays_own}
 use Rattle.tcmu_top.proofs.Places.{agrees}
 use Rattle.tcmu_top.proofs.Playing.{drained, plays_total, plays_run}
 use Rattle.tcmu_types.proofs.Places.{get_within, drop_from}
 use Rattle.tcmu_types.proofs.Everies.{every_at}
+use Rattle.text_laws.proofs.Matching.{AreOf, drains_own}
 use Rattle.text_laws.proofs.Sets.{every_set}
-use Rattle.text_laws.specs.Replays.{entries_of}
 
 -- ==== drains in order
 
@@ -30,7 +32,7 @@ abbrev pub From : (List Device → List EntryData → List Device → Type 0) �
 From So at ds es ends = So (drop at ds) es (drop at ends) × (take at ends ≡ take at ds)
 
 abbrev pub DrainsFrom : HandlerRelation → ℕ → List Device → Leads
-DrainsFrom R at ds = From (DrainsEach R at) at ds
+DrainsFrom R at ds = From (DrainsEach (Plays R) at) at ds
 
 abbrev pub DrainsFromInPart : HandlerRelation → ℕ → List Device → Leads
 DrainsFromInPart R at ds = From (DrainsEachInPart R at) at ds
@@ -53,7 +55,7 @@ from_step So Next at ds ends d d' es rest found one h =
 pub drains_step : (R : HandlerRelation) (at : ℕ) (ds ends : List Device) (d d' : Device) (es rest : List EntryData) → slice_get ds at ≡ Some d → Drains R at d es d'
     → DrainsFrom R (at + 1) (slice_set ds at d') rest ends → DrainsFrom R at ds (es ++ rest) ends
 drains_step R at ds ends d d' es rest found drain h =
-    from_step (DrainsEach R at) (DrainsEach R (at + 1)) at ds ends d d' es rest found (λ others k. (es, rest, d', others, refl, refl, drain, k)) h
+    from_step (DrainsEach (Plays R) at) (DrainsEach (Plays R) (at + 1)) at ds ends d d' es rest found (λ others k. (es, rest, d', others, refl, refl, drain, k)) h
 
 pub drains_part_step : (R : HandlerRelation) (at : ℕ) (ds ends : List Device) (d d' : Device) (es rest : List EntryData) → slice_get ds at ≡ Some d → Drains R at d es d'
     → DrainsFromInPart R (at + 1) (slice_set ds at d') rest ends → DrainsFromInPart R at ds (es ++ rest) ends
@@ -71,7 +73,7 @@ drains_part_stop R at ds d d' es found drain =
     )
 
 pub drains_none : (R : HandlerRelation) (at : ℕ) (ds : List Device) → length ds ≤ at → DrainsFrom R at ds [] ds
-drains_none R at ds h = (subst (λ (l : List Device). DrainsEach R at l [] l) (sym (drop_all at ds h)) (refl, refl), refl)
+drains_none R at ds h = (subst (λ (l : List Device). DrainsEach (Plays R) at l [] l) (sym (drop_all at ds h)) (refl, refl), refl)
 
 -- ==== endings
 
@@ -111,8 +113,8 @@ ending_drains R at ds within outcomes sound = let k = rest_of at (length ds) wit
     rest_of (suc n) (suc m) h = let r = rest_of n m (omega (arith, h)) in (r.0, omega (arith, r.1))
 
 -- and so can a replay of lines
-pub ending_lines : (R : HandlerRelation) (ds : List Device) (ls : List LineData) → HasOutcomes R → Every (λ d. IsSound d.state) ds → Every (IsFitFor (length ds)) ls → Ending R (ReplaysEach R ds ls) ds
-ending_lines R ds [] outcomes sound fit = ending_as R (ReplaysEach R ds []) (DrainsFrom R 0 ds) ds (ending_drains R 0 ds (omega arith) outcomes sound) (λ es ends h. h.0)
+pub ending_lines : (R : HandlerRelation) (ds : List Device) (ls : List LineData) → HasOutcomes R → Every (λ d. IsSound d.state) ds → Every (IsFitFor (length ds)) ls → Ending R (ReplaysEach (Plays R) ds ls) ds
+ending_lines R ds [] outcomes sound fit = ending_as R (ReplaysEach (Plays R) ds []) (DrainsFrom R 0 ds) ds (ending_drains R 0 ds (omega arith) outcomes sound) (λ es ends h. h.0)
 ending_lines R ds (l ∷ ls) outcomes sound fit =
     let d = get_within ds l.device fit.0.device in
     let here = every_at (λ (x : Device). IsSound x.state) ds l.device d.0 sound d.1 in
@@ -121,5 +123,5 @@ ending_lines R ds (l ∷ ls) outcomes sound fit =
     let ds' = slice_set ds l.device first.1 in
     let still = every_set (λ (x : Device). IsSound x.state) ds l.device first.1 sound (sound_run R d.0 first.1 first.0 here run) in
     let last = ending_lines R ds' ls outcomes still (subst (λ (n : ℕ). Every (IsFitFor n) ls) (sym (length-set ds l.device first.1)) fit.1) in
-    ending_more R (ReplaysEach R ds (l ∷ ls)) (ReplaysEach R ds' ls) l.device ds d.0 first.1 first.0 d.1 run (plays_own R l.device d.0 first.1 l.what first.0 first.2) last
+    ending_more R (ReplaysEach (Plays R) ds (l ∷ ls)) (ReplaysEach (Plays R) ds' ls) l.device ds d.0 first.1 first.0 d.1 run (plays_own R l.device d.0 first.1 l.what first.0 first.2) last
     (λ rest ends h. (first.0, rest, d.0, first.1, refl, d.1, first.2, h))

@@ -8,7 +8,7 @@ use Rattle.tcmu_model.specs.Steps.{Makes, asked, moved}
 use Rattle.scsi_model.specs.Runs.{IsRun}
 use Rattle.scsi_model.specs.Scsi.{Serves}
 use Rattle.scsi_model.proofs.Running.{run_none, run_then}
-use Rattle.text_model.specs.Several.{Journaled, RunLogs}
+use Rattle.text_model.specs.Journals.{Journaled, RunLogs}
 use Rattle.block_engine.proofs.Settling.{request_runs}
 
 same_medium : (d d' : Device) (s : DeviceState) → d' ≡ moved d s → IsRun d.medium d'.medium

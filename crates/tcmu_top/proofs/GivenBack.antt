@@ -17,7 +17,7 @@ use Rattle.tcmu_model.specs.Device.{Device}
 use Rattle.text_model.specs.Config.{MediumData, InMemory, InFile}
 use Rattle.text_model.specs.ScenarioData.{DeviceLineData}
 use Rattle.text_model.specs.Said.{same_file}
-use Rattle.text_model.specs.Several.{Journaled, is_of, IsLegalEach}
+use Rattle.text_model.specs.Journals.{Journaled, is_of, IsLegalEach}
 use Rattle.tcmu_types.proofs.Readings.{same_bytes}
 use Rattle.media.specs.Opening as made
 use Rattle.media.specs.declared.make.MakeFault.{MakeFault}
@@ -42,7 +42,7 @@ open_at files (k ∷ ls) (d ∷ ds) (suc at) l h e = open_at files ls ds at l h.
 opens_told : (f : FilesState) (l : DeviceLineData) (d : Device) (name : List ℕ) → Opens (Some f) l d → l.config.kind ≡ InFile name → (has_store d.medium.below.layer ≡ true) × (is_some d.medium.below.store.bytes ≡ true)
 opens_told f l d name o kind =
     let x : OpensFile name (Some f) l.config o.0 = subst (λ (k : MediumData). OpensKind k (Some f) l.config o.0) kind o.1 in
-    let medium_is : d.medium ≡ opened_medium (x.store.size / 512) l.config.protected l.config.fails (file_below x.store.size x.store.bytes x.store.calls) = ap (λ (y : Device). y.medium) o.2 ∙ x.medium in
+    let medium_is : d.medium ≡ opened_medium (x.store.size / 512) l.config.protected l.config.fails (file_below x.store.size x.store.bytes x.store.calls x.store.syncs) = ap (λ (y : Device). y.medium) o.2 ∙ x.medium in
     let bytes_are : x.store.bytes ≡ Some x.told.0.bytes = ap (λ (s : StoreState). s.bytes) x.told.2 in
     (ap (λ (m : MediumState). has_store m.below.layer) medium_is, ap (λ (m : MediumState). is_some m.below.store.bytes) medium_is ∙ ap (λ (o : Option (List ℕ)). is_some o) bytes_are)
 
@@ -62,8 +62,10 @@ tell_files f ls ds ends js opens legal at l name e kind d' g =
 
 -- ==== one file
 
-content_same : (a b : Content) → a.bytes ≡ b.bytes → a.calls ≡ b.calls → a ≡ b
-content_same a b e h = ap (λ (x : List ℕ). record { bytes = x; calls = a.calls }) e ∙ ap (λ (n : Numbered). record { bytes = b.bytes; calls = n }) h
+pub content_same : (a b : Content) → a.bytes ≡ b.bytes → a.calls ≡ b.calls → a.syncs ≡ b.syncs → a ≡ b
+content_same a b e h k =
+    ap (λ (x : List ℕ). record { bytes = x; calls = a.calls; syncs = a.syncs }) e
+    ∙ ap (λ (n : Numbered). record { bytes = b.bytes; calls = n; syncs = a.syncs }) h ∙ ap (λ (n : ℕ). record { bytes = b.bytes; calls = b.calls; syncs = n }) k
 
 -- what is left of a device that made nothing is what its file was
 file_again : (f : FilesState) (l : DeviceLineData) (d : Device) (name : List ℕ) (place : Place) → Opens (Some f) l d → l.config.kind ≡ InFile name → Holds d.medium place → place ≡ f.places name
@@ -74,7 +76,8 @@ file_again f l d name place o kind h =
     let was = x.told.0 in
     let bytes_are : Some h.0.bytes ≡ Some was.bytes = ap (λ (xs : List ℕ). Some xs) (sym (cleared_none h.0.bytes)) ∙ sym left.bytes ∙ ap (λ (s : StoreState). s.bytes) x.told.2 in
     let calls_are : h.0.calls ≡ was.calls = left.calls ∙ ap (λ (s : StoreState). s.calls) x.told.2 in
-    h.1 ∙ ap (λ (c : Content). at_home c) (content_same h.0 was (same_Some h.0.bytes was.bytes bytes_are) calls_are) ∙ sym x.told.1
+    let syncs_are : h.0.syncs ≡ was.syncs = left.syncs ∙ ap (λ (s : StoreState). s.syncs) x.told.2 in
+    h.1 ∙ ap (λ (c : Content). at_home c) (content_same h.0 was (same_Some h.0.bytes was.bytes bytes_are) calls_are syncs_are) ∙ sym x.told.1
 
 -- the device line whose file this is
 abbrev NamedAt : List DeviceLineData → List ℕ → Type 0

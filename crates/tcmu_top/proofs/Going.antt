@@ -17,7 +17,8 @@ use Rattle.text_model.specs.ScenarioRules.{IsFitFor}
 use Rattle.tcmu_top.proofs.Each.{Aims, SoFar, sofar_first, sofar_more, sofar_stopped, sofar_done}
 use Rattle.tcmu_top.proofs.Endings.{DrainsFrom, DrainsFromInPart, drains_step, drains_part_step, drains_part_stop, drains_none, ending_drains, ending_lines}
 use Rattle.tcmu_top.proofs.InPart.{drains_part_own, plays_part_own}
-use Rattle.tcmu_top.proofs.Legal.{drains_own, plays_own}
+use Rattle.text_laws.proofs.Matching.{drains_own}
+use Rattle.tcmu_top.proofs.Legal.{plays_own}
 use Rattle.text_laws.proofs.Sets.{every_set}
 
 -- what one device keeps, all keep
@@ -33,7 +34,7 @@ count_kept R ls at n so ds ds' old new w = ap (λ (l : List Device). length l) w
 -- ==== drains
 
 abbrev pub drains_each : HandlerRelation → ℕ → List Device → Aims
-drains_each R at ds = record { whole = DrainsEach R at ds; part = DrainsEachInPart R at ds }
+drains_each R at ds = record { whole = DrainsEach (Plays R) at ds; part = DrainsEachInPart R at ds }
 
 abbrev pub drains_from : HandlerRelation → ℕ → List Device → Aims
 drains_from R at ds = record { whole = DrainsFrom R at ds; part = DrainsFromInPart R at ds }
@@ -67,7 +68,7 @@ drained_all R ls at Whole start ds old now le s = sofar_done R ls (drains_from R
 -- ==== lines
 
 abbrev pub replays_each : HandlerRelation → List Device → List LineData → Aims
-replays_each R ds ls = record { whole = ReplaysEach R ds ls; part = ReplaysEachInPart R ds ls }
+replays_each R ds ls = record { whole = ReplaysEach (Plays R) ds ls; part = ReplaysEachInPart R ds ls }
 
 abbrev pub PlaysLine : HandlerRelation → LineData → Device → List EntryData → Device → Type 0
 PlaysLine R l d es d' = Plays R l.device d l.what es d'
@@ -79,14 +80,14 @@ pub played_more : (R : HandlerRelation) (ls : List DeviceLineData) (l : LineData
     → SoFar R ls (replays_each R ds (l ∷ more)) Whole start ds old mid → WroteOn R ls l.device 1 (PlaysLine R l) ds ds' mid now → SoFar R ls (replays_each R ds' more) Whole start ds' old now
 played_more R ls l more Whole start ds ds' old mid now s w =
     sofar_more R ls (replays_each R ds (l ∷ more)) (replays_each R ds' more) Whole (PlaysLine R l) l.device 1 start ds ds' old mid now s w (λ d d' es h. plays_own R l.device d d' l.what es h)
-    (λ rest ends h k. (w.wrote.entries, rest, w.before, w.after, refl, w.found, h, subst (λ (x : List Device). ReplaysEach R x more rest ends) w.others k))
+    (λ rest ends h k. (w.wrote.entries, rest, w.before, w.after, refl, w.found, h, subst (λ (x : List Device). ReplaysEach (Plays R) x more rest ends) w.others k))
     (λ rest ends h k. inr (w.wrote.entries, rest, w.before, w.after, refl, w.found, h, subst (λ (x : List Device). ReplaysEachInPart R x more rest ends) w.others k))
 
 pub played_stopped : (R : HandlerRelation) (ls : List DeviceLineData) (l : LineData) (more : List LineData) (Whole : Aims) (start ds ds' : List Device) (old mid now : Option (List ℕ))
     → Every (IsFitFor (length ds)) more → SoFar R ls (replays_each R ds (l ∷ more)) Whole start ds old mid → WroteOnFront R ls l.device (PlaysLineInPart R l) (PlaysLine R l) ds ds' mid now
     → WroteEachFront R ls Whole.part Whole.whole start ds' old now
 played_stopped R ls l more Whole start ds ds' old mid now fit s w =
-    sofar_stopped R ls (replays_each R ds (l ∷ more)) Whole (λ d'. ReplaysEach R (slice_set ds l.device d') more) (PlaysLineInPart R l) (PlaysLine R l) l.device start ds ds' old mid now s w
+    sofar_stopped R ls (replays_each R ds (l ∷ more)) Whole (λ d'. ReplaysEach (Plays R) (slice_set ds l.device d') more) (PlaysLineInPart R l) (PlaysLine R l) l.device start ds ds' old mid now s w
     (λ d d' es h. plays_part_own R l.device d d' l.what es h)
     (λ es d d' found h. inl (d, d', found, h, refl))
     (λ d d' es h. plays_own R l.device d d' l.what es h)

@@ -7,10 +7,12 @@ use Rattle.tcmu_model.specs.Steps.{HandlerRelation, Step}
 use Rattle.tcmu_model.specs.Drain.{drain_event}
 use Rattle.text_model.specs.ScenarioData.{LineData, LineWhat}
 use Rattle.text_model.specs.ScenarioData as line
+use Rattle.text_model.specs.Replay.{Plays}
 use Rattle.text_model.specs.Several.{DrainsEach, ReplaysEach}
 use Rattle.text_model.specs.ScenarioRules.{IsFit, IsFitFor}
 use Rattle.tcmu_top.specs.InPart.{DrainsInPart, PlaysInPart, DrainsEachInPart, ReplaysEachInPart}
-use Rattle.tcmu_top.proofs.Legal.{AreOf, plays_own}
+use Rattle.text_laws.proofs.Matching.{AreOf}
+use Rattle.tcmu_top.proofs.Legal.{plays_own}
 use Rattle.tcmu_top.proofs.Places.{set_same}
 use Rattle.tcmu_types.proofs.Places.{get_within}
 
@@ -28,14 +30,14 @@ pub plays_part_own : (R : HandlerRelation) (at : ℕ) (d d' : Device) (what : Li
 plays_part_own R at d d' (line.EventLine event) es (inl none) = subst (AreOf at) (sym none.0) tt
 plays_part_own R at d d' (line.EventLine event) es (inr h) = plays_own R at d d' (line.EventLine event) es h
 plays_part_own R at d d' line.DrainLine es h = drains_part_own R at d d' es h
-plays_part_own R at d d' line.DumpLine es h = absurd h
+plays_part_own R at d d' line.DumpLine es h = plays_own R at d d' line.DumpLine es h
 
 -- ==== nothing was made
 
 none_played : (R : HandlerRelation) (at : ℕ) (d : Device) (what : LineWhat) → IsFit what → PlaysInPart R at d what [] d
 none_played R at d (line.EventLine event) fit = inl (refl, refl)
 none_played R at d line.DrainLine fit = refl
-none_played R at d line.DumpLine fit = absurd fit
+none_played R at d line.DumpLine fit = (refl, refl)
 
 none_drained : (R : HandlerRelation) (at : ℕ) (ds : List Device) → DrainsEachInPart R at ds [] ds
 none_drained R at [] = (refl, refl)
@@ -49,10 +51,10 @@ none_replayed R ds (l ∷ ls) fit =
 
 -- ==== all was made
 
-all_drained : (R : HandlerRelation) (at : ℕ) (ds : List Device) (es : List EntryData) (ends : List Device) → DrainsEach R at ds es ends → DrainsEachInPart R at ds es ends
+all_drained : (R : HandlerRelation) (at : ℕ) (ds : List Device) (es : List EntryData) (ends : List Device) → DrainsEach (Plays R) at ds es ends → DrainsEachInPart R at ds es ends
 all_drained R at [] es ends h = h
 all_drained R at (d ∷ ds) es ends h = inr (h.0, h.1, h.2, h.3, h.4, h.5, h.6, all_drained R (at + 1) ds h.1 h.3 h.7)
 
-pub all_replayed : (R : HandlerRelation) (ds : List Device) (ls : List LineData) (es : List EntryData) (ends : List Device) → ReplaysEach R ds ls es ends → ReplaysEachInPart R ds ls es ends
+pub all_replayed : (R : HandlerRelation) (ds : List Device) (ls : List LineData) (es : List EntryData) (ends : List Device) → ReplaysEach (Plays R) ds ls es ends → ReplaysEachInPart R ds ls es ends
 all_replayed R ds [] es ends h = all_drained R 0 ds es ends h
 all_replayed R ds (l ∷ ls) es ends h = inr (h.0, h.1, h.2, h.3, h.4, h.5, h.6, all_replayed R (slice_set ds l.device h.3) ls h.1 ends h.7)

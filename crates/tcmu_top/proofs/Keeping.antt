@@ -124,9 +124,9 @@ keeping_done ls ends f g h = record { named = λ at l name e k d z. h.home at l 
 -- ==== from what the calls say
 
 -- the file that a store of told bytes is
-file_of : (s : StoreState) (bs : List ℕ) → s.bytes ≡ Some bs → length bs ≡ s.size → s ≡ store_of (record { bytes = bs; calls = s.calls })
+file_of : (s : StoreState) (bs : List ℕ) → s.bytes ≡ Some bs → length bs ≡ s.size → s ≡ store_of (record { bytes = bs; calls = s.calls; syncs = s.syncs })
 file_of s bs e long =
-    ap (λ (n : ℕ). record { size = n; bytes = s.bytes; calls = s.calls }) (sym long) ∙ ap (λ (o : Option (List ℕ)). record { size = length bs; bytes = o; calls = s.calls }) e
+    ap (λ (n : ℕ). record { size = n; bytes = s.bytes; calls = s.calls; syncs = s.syncs }) (sym long) ∙ ap (λ (o : Option (List ℕ)). record { size = length bs; bytes = o; calls = s.calls; syncs = s.syncs }) e
 
 pub returned_file : (name : List ℕ) (s : StoreState) (m : MediumState) (old new : Option FilesState) → IfSome s.bytes (λ bs. length bs ≡ s.size) → IsStoredIn s m
     → ((c : Content) → s ≡ store_of c → new ≡ option_map (after_keep name c) old) → Returns (InFile name) m old new
@@ -136,8 +136,8 @@ returned_file name s m old new sized stored kept layer told = by s.bytes refl
     by None e = let none : is_some m.below.store.bytes ≡ false = ap (λ (o : Option (List ℕ)). is_some o) (stored.bytes ∙ ap (option_map (cleared m.below.store.free)) e) in absurd (false≢true (sym none ∙ told))
     by (Some bs) e =
         let long = subst (λ (o : Option (List ℕ)). IfSome o (λ bs. length bs ≡ s.size)) e sized in
-        let c : Content = record { bytes = bs; calls = s.calls } in
-        (c, record { size = long ∙ stored.size; bytes = stored.bytes ∙ ap (option_map (cleared m.below.store.free)) e; calls = stored.calls }, kept c (file_of s bs e long))
+        let c : Content = record { bytes = bs; calls = s.calls; syncs = s.syncs } in
+        (c, record { size = long ∙ stored.size; bytes = stored.bytes ∙ ap (option_map (cleared m.below.store.free)) e; calls = stored.calls; syncs = stored.syncs }, kept c (file_of s bs e long))
 
 -- a medium in memory is in no file
 pub returned_none : (k : MediumData) (m : MediumState) (old : Option FilesState) → has_store m.below.layer ≡ false → Returns k m old old

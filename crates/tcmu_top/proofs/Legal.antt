@@ -1,4 +1,4 @@
--- Journals of several devices: the runs of each device's own entries_of, and their text.
+-- Journals of several devices: the runs of each device's own entries, and their text.
 use Rattle.std.proofs.Common.{◌≡◌, ℕ, ◌<◌, true, false, List, [], ◌∷◌, ◌++◌, length, drop, slice_get, slice_set, Option, Some, None, refl, sym, ap, ◌∙◌, subst, eq-eqb, ⊎_elim}
 use Rattle.std.specs.List.{filter, flat_map}
 use Rattle.std.proofs.lemmas.Bool.{cases_eq, ne_eqb}
@@ -8,26 +8,22 @@ use Rattle.std.proofs.lemmas.List.Elements.{filter-append}
 use Rattle.tcmu_types.specs.Events.{EntryData}
 use Rattle.tcmu_model.specs.Device.{Device}
 use Rattle.tcmu_model.specs.Steps.{HandlerRelation, Run}
-use Rattle.tcmu_model.specs.Drain.{Drains}
 use Rattle.tcmu_types.specs.Lists.{Every}
 use Rattle.text_model.specs.ScenarioData.{DeviceLineData, LineWhat}
 use Rattle.text_model.specs.ScenarioData as line
 use Rattle.text_model.specs.Replay.{Plays}
-use Rattle.text_model.specs.Several.{Journaled, is_of, RunLogs, IsLegalEach, journaled_text}
 use Rattle.text_model.specs.Text.{entry_text}
 use Rattle.tcmu_types.proofs.Everies.{filter_all, every-append, every-weaker}
 use Rattle.tcmu_model.proofs.Logs.{makes_grows}
+use Rattle.text_model.specs.Journals.{Journaled, is_of, RunLogs, IsLegalEach, journaled_text, entries_of}
 use Rattle.tcmu_top.specs.Playing.{run_text}
 use Rattle.tcmu_top.proofs.RunTexts.{drop_front, text_more, text_one}
 use Rattle.tcmu_types.proofs.Places.{get_within, get_set, get_set_other}
-use Rattle.text_laws.specs.Replays.{entries_of}
+use Rattle.text_laws.proofs.Matching.{AreOf, drains_own}
 
 -- ==== one device
 
-abbrev pub AreOf : ℕ → List EntryData → Type 0
-AreOf at es = Every (λ e. e.device ≡ at) es
-
--- the entries_of of a run, each with what it logged
+-- the entries of a run, each with what it logged
 pub record Piece (R : HandlerRelation) (at : ℕ) (d d' : Device) (es : List EntryData) : Type 0 where
   pub journal : List Journaled
   pub are : entries_of journal ≡ es
@@ -71,7 +67,7 @@ named_text : (ls : List DeviceLineData) (l : DeviceLineData) (j : Journaled) (o 
     → (elim o [ Some k ↦ entry_text k.name k.settings.qfull j.entry j.completions | None ↦ [] ]) ≡ entry_text l.name l.settings.qfull j.entry j.completions
 named_text ls l j o e = rw e refl
 
--- the text of a device's own entries_of
+-- the text of a device's own entries
 pub journal_text : (R : HandlerRelation) (ls : List DeviceLineData) (l : DeviceLineData) (at : ℕ) (d d' : Device) (js : List Journaled) → slice_get ls at ≡ Some l → RunLogs R d js d'
     → Every (λ j. j.entry.device ≡ at) js → run_text l d (entries_of js) d' ≡ flat_map (journaled_text ls) js
 journal_text R ls l at d d' [] named h own = refl
@@ -87,14 +83,10 @@ pub piece_text : (R : HandlerRelation) (ls : List DeviceLineData) (l : DeviceLin
     → run_text l d es d' ≡ flat_map (journaled_text ls) p.journal
 piece_text R ls l at d d' es p named = ap (λ (x : List EntryData). run_text l d x d') (sym p.are) ∙ journal_text R ls l at d d' p.journal named p.run p.own
 
-pub drains_own : (R : HandlerRelation) (at : ℕ) (d d' : Device) (es : List EntryData) → Drains R at d es d' → AreOf at es
-drains_own R at d d' [] h = tt
-drains_own R at d d' (e ∷ es) h = (h.0, drains_own R at h.2 d' es h.4)
-
 pub plays_own : (R : HandlerRelation) (at : ℕ) (d d' : Device) (what : LineWhat) (es : List EntryData) → Plays R at d what es d' → AreOf at es
 plays_own R at d d' (line.EventLine event) es h = subst (AreOf at) (sym h.4) (h.1, tt)
 plays_own R at d d' line.DrainLine es h = drains_own R at d d' es h
-plays_own R at d d' line.DumpLine es h = absurd h
+plays_own R at d d' line.DumpLine es h = subst (AreOf at) (sym h.0) tt
 
 -- ==== each device
 

@@ -17,7 +17,6 @@ pub mod Keeping
 pub mod GivenBack
 pub mod Scenarios
 pub mod Agreed
-pub mod Settings
 pub mod Completions
 pub mod OneLine
 pub mod OneJournal

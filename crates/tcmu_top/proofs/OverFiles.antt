@@ -4,7 +4,6 @@ use Rattle.std.specs.List.{list_any, filter}
 use Rattle.std.specs.Option.{option_map}
 use Rattle.std.proofs.lemmas.Bool.{cases_Bool, false≢true}
 use Rattle.std.proofs.lemmas.Option.{slice_get_within}
-use Rattle.tcmu_types.specs.Numbered.{Numbered}
 use Rattle.edge.specs.Stores.{Content, StoreState, store_of, Place, at_home, FilesState}
 use Rattle.tcmu_model.specs.MediumState.{MediumState}
 use Rattle.scsi_model.specs.Base.{cleared}
@@ -16,21 +15,24 @@ use Rattle.tcmu_model.specs.Device.{Device, opening}
 use Rattle.text_model.specs.Config.{ConfigData, MediumData, InMemory, InFile}
 use Rattle.text_model.specs.ScenarioData.{DeviceLineData}
 use Rattle.scsi_model.specs.Scsi.{Serves}
-use Rattle.text_model.specs.Several.{Journaled, is_of, IsLegalEach, IsReplayOf, ReplaysEach}
+use Rattle.text_model.specs.Several.{IsReplayOf, ReplaysEach}
+use Rattle.text_model.specs.Journals.{Journaled, is_of, IsLegalEach}
+use Rattle.text_model.specs.Replay.{Plays}
+use Rattle.text_model.specs.Printed.{entries_in}
+use Rattle.region_model.specs.Picture.{picture_of}
+use Rattle.text_model.proofs.PrintedJournals.{entries_printed, legal_entries, replays_entries}
 use Rattle.tcmu_types.specs.Lists.{Every}
 use Rattle.tcmu_types.specs.Numbers.{is_among}
 use Rattle.tcmu_types.proofs.Everies.{every_at}
 use Rattle.tcmu_types.proofs.Readings.{same_some, same_bytes}
 use Rattle.tcmu_types.proofs.Places.{get_within, same_list}
 use Rattle.block_engine.specs.Determined.{LosesNothing}
-use Rattle.text_laws.specs.Replays.{entries_of}
 use Rattle.text_laws.proofs.Settled.{one_replay, one_text}
 use Rattle.tcmu_top.specs.Opened.{OpensFile, OpensKind, Opens, OpenEach, EachFile, after_fetches, file_names, name_in, is_named, IsLeftOf, Holds, SameFiles, Kept, KeptFiles}
 use Rattle.tcmu_top.specs.Laws.{ListsNone, ListNone, HasOneTextOverFiles, LeavesTheSameFiles}
 use Rattle.tcmu_top.proofs.Completions.{devices_stay}
-use Rattle.tcmu_top.proofs.Opened.{open_as}
 use Rattle.tcmu_top.proofs.FileRuns.{device_runs}
-use Rattle.tcmu_top.proofs.GivenBack.{open_at}
+use Rattle.tcmu_top.proofs.GivenBack.{open_at, content_same}
 
 -- ---- one medium
 
@@ -43,7 +45,7 @@ one_medium f (InMemory blocks) c m n h k = h ∙ sym k
 one_medium f (InFile name) c m n h k =
     let content : h.told.0 ≡ k.told.0 = same_content h.told.0 k.told.0 (sym h.told.1 ∙ k.told.1) in
     let store : h.store ≡ k.store = h.told.2 ∙ ap (λ (x : Content). store_of x) content ∙ sym k.told.2 in
-    h.medium ∙ ap (λ (s : StoreState). opened_medium (s.size / 512) c.protected c.fails (file_below s.size s.bytes s.calls)) store ∙ sym k.medium
+    h.medium ∙ ap (λ (s : StoreState). opened_medium (s.size / 512) c.protected c.fails (file_below s.size s.bytes s.calls s.syncs)) store ∙ sym k.medium
 
 loses_nothing : (f : FilesState) (kind : MediumData) (c : ConfigData) (m : MediumState) → ListsNone f kind → OpensKind kind (Some f) c m → LosesNothing m
 loses_nothing f (InMemory blocks) c m none h =
@@ -76,8 +78,8 @@ lose_nothing f (l ∷ ls) (d ∷ ds) none h =
 pub has_one_text_over_files : HasOneTextOverFiles
 has_one_text_over_files f bytes t u s read none is it =
     let same = one_opening f s.devices it.opened is.opened it.opens is.opens in
-    let other = subst (λ (x : List Device). IsReplayOf Serves s.devices x s.lines u) same it.replay in
-    one_text bytes s is.opened t u read (open_as (Some f) s.devices is.opened is.opens) (lose_nothing f s.devices is.opened none is.opens) is.replay other
+    let other = subst (λ (x : List Device). IsReplayOf Serves picture_of s.devices x s.lines u) same it.replay in
+    (one_text picture_of s.devices s.lines is.opened t u (lose_nothing f s.devices is.opened none is.opens) is.replay other).text
 
 -- ---- the files behind a replay
 
@@ -123,7 +125,7 @@ one_content : (m : MediumState) (a b : Content) → LosesNothing m → ShowsFile
 one_content m a b keeps shows p q =
     let hidden_same : cleared m.below.store.free a.bytes ≡ cleared m.below.store.free b.bytes = same_some _ _ (sym p.bytes ∙ q.bytes) in
     let bytes : a.bytes ≡ b.bytes = sym (none_free m keeps.lost shows a.bytes) ∙ hidden_same ∙ none_free m keeps.lost shows b.bytes in
-    ap (λ (xs : List ℕ). record { bytes = xs; calls = a.calls }) bytes ∙ ap (λ (c : Numbered). record { bytes = b.bytes; calls = c }) (p.calls ∙ sym q.calls)
+    content_same a b bytes (p.calls ∙ sym q.calls) (p.syncs ∙ sym q.syncs)
 
 one_place : (m : MediumState) (p q : Place) → LosesNothing m → ShowsFile m → Holds m p → Holds m q → q ≡ p
 one_place m p q keeps shows h k = k.1 ∙ ap (λ (c : Content). at_home c) (one_content m k.0 h.0 keeps shows k.2 h.2) ∙ sym h.1
@@ -136,7 +138,7 @@ opens_showing : (f : FilesState) (l : DeviceLineData) (d : Device) (name : List 
 opens_showing f l d name o kind =
     let x : OpensFile name (Some f) l.config o.0 = subst (λ (k : MediumData). OpensKind k (Some f) l.config o.0) kind o.1 in
     let store = x.told.2 in
-    let m = opened_medium (x.store.size / 512) l.config.protected l.config.fails (file_below x.store.size x.store.bytes x.store.calls) in
+    let m = opened_medium (x.store.size / 512) l.config.protected l.config.fails (file_below x.store.size x.store.bytes x.store.calls x.store.syncs) in
     let medium_is : d.medium ≡ m = ap (λ (y : Device). y.medium) o.2 ∙ x.medium in
     let size : x.store.size ≡ 512 * (x.store.size / 512) = omega (arith, x.whole) in
     let long : IfSome x.store.bytes (λ xs. length xs ≡ x.store.size) = rw store refl in
@@ -184,9 +186,11 @@ same_files ls ends f g h all keeps shows p q =
 pub leaves_the_same_files : LeavesTheSameFiles
 leaves_the_same_files f g h bytes t u s read none is it p q =
     let opened = one_opening f s.devices is.opened it.opened is.opens it.opens in
-    let replays = subst (λ (x : List Device). ReplaysEach Serves x s.lines (entries_of is.replay.journal) is.replay.ends) opened is.replay.replays in
+    let first = replays_entries Serves is.opened is.replay.ends s.lines is.replay.printed is.replay.replays in
+    let other = replays_entries Serves it.opened it.replay.ends s.lines it.replay.printed it.replay.replays in
+    let replays = subst (λ (x : List Device). ReplaysEach (Plays Serves) x s.lines (entries_printed is.replay.printed) is.replay.ends) opened first in
     let lose = lose_nothing f s.devices it.opened none it.opens in
-    let one = one_replay it.opened s.lines (entries_of is.replay.journal) (entries_of it.replay.journal) is.replay.ends it.replay.ends lose replays it.replay.replays in
+    let one = one_replay it.opened s.lines (entries_printed is.replay.printed) (entries_printed it.replay.printed) is.replay.ends it.replay.ends lose replays other in
     let kept = subst (λ (x : List Device). KeptFiles s.devices x (Some f) (Some g)) one.1 p in
     same_files s.devices it.replay.ends f g h (devices_stay (Some f) bytes u s read it).ends one.2
-    (show_files f s.devices it.opened it.replay.ends it.replay.journal it.opens it.replay.legal) kept q
+    (show_files f s.devices it.opened it.replay.ends (entries_in it.replay.printed) it.opens (legal_entries Serves picture_of it.opened it.replay.printed it.replay.ends it.replay.legal)) kept q

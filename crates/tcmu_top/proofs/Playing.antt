@@ -40,7 +40,7 @@ run_one R d d' e s = (d', s, refl)
 pub plays_run : (R : HandlerRelation) (at : ℕ) (d d' : Device) (task : LineWhat) (es : List EntryData) → Plays R at d task es d' → Run R d es d'
 plays_run R at d d' (line.EventLine event) es h = subst (λ (xs : List EntryData). Run R d xs d') (sym (h.4)) (run_one R d d' (h.0) (h.3))
 plays_run R at d d' line.DrainLine es h = drains_run R at d d' es h
-plays_run R at d d' line.DumpLine es h = absurd h
+plays_run R at d d' line.DumpLine es h = subst (λ (xs : List EntryData). Run R d xs d') (sym h.0) h.1
 
 -- from each sound device a drain has an end
 pub drained : (R : HandlerRelation) (at : ℕ) (d : Device) → HasOutcomes R → IsSound d.state → (es : List EntryData) × (end : Device) × Drains R at d es end

@@ -10,8 +10,11 @@ use Rattle.text_model.specs.Said.{same_file}
 use Rattle.text_model.specs.ScenarioData.{DeviceLineData, ScenarioData}
 use Rattle.text_model.specs.Scenario.{Bad, scenario_within, scenario_of}
 use Rattle.text_model.specs.ScenarioRules.{IsScenario}
-use Rattle.text_model.specs.Several.{Journaled, IsLegalEach}
+use Rattle.region_model.specs.Picture.{picture_of}
+use Rattle.text_model.specs.Printed.{entries_in}
+use Rattle.text_model.proofs.PrintedJournals.{legal_entries}
 use Rattle.text_model.specs.declared.faults.Why.TheVariants as why
+use Rattle.text_model.specs.Journals.{Journaled, IsLegalEach}
 use Rattle.tcmu_top.specs.declared.status.Status.{Status}
 use Rattle.tcmu_top.specs.declared.status.Status.TheVariants as status
 use Rattle.tcmu_top.specs.Calls.{TookFront, outside}
@@ -48,7 +51,7 @@ text_written s files mid files' ds ends old new rules h r k =
       is = record { opened = ds; opens = h.opens; replay = r.is };
       gained = r.gained;
       fetched = h.fetched.none;
-      kept = kept_files files mid files' s.devices ds r.is.ends r.is.journal rules.files h r.is.legal (subst (λ (x : List Device). KeepsEach s.devices x mid files') (sym r.ends) k);
+      kept = kept_files files mid files' s.devices ds r.is.ends (entries_in r.is.printed) rules.files h (legal_entries Serves picture_of ds r.is.printed r.is.ends r.is.legal) (subst (λ (x : List Device). KeepsEach s.devices x mid files') (sym r.ends) k);
     }
 
 pub cut_short : (s : ScenarioData) (files mid files' : Option FilesState) (ds ends : List Device) (old new : Option (List ℕ)) → IsScenario s → AreOpen files mid s.devices ds

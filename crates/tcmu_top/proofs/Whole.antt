@@ -14,8 +14,12 @@ use Rattle.text_model.specs.ScenarioData.{DeviceLineData, LineData, LineWhat}
 use Rattle.text_model.specs.ScenarioData as line
 use Rattle.text_model.specs.Scenario.{is_dump}
 use Rattle.text_model.specs.ScenarioRules.{IsLine, IsWhat, IsFit, IsFitFor}
-use Rattle.text_model.specs.Several.{Journaled, ReplaysEach, IsLegalEach, journaled_text, ends_text, IsReplayOf}
+use Rattle.region_model.specs.Picture.{picture_of}
+use Rattle.text_model.proofs.PrintedJournals.{undumped, DumpNothing, text_undumped, legal_undumped, replays_undumped}
+use Rattle.text_model.specs.Replay.{Plays}
+use Rattle.text_model.specs.Several.{ReplaysEach, ends_text, IsReplayOf}
 use Rattle.text_model.specs.Text.{device_text, end_text}
+use Rattle.text_model.specs.Journals.{Journaled, IsLegalEach, journaled_text, entries_of}
 use Rattle.tcmu_top.specs.Playing.{WroteEach, WroteEachFront}
 use Rattle.tcmu_top.specs.InPart.{ReplaysEachInPart}
 use Rattle.tcmu_top.specs.Top.{Replayed, MadeInPart, ReplayedInPart}
@@ -23,7 +27,6 @@ use Rattle.tcmu_top.proofs.InPart.{none_replayed, all_replayed}
 use Rattle.tcmu_top.proofs.Endings.{ending_lines}
 use Rattle.tcmu_top.proofs.Legal.{legal_none}
 use Rattle.tcmu_top.proofs.Telling.{gained_more, gained_as, front_first, front_more, front_behind}
-use Rattle.text_laws.specs.Replays.{entries_of}
 
 -- ==== the parts of the text
 
@@ -33,9 +36,17 @@ lines_text ls = flat_map device_text ls
 abbrev journal_of : List DeviceLineData → List Journaled → List ℕ
 journal_of ls js = flat_map (journaled_text ls) js
 
-abbrev is_text : (R : HandlerRelation) (ls : List DeviceLineData) (ds ends : List Device) (lines : List LineData) (js : List Journaled) → ReplaysEach R ds lines (entries_of js) ends → IsLegalEach R ds js ends
-    → IsReplayOf R ls ds lines (lines_text ls ++ journal_of ls js ++ ends_text ls ends)
-is_text R ls ds ends lines js h k = record { journal = js; ends = ends; replays = h; legal = k; whole = refl }
+-- no line is a dump, so what is printed is a journal
+abbrev is_text : (R : HandlerRelation) (ls : List DeviceLineData) (ds ends : List Device) (lines : List LineData) (js : List Journaled) → DumpNothing lines → ReplaysEach (Plays R) ds lines (entries_of js) ends → IsLegalEach R ds js ends
+    → IsReplayOf R picture_of ls ds lines (lines_text ls ++ journal_of ls js ++ ends_text ls ends)
+is_text R ls ds ends lines js dumpless h k =
+    record {
+      printed = undumped js;
+      ends = ends;
+      replays = replays_undumped R ds ends lines js dumpless h;
+      legal = legal_undumped R picture_of ds js ends k;
+      whole = ap (λ (x : List ℕ). lines_text ls ++ x ++ ends_text ls ends) (sym (text_undumped ls js));
+    }
 
 -- the device lines were written in part
 abbrev pub made_of_ready : (R : HandlerRelation) (ls : List DeviceLineData) (ds : List Device) (lines : List LineData) (old new : Option (List ℕ)) → Every (IsFitFor (length ds)) lines → GainedFront old (lines_text ls) new
@@ -44,13 +55,13 @@ made_of_ready R ls ds lines old new fit f =
     record { made = []; asked = none_replayed R ds lines fit; legal = legal_none R ds; told = inl (front_first old new (lines_text ls) [] _ refl f); stopped = inl refl }
 
 pub front_of_ready : (R : HandlerRelation) (ls : List DeviceLineData) (ds : List Device) (lines : List LineData) (old new : Option (List ℕ)) → Every (λ d. IsSound d.state) ds
-    → Every (IsFitFor (length ds)) lines → GainedFront old (lines_text ls) new → HasOutcomes R → ReplayedInPart R ls ds lines ds old new
-front_of_ready R ls ds lines old new sound fit f outcomes =
+    → DumpNothing lines → Every (IsFitFor (length ds)) lines → GainedFront old (lines_text ls) new → HasOutcomes R → ReplayedInPart R ls ds lines ds old new
+front_of_ready R ls ds lines old new sound dumpless fit f outcomes =
     let e = ending_lines R ds lines outcomes sound fit in
     record {
       part = made_of_ready R ls ds lines old new fit f;
       text = lines_text ls ++ journal_of ls e.journal ++ ends_text ls e.ends;
-      is = is_text R ls ds e.ends lines e.journal e.right e.legal;
+      is = is_text R ls ds e.ends lines e.journal dumpless e.right e.legal;
       rest = e.journal;
       order = refl;
       gained = front_first old new (lines_text ls) (journal_of ls e.journal ++ ends_text ls e.ends) _ (append_assoc (lines_text ls) (journal_of ls e.journal) (ends_text ls e.ends)) f;
@@ -58,7 +69,7 @@ front_of_ready R ls ds lines old new sound fit f outcomes =
 
 -- the journal was
 abbrev pub made_of_run : (R : HandlerRelation) (ls : List DeviceLineData) (ds ds' : List Device) (lines : List LineData) (old mid new : Option (List ℕ)) → Gained old (lines_text ls) mid
-    → WroteEachFront R ls (ReplaysEachInPart R ds lines) (ReplaysEach R ds lines) ds ds' mid new → MadeInPart R ls ds lines ds' old new
+    → WroteEachFront R ls (ReplaysEachInPart R ds lines) (ReplaysEach (Plays R) ds lines) ds ds' mid new → MadeInPart R ls ds lines ds' old new
 made_of_run R ls ds ds' lines old mid new g w =
     record {
       made = w.made;
@@ -75,9 +86,9 @@ made_of_run R ls ds ds' lines old mid new g w =
       });
     }
 
-pub front_of_run : (R : HandlerRelation) (ls : List DeviceLineData) (ds ds' : List Device) (lines : List LineData) (old mid new : Option (List ℕ)) → Gained old (lines_text ls) mid
-    → WroteEachFront R ls (ReplaysEachInPart R ds lines) (ReplaysEach R ds lines) ds ds' mid new → HasOutcomes R → ReplayedInPart R ls ds lines ds' old new
-front_of_run R ls ds ds' lines old mid new g w outcomes =
+pub front_of_run : (R : HandlerRelation) (ls : List DeviceLineData) (ds ds' : List Device) (lines : List LineData) (old mid new : Option (List ℕ)) → DumpNothing lines → Gained old (lines_text ls) mid
+    → WroteEachFront R ls (ReplaysEachInPart R ds lines) (ReplaysEach (Plays R) ds lines) ds ds' mid new → HasOutcomes R → ReplayedInPart R ls ds lines ds' old new
+front_of_run R ls ds ds' lines old mid new dumpless g w outcomes =
     let x = w.ends outcomes in
     let made = journal_of ls w.made in
     let rest = journal_of ls x.rest in
@@ -85,7 +96,7 @@ front_of_run R ls ds ds' lines old mid new g w outcomes =
     record {
       part = made_of_run R ls ds ds' lines old mid new g w;
       text = lines_text ls ++ journal_of ls (w.made ++ x.rest) ++ last;
-      is = is_text R ls ds x.ends lines (w.made ++ x.rest) x.right x.legal;
+      is = is_text R ls ds x.ends lines (w.made ++ x.rest) dumpless x.right x.legal;
       rest = x.rest;
       order = refl;
       gained = front_more old mid new (lines_text ls) made (rest ++ last) _
@@ -97,7 +108,7 @@ front_of_run R ls ds ds' lines old mid new g w outcomes =
 
 -- the end lines were
 abbrev pub made_of_last : (R : HandlerRelation) (ls : List DeviceLineData) (ds ds' : List Device) (lines : List LineData) (old m1 m2 new : Option (List ℕ)) → Gained old (lines_text ls) m1
-    → WroteEach R ls (ReplaysEach R ds lines) ds ds' m1 m2 → GainedFront m2 (ends_text ls ds') new → MadeInPart R ls ds lines ds' old new
+    → WroteEach R ls (ReplaysEach (Plays R) ds lines) ds ds' m1 m2 → GainedFront m2 (ends_text ls ds') new → MadeInPart R ls ds lines ds' old new
 made_of_last R ls ds ds' lines old m1 m2 new g w f =
     record {
       made = w.journal;
@@ -114,24 +125,24 @@ made_of_last R ls ds ds' lines old m1 m2 new g w f =
       });
     }
 
-pub front_of_last : (R : HandlerRelation) (ls : List DeviceLineData) (ds ds' : List Device) (lines : List LineData) (old m1 m2 new : Option (List ℕ)) → Gained old (lines_text ls) m1
-    → WroteEach R ls (ReplaysEach R ds lines) ds ds' m1 m2 → GainedFront m2 (ends_text ls ds') new → ReplayedInPart R ls ds lines ds' old new
-front_of_last R ls ds ds' lines old m1 m2 new g w f =
+pub front_of_last : (R : HandlerRelation) (ls : List DeviceLineData) (ds ds' : List Device) (lines : List LineData) (old m1 m2 new : Option (List ℕ)) → DumpNothing lines → Gained old (lines_text ls) m1
+    → WroteEach R ls (ReplaysEach (Plays R) ds lines) ds ds' m1 m2 → GainedFront m2 (ends_text ls ds') new → ReplayedInPart R ls ds lines ds' old new
+front_of_last R ls ds ds' lines old m1 m2 new dumpless g w f =
     record {
       part = made_of_last R ls ds ds' lines old m1 m2 new g w f;
       text = lines_text ls ++ journal_of ls w.journal ++ ends_text ls ds';
-      is = is_text R ls ds ds' lines w.journal w.right w.legal;
+      is = is_text R ls ds ds' lines w.journal dumpless w.right w.legal;
       rest = [];
-      order = sym (append-nil w.journal);
+      order = ap undumped (sym (append-nil w.journal));
       gained = front_behind old m2 new (lines_text ls ++ journal_of ls w.journal) (ends_text ls ds') _ refl (gained_more old m1 m2 _ _ g w.wrote) f;
     }
 
-pub whole : (R : HandlerRelation) (ls : List DeviceLineData) (ds ds' : List Device) (lines : List LineData) (old m1 m2 new : Option (List ℕ)) → Gained old (lines_text ls) m1
-    → WroteEach R ls (ReplaysEach R ds lines) ds ds' m1 m2 → Gained m2 (ends_text ls ds') new → Replayed R ls ds lines ds' old new
-whole R ls ds ds' lines old m1 m2 new g w f =
+pub whole : (R : HandlerRelation) (ls : List DeviceLineData) (ds ds' : List Device) (lines : List LineData) (old m1 m2 new : Option (List ℕ)) → DumpNothing lines → Gained old (lines_text ls) m1
+    → WroteEach R ls (ReplaysEach (Plays R) ds lines) ds ds' m1 m2 → Gained m2 (ends_text ls ds') new → Replayed R ls ds lines ds' old new
+whole R ls ds ds' lines old m1 m2 new dumpless g w f =
     record {
       text = lines_text ls ++ journal_of ls w.journal ++ ends_text ls ds';
-      is = is_text R ls ds ds' lines w.journal w.right w.legal;
+      is = is_text R ls ds ds' lines w.journal dumpless w.right w.legal;
       ends = refl;
       gained = gained_more old m2 new _ _ (gained_more old m1 m2 _ _ g w.wrote) f;
     }

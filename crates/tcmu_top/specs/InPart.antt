@@ -18,7 +18,7 @@ DrainsInPart R device d (e ∷ es) d' =
 abbrev pub PlaysInPart : HandlerRelation → ℕ → Device → LineWhat → List EntryData → Device → Type 0
 PlaysInPart R device d (line.EventLine event) es d' = ((es ≡ []) × (d' ≡ d)) ⊎ Plays R device d (line.EventLine event) es d'
 PlaysInPart R device d line.DrainLine es d' = DrainsInPart R device d es d'
-PlaysInPart R device d line.DumpLine es d' = ⊥
+PlaysInPart R device d line.DumpLine es d' = Plays R device d line.DumpLine es d'
 
 -- one device is drained in part, those before it whole, and those behind it not yet
 abbrev pub DrainsEachInPart : HandlerRelation → ℕ → List Device → List EntryData → List Device → Type 0

@@ -13,15 +13,15 @@ use Rattle.edge.specs.Stores.{Content, at_home, FilesState}
 use Rattle.load_run.specs.Loading.{IsLoadText}
 use Rattle.tcmu_model.specs.Device.{Device}
 use Rattle.text_model.specs.Config.{MediumData, InMemory, InFile}
+use Rattle.text_model.specs.Printed.{entries_in}
 use Rattle.text_model.specs.ScenarioData.{DeviceLineData, ScenarioData}
 use Rattle.text_model.specs.Scenario.{scenario_of}
 use Rattle.tcmu_model.specs.Sound.{open_count, times_logged, times_open}
-use Rattle.text_model.specs.Several.{Journaled, is_of}
 use Rattle.tcmu_model.specs.Journals.{WasAccepted, IsExplained, IsExplainedAt, WasAsked}
+use Rattle.text_model.specs.Journals.{Journaled, is_of, entries_of}
 use Rattle.tcmu_types.specs.Numbers.{Differ}
 use Rattle.tcmu_types.specs.Lists.{Every}
 use Rattle.text_laws.specs.InMemory as memory
-use Rattle.text_laws.specs.Replays.{entries_of}
 use Rattle.tcmu_top.specs.Opened.{SameFiles, KeptFiles}
 use Rattle.tcmu_top.specs.Top.{IsTextOf}
 
@@ -66,13 +66,13 @@ LeavesTheSameFiles =
 
 -- ==== texts over any media
 
--- Texts of scenarios' replays that are the same, whatever the files, are of the same devices, and of the same journal: the same entries, with
--- the same answers and the same completions.
+-- Texts of scenarios' replays that are the same, whatever the files, are of the same devices, and print the same: the same entries, with the
+-- same answers and the same completions.
 abbrev pub HasOneJournal : Type 0
 HasOneJournal =
     (files others : Option FilesState) (bytes more text : List ℕ) (s t : ScenarioData)
     → scenario_of bytes ≡ Ok s → scenario_of more ≡ Ok t → (is : IsTextOf files s text) → (it : IsTextOf others t text)
-    → (s.devices ≡ t.devices) × (is.replay.journal ≡ it.replay.journal)
+    → (s.devices ≡ t.devices) × (is.replay.printed ≡ it.replay.printed)
 
 -- ==== completions
 
@@ -117,13 +117,13 @@ abbrev pub CommandsComplete : Type 0
 CommandsComplete =
     (files : Option FilesState) (bytes text : List ℕ) (s : ScenarioData) → scenario_of bytes ≡ Ok s → (is : IsTextOf files s text)
     → (at : ℕ) (l : DeviceLineData) (d : Device) → slice_get s.devices at ≡ Some l → slice_get is.replay.ends at ≡ Some d
-    → CompletesOnce Serves l (filter (is_of at) is.replay.journal) d
+    → CompletesOnce Serves l (filter (is_of at) (entries_in is.replay.printed)) d
 
 -- the devices of a replay: one for each device line as they open and as they end, and each entry is of one of them
 pub record HasItsDevices (files : Option FilesState) (s : ScenarioData) (text : List ℕ) (is : IsTextOf files s text) : Type 0 where
   pub opened : length is.opened ≡ length s.devices
   pub ends : length is.replay.ends ≡ length s.devices
-  pub entries : Every (λ j. j.entry.device < length s.devices) is.replay.journal
+  pub entries : Every (λ j. j.entry.device < length s.devices) (entries_in is.replay.printed)
 
 abbrev pub DevicesStay : Type 0
 DevicesStay = (files : Option FilesState) (bytes text : List ℕ) (s : ScenarioData) → scenario_of bytes ≡ Ok s → (is : IsTextOf files s text) → HasItsDevices files s text is

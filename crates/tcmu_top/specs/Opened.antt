@@ -10,9 +10,9 @@ use Rattle.media.specs.declared.make.MakeFault.TheVariants as fault
 use Rattle.tcmu_model.specs.MediumState.{MediumState}
 use Rattle.scsi_model.specs.Base.{cleared}
 use Rattle.scsi_model.specs.Medium.{has_store, opened_medium, memory_below, file_below}
-use Rattle.tcmu_model.specs.Device.{Device, opening}
+use Rattle.tcmu_model.specs.Device.{Device}
 use Rattle.text_model.specs.Config.{ConfigData, MediumData, InMemory, InFile}
-use Rattle.text_model.specs.ScenarioData.{DeviceLineData}
+use Rattle.text_model.specs.ScenarioData.{DeviceLineData, opened_as}
 
 -- ==== as they open
 
@@ -27,7 +27,7 @@ pub record OpensFile (name : List ℕ) (files : Option FilesState) (c : ConfigDa
   pub some : 512 ≤ store.size
   pub most : store.size ≤ 2 ^ 44
   pub told : IfSome files (λ f. (content : Content) × (f.places name ≡ at_home content) × (store ≡ store_of content))
-  pub medium : m ≡ opened_medium (store.size / 512) c.protected c.fails (file_below store.size store.bytes store.calls)
+  pub medium : m ≡ opened_medium (store.size / 512) c.protected c.fails (file_below store.size store.bytes store.calls store.syncs)
 
 -- by what bears the medium: memory, or a file
 abbrev pub OpensKind : MediumData → Option FilesState → ConfigData → MediumState → Type 0
@@ -36,7 +36,7 @@ OpensKind (InFile name) files = OpensFile name files
 
 -- the device of a device line, as it opens over these files
 abbrev pub Opens : Option FilesState → DeviceLineData → Device → Type 0
-Opens files l d = (m : MediumState) × OpensKind l.config.kind files l.config m × (d ≡ opening l.settings l.name m)
+Opens files l d = (m : MediumState) × OpensKind l.config.kind files l.config m × (d ≡ opened_as l m)
 
 -- the devices of these device lines, in order
 abbrev pub OpenEach : Option FilesState → List DeviceLineData → List Device → Type 0
@@ -76,12 +76,13 @@ is_named ls name = list_any (bytes_eq name) (file_names ls)
 abbrev pub EachFile : List DeviceLineData → (ℕ → List ℕ → Type 0) → Type 0
 EachFile ls P = (at : ℕ) (l : DeviceLineData) (name : List ℕ) → slice_get ls at ≡ Some l → l.config.kind ≡ InFile name → P at name
 
--- A file holds what a medium left in its store: as many bytes, which are the store's but for the free blocks, and the calls that were
--- made.
+-- A file holds what a medium left in its store: as many bytes, which are the store's but for the free blocks, the calls that were made, and
+-- how many of them were syncs.
 pub record IsLeftOf (m : MediumState) (content : Content) : Type 0 where
   pub size : length content.bytes ≡ m.below.store.size
   pub bytes : m.below.store.bytes ≡ Some (cleared m.below.store.free content.bytes)
   pub calls : content.calls ≡ m.below.store.calls
+  pub syncs : content.syncs ≡ m.below.store.syncs
 
 -- a file stands there that holds what a medium left in it
 abbrev pub Holds : MediumState → Place → Type 0
@@ -136,7 +137,7 @@ AsTheyWere Fetches ls files files' = IfSome files (λ f. (f' : FilesState) × (f
 
 -- a device was opened over the medium that was made for it
 abbrev pub Made : DeviceLineData → Option FilesState → Option FilesState → Device → Type 0
-Made l old new d = (m : MediumState) × medium.MakesMedium l.config old new m × (d ≡ opening l.settings l.name m)
+Made l old new d = (m : MediumState) × medium.MakesMedium l.config old new m × (d ≡ opened_as l m)
 
 -- these names were fetched: no fetch failed, and the files are as these leave them
 pub record Fetched (names : List (List ℕ)) (files files' : Option FilesState) : Type 0 where

@@ -11,7 +11,7 @@ use Rattle.tcmu_model.specs.Steps.{HandlerRelation, Step, Run}
 use Rattle.tcmu_model.specs.Work.{HasOutcomes}
 use Rattle.text_model.specs.ScenarioData.{DeviceLineData}
 use Rattle.text_model.specs.Text.{entries_text, event_line, completion_text}
-use Rattle.text_model.specs.Several.{Journaled, IsLegalEach, journaled_text}
+use Rattle.text_model.specs.Journals.{Journaled, IsLegalEach, journaled_text}
 use Rattle.tcmu_path.specs.Calls.{Accepts}
 
 -- the line of an event with its answer, and those of the completions that it logged

@@ -12,9 +12,13 @@ use Rattle.text_model.specs.ScenarioData.{DeviceLineData, LineData, ScenarioData
 use Rattle.text_model.specs.Scenario.{Bad, scenario_of}
 use Rattle.text_model.specs.Text.{device_text}
 use Rattle.text_model.specs.Words.{why_word}
-use Rattle.text_model.specs.Several.{Journaled, ReplaysEach, IsLegalEach, journaled_text, ends_text, IsReplayOf}
+use Rattle.region_model.specs.Picture.{picture_of}
+use Rattle.text_model.specs.Printed.{AnEntry}
+use Rattle.text_model.specs.Replay.{Plays}
+use Rattle.text_model.specs.Several.{ReplaysEach, ends_text, IsReplayOf}
 use Rattle.text_model.specs.declared.faults.Why.{Why}
 use Rattle.text_model.specs.declared.faults.Why.TheVariants as why
+use Rattle.text_model.specs.Journals.{Journaled, IsLegalEach, journaled_text}
 use Rattle.tcmu_top.specs.Opened.{OpenEach, file_names, a_fetch_fails, KeptFiles, NoneFailed, NextFailed, AsTheyWere}
 use Rattle.tcmu_top.specs.Loads.{LoadEnds}
 use Rattle.tcmu_top.specs.Calls.{Outside, TookFront, Calm}
@@ -30,7 +34,7 @@ use Rattle.tcmu_top.specs.declared.status.Status.TheVariants as status
 -- the whole text of a replay was written, and the devices are as the replay ended
 pub record Replayed (R : HandlerRelation) (ls : List DeviceLineData) (opened : List Device) (lines : List LineData) (ds' : List Device) (old new : Option (List ℕ)) : Type 0 where
   pub text : List ℕ
-  pub is : IsReplayOf R ls opened lines text
+  pub is : IsReplayOf R picture_of ls opened lines text
   pub ends : is.ends ≡ ds'
   pub gained : Gained old text new
 
@@ -42,16 +46,16 @@ pub record MadeInPart (R : HandlerRelation) (ls : List DeviceLineData) (opened :
   pub asked : ReplaysEachInPart R opened lines (map (λ j. j.entry) made) ds'
   pub legal : IsLegalEach R opened made ds'
   pub told : GainedFront old (flat_map device_text ls ++ flat_map (journaled_text ls) made) new
-      ⊎ (ReplaysEach R opened lines (map (λ j. j.entry) made) ds' × GainedFront old (flat_map device_text ls ++ flat_map (journaled_text ls) made ++ ends_text ls ds') new)
+      ⊎ (ReplaysEach (Plays R) opened lines (map (λ j. j.entry) made) ds' × GainedFront old (flat_map device_text ls ++ flat_map (journaled_text ls) made ++ ends_text ls ds') new)
   pub stopped : (made ≡ []) ⊎ AllButLast made (λ js. flat_map device_text ls ++ flat_map (journaled_text ls) js) old new
 
--- And what was written is a front of a whole text, whose journal goes on behind what was made.
+-- And what was written is a front of a whole text, which goes on behind what was made.
 pub record ReplayedInPart (R : HandlerRelation) (ls : List DeviceLineData) (opened : List Device) (lines : List LineData) (ds' : List Device) (old new : Option (List ℕ)) : Type 0 where
   pub part : MadeInPart R ls opened lines ds' old new
   pub text : List ℕ
-  pub is : IsReplayOf R ls opened lines text
+  pub is : IsReplayOf R picture_of ls opened lines text
   pub rest : List Journaled
-  pub order : is.journal ≡ part.made ++ rest
+  pub order : is.printed ≡ map AnEntry (part.made ++ rest)
   pub gained : GainedFront old text new
 
 -- ==== a scenario
@@ -70,7 +74,7 @@ pub record Outcomes : Type 1 where
 pub record IsTextOf (files : Option FilesState) (s : ScenarioData) (text : List ℕ) : Type 0 where
   pub opened : List Device
   pub opens : OpenEach files s.devices opened
-  pub replay : IsReplayOf Serves s.devices opened s.lines text
+  pub replay : IsReplayOf Serves picture_of s.devices opened s.lines text
 
 -- The whole text of a scenario's replay was written: every file could be fetched, and each has what its device left in it.
 pub record TextWritten (files files' : Option FilesState) (s : ScenarioData) (old new : Option (List ℕ)) : Type 0 where

@@ -75,8 +75,8 @@ fn drain_each<P: Path, K: Sink>(
     requires lines { length devices.now ≡ length set.old }
     requires few { CanGoOn (states_of P.device set.old) }
     requires sound { AreSound (states_of P.device set.old) }
-    ensures ok { OnOk result (WroteEach P.relation devices.now (DrainsEach P.relation 0 (states_of P.device set.old)) (states_of P.device set.old) (states_of P.device set.new) (K.written out.old) (K.written out.new)) }
-    ensures err { OnErr result (WroteEachFront P.relation devices.now (DrainsEachInPart P.relation 0 (states_of P.device set.old)) (DrainsEach P.relation 0 (states_of P.device set.old)) (states_of P.device set.old) (states_of P.device set.new) (K.written out.old) (K.written out.new)) }
+    ensures ok { OnOk result (WroteEach P.relation devices.now (DrainsEach (Plays P.relation) 0 (states_of P.device set.old)) (states_of P.device set.old) (states_of P.device set.new) (K.written out.old) (K.written out.new)) }
+    ensures err { OnErr result (WroteEachFront P.relation devices.now (DrainsEachInPart P.relation 0 (states_of P.device set.old)) (DrainsEach (Plays P.relation) 0 (states_of P.device set.old)) (states_of P.device set.old) (states_of P.device set.new) (K.written out.old) (K.written out.new)) }
     ensures faults { SinkFaults (K.faults out.old) (K.faults out.new) result }
     ensures count { length set.new ≡ length set.old }
     ensures names { names set.new ≡ names set.old }
@@ -101,8 +101,8 @@ fn replay_lines<P: Path, K: Sink>(
     requires fit { Every (IsFitFor (length set.old)) lines.now }
     requires few { Every (λ d. d.state.accepted + length lines.now < 2 ^ 63) (states_of P.device set.old) }
     requires sound { AreSound (states_of P.device set.old) }
-    ensures ok { OnOk result (WroteEach P.relation devices.now (ReplaysEach P.relation (states_of P.device set.old) lines.now) (states_of P.device set.old) (states_of P.device set.new) (K.written out.old) (K.written out.new)) }
-    ensures err { OnErr result (WroteEachFront P.relation devices.now (ReplaysEachInPart P.relation (states_of P.device set.old) lines.now) (ReplaysEach P.relation (states_of P.device set.old) lines.now) (states_of P.device set.old) (states_of P.device set.new) (K.written out.old) (K.written out.new)) }
+    ensures ok { OnOk result (WroteEach P.relation devices.now (ReplaysEach (Plays P.relation) (states_of P.device set.old) lines.now) (states_of P.device set.old) (states_of P.device set.new) (K.written out.old) (K.written out.new)) }
+    ensures err { OnErr result (WroteEachFront P.relation devices.now (ReplaysEachInPart P.relation (states_of P.device set.old) lines.now) (ReplaysEach (Plays P.relation) (states_of P.device set.old) lines.now) (states_of P.device set.old) (states_of P.device set.new) (K.written out.old) (K.written out.new)) }
     ensures faults { SinkFaults (K.faults out.old) (K.faults out.new) result }
     ensures count { length set.new ≡ length set.old }
     ensures names { names set.new ≡ names set.old }

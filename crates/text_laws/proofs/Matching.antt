@@ -115,10 +115,11 @@ rejoined n (p ∷ ps) (q ∷ qs) h within own =
 
 -- ---- what a replay prints is of its devices
 
-abbrev AreOf : ℕ → List EntryData → Type 0
+-- these entries are of the device of this number
+abbrev pub AreOf : ℕ → List EntryData → Type 0
 AreOf at es = Every (λ e. e.device ≡ at) es
 
-drains_own : (R : HandlerRelation) (at : ℕ) (d d' : Device) (es : List EntryData) → Drains R at d es d' → AreOf at es
+pub drains_own : (R : HandlerRelation) (at : ℕ) (d d' : Device) (es : List EntryData) → Drains R at d es d' → AreOf at es
 drains_own R at d d' [] h = tt
 drains_own R at d d' (e ∷ es) h = (h.0, drains_own R at h.2 d' es h.4)
 

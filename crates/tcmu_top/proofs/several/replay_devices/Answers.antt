@@ -4,6 +4,7 @@ use Rattle.std.proofs.lemmas.Result.{on_ok_weaker, on_err_weaker}
 use Rattle.edge.specs.Outside.{Gained, GainedFront}
 use Rattle.tcmu_model.specs.Device.{Device}
 use Rattle.text_model.specs.ScenarioData.{ScenarioData, DeviceLineData, LineData}
+use Rattle.text_model.specs.Replay.{Plays}
 use Rattle.text_model.specs.Several.{ReplaysEach, ends_text}
 use Rattle.tcmu_types.specs.Lists.{Every}
 use Rattle.text_model.specs.Text.{device_text}
@@ -33,7 +34,7 @@ returns-in_err-write_readies-clause-front g c outcomes =
     let ds = states_of g.P.Path.device c.args.set.now in
     let same = c.as_slice-devices.ensures ∙ ap (λ (x : ScenarioData). x.devices) c.scenario.view_is in
     let fit = lines_fit s.devices (length ds) s.lines (sym (opened_count s.devices ds c.requires.opened)) c.requires.limits.lines c.requires.served.no_dumps in
-    on_err c.from_residual.result (front_of_ready g.P.Path.relation s.devices ds s.lines _ _ (opened_sound s.devices ds c.requires.limits.devices c.requires.opened) fit
+    on_err c.from_residual.result (front_of_ready g.P.Path.relation s.devices ds s.lines _ _ (opened_sound s.devices ds c.requires.limits.devices c.requires.opened) c.requires.served.no_dumps fit
     (subst (λ (l : List DeviceLineData). GainedFront (g.K.Sink.written c.args.out.now) (flat_map device_text l) (g.K.Sink.written c.write_readies.new.out)) same c.in_err-write_readies.ensures.err) outcomes)
 
 pub replay_lines-requires-clause-lines : goal.replay_lines-requires-clause-lines
@@ -71,8 +72,8 @@ returns-in_err-replay_lines-clause-err g c =
     let same = c.as_slice-devices.ensures ∙ ap (λ (x : ScenarioData). x.devices) c.scenario.view_is in
     let lines = c.as_slice.ensures ∙ ap (λ (x : ScenarioData). x.lines) c.scenario.view_is in
     let ready = subst (λ (l : List DeviceLineData). Gained (g.K.Sink.written c.args.out.now) (flat_map device_text l) (g.K.Sink.written c.write_readies.new.out)) same c.in_ok-write_readies.ensures.ok in
-    let run = subst (λ (l : List DeviceLineData). WroteEachFront R l (ReplaysEachInPart R ds c.as_slice.result.now) (ReplaysEach R ds c.as_slice.result.now) ds ds' (g.K.Sink.written c.write_readies.new.out) (g.K.Sink.written c.replay_lines.new.out)) same c.in_err-replay_lines.ensures.err in
-    let all = subst (λ (l : List LineData). WroteEachFront R s.devices (ReplaysEachInPart R ds l) (ReplaysEach R ds l) ds ds' (g.K.Sink.written c.write_readies.new.out) (g.K.Sink.written c.replay_lines.new.out)) lines run in
+    let run = subst (λ (l : List DeviceLineData). WroteEachFront R l (ReplaysEachInPart R ds c.as_slice.result.now) (ReplaysEach (Plays R) ds c.as_slice.result.now) ds ds' (g.K.Sink.written c.write_readies.new.out) (g.K.Sink.written c.replay_lines.new.out)) same c.in_err-replay_lines.ensures.err in
+    let all = subst (λ (l : List LineData). WroteEachFront R s.devices (ReplaysEachInPart R ds l) (ReplaysEach (Plays R) ds l) ds ds' (g.K.Sink.written c.write_readies.new.out) (g.K.Sink.written c.replay_lines.new.out)) lines run in
     on_err c.from_residual-in_err-replay_lines.result (made_of_run R s.devices ds ds' s.lines _ _ _ ready all)
 
 pub returns-in_err-replay_lines-clause-front : goal.returns-in_err-replay_lines-clause-front
@@ -84,9 +85,9 @@ returns-in_err-replay_lines-clause-front g c outcomes =
     let same = c.as_slice-devices.ensures ∙ ap (λ (x : ScenarioData). x.devices) c.scenario.view_is in
     let lines = c.as_slice.ensures ∙ ap (λ (x : ScenarioData). x.lines) c.scenario.view_is in
     let ready = subst (λ (l : List DeviceLineData). Gained (g.K.Sink.written c.args.out.now) (flat_map device_text l) (g.K.Sink.written c.write_readies.new.out)) same c.in_ok-write_readies.ensures.ok in
-    let run = subst (λ (l : List DeviceLineData). WroteEachFront R l (ReplaysEachInPart R ds c.as_slice.result.now) (ReplaysEach R ds c.as_slice.result.now) ds ds' (g.K.Sink.written c.write_readies.new.out) (g.K.Sink.written c.replay_lines.new.out)) same c.in_err-replay_lines.ensures.err in
-    let all = subst (λ (l : List LineData). WroteEachFront R s.devices (ReplaysEachInPart R ds l) (ReplaysEach R ds l) ds ds' (g.K.Sink.written c.write_readies.new.out) (g.K.Sink.written c.replay_lines.new.out)) lines run in
-    on_err c.from_residual-in_err-replay_lines.result (front_of_run R s.devices ds ds' s.lines _ _ _ ready all outcomes)
+    let run = subst (λ (l : List DeviceLineData). WroteEachFront R l (ReplaysEachInPart R ds c.as_slice.result.now) (ReplaysEach (Plays R) ds c.as_slice.result.now) ds ds' (g.K.Sink.written c.write_readies.new.out) (g.K.Sink.written c.replay_lines.new.out)) same c.in_err-replay_lines.ensures.err in
+    let all = subst (λ (l : List LineData). WroteEachFront R s.devices (ReplaysEachInPart R ds l) (ReplaysEach (Plays R) ds l) ds ds' (g.K.Sink.written c.write_readies.new.out) (g.K.Sink.written c.replay_lines.new.out)) lines run in
+    on_err c.from_residual-in_err-replay_lines.result (front_of_run R s.devices ds ds' s.lines _ _ _ c.requires.served.no_dumps ready all outcomes)
 
 pub write_ends-requires-clause-lines : goal.write_ends-requires-clause-lines
 write_ends-requires-clause-lines g c =
@@ -104,10 +105,10 @@ returns-clause-ok g c =
     let same = c.as_slice-devices.ensures ∙ ap (λ (x : ScenarioData). x.devices) c.scenario.view_is in
     let lines = c.as_slice.ensures ∙ ap (λ (x : ScenarioData). x.lines) c.scenario.view_is in
     let ready = subst (λ (l : List DeviceLineData). Gained (g.K.Sink.written c.args.out.now) (flat_map device_text l) (g.K.Sink.written c.write_readies.new.out)) same c.in_ok-write_readies.ensures.ok in
-    let run = subst (λ (l : List DeviceLineData). WroteEach R l (ReplaysEach R ds c.as_slice.result.now) ds ds' (g.K.Sink.written c.write_readies.new.out) (g.K.Sink.written c.replay_lines.new.out)) same c.in_ok-replay_lines.ensures.ok in
-    let all = subst (λ (l : List LineData). WroteEach R s.devices (ReplaysEach R ds l) ds ds' (g.K.Sink.written c.write_readies.new.out) (g.K.Sink.written c.replay_lines.new.out)) lines run in
+    let run = subst (λ (l : List DeviceLineData). WroteEach R l (ReplaysEach (Plays R) ds c.as_slice.result.now) ds ds' (g.K.Sink.written c.write_readies.new.out) (g.K.Sink.written c.replay_lines.new.out)) same c.in_ok-replay_lines.ensures.ok in
+    let all = subst (λ (l : List LineData). WroteEach R s.devices (ReplaysEach (Plays R) ds l) ds ds' (g.K.Sink.written c.write_readies.new.out) (g.K.Sink.written c.replay_lines.new.out)) lines run in
     on_ok_weaker c.write_ends.result
-    (λ h. whole R s.devices ds ds' s.lines _ _ _ _ ready all
+    (λ h. whole R s.devices ds ds' s.lines _ _ _ _ c.requires.served.no_dumps ready all
     (subst (λ (l : List DeviceLineData). Gained (g.K.Sink.written c.replay_lines.new.out) (ends_text l ds') (g.K.Sink.written c.write_ends.new.out)) same h))
     c.write_ends.ensures.ok
 
@@ -120,8 +121,8 @@ returns-clause-err g c =
     let same = c.as_slice-devices.ensures ∙ ap (λ (x : ScenarioData). x.devices) c.scenario.view_is in
     let lines = c.as_slice.ensures ∙ ap (λ (x : ScenarioData). x.lines) c.scenario.view_is in
     let ready = subst (λ (l : List DeviceLineData). Gained (g.K.Sink.written c.args.out.now) (flat_map device_text l) (g.K.Sink.written c.write_readies.new.out)) same c.in_ok-write_readies.ensures.ok in
-    let run = subst (λ (l : List DeviceLineData). WroteEach R l (ReplaysEach R ds c.as_slice.result.now) ds ds' (g.K.Sink.written c.write_readies.new.out) (g.K.Sink.written c.replay_lines.new.out)) same c.in_ok-replay_lines.ensures.ok in
-    let all = subst (λ (l : List LineData). WroteEach R s.devices (ReplaysEach R ds l) ds ds' (g.K.Sink.written c.write_readies.new.out) (g.K.Sink.written c.replay_lines.new.out)) lines run in
+    let run = subst (λ (l : List DeviceLineData). WroteEach R l (ReplaysEach (Plays R) ds c.as_slice.result.now) ds ds' (g.K.Sink.written c.write_readies.new.out) (g.K.Sink.written c.replay_lines.new.out)) same c.in_ok-replay_lines.ensures.ok in
+    let all = subst (λ (l : List LineData). WroteEach R s.devices (ReplaysEach (Plays R) ds l) ds ds' (g.K.Sink.written c.write_readies.new.out) (g.K.Sink.written c.replay_lines.new.out)) lines run in
     on_err_weaker c.write_ends.result
     (λ h. made_of_last R s.devices ds ds' s.lines _ _ _ _ ready all
     (subst (λ (l : List DeviceLineData). GainedFront (g.K.Sink.written c.replay_lines.new.out) (ends_text l ds') (g.K.Sink.written c.write_ends.new.out)) same h))
@@ -136,9 +137,9 @@ returns-clause-front g c outcomes =
     let same = c.as_slice-devices.ensures ∙ ap (λ (x : ScenarioData). x.devices) c.scenario.view_is in
     let lines = c.as_slice.ensures ∙ ap (λ (x : ScenarioData). x.lines) c.scenario.view_is in
     let ready = subst (λ (l : List DeviceLineData). Gained (g.K.Sink.written c.args.out.now) (flat_map device_text l) (g.K.Sink.written c.write_readies.new.out)) same c.in_ok-write_readies.ensures.ok in
-    let run = subst (λ (l : List DeviceLineData). WroteEach R l (ReplaysEach R ds c.as_slice.result.now) ds ds' (g.K.Sink.written c.write_readies.new.out) (g.K.Sink.written c.replay_lines.new.out)) same c.in_ok-replay_lines.ensures.ok in
-    let all = subst (λ (l : List LineData). WroteEach R s.devices (ReplaysEach R ds l) ds ds' (g.K.Sink.written c.write_readies.new.out) (g.K.Sink.written c.replay_lines.new.out)) lines run in
+    let run = subst (λ (l : List DeviceLineData). WroteEach R l (ReplaysEach (Plays R) ds c.as_slice.result.now) ds ds' (g.K.Sink.written c.write_readies.new.out) (g.K.Sink.written c.replay_lines.new.out)) same c.in_ok-replay_lines.ensures.ok in
+    let all = subst (λ (l : List LineData). WroteEach R s.devices (ReplaysEach (Plays R) ds l) ds ds' (g.K.Sink.written c.write_readies.new.out) (g.K.Sink.written c.replay_lines.new.out)) lines run in
     on_err_weaker c.write_ends.result
-    (λ h. front_of_last R s.devices ds ds' s.lines _ _ _ _ ready all
+    (λ h. front_of_last R s.devices ds ds' s.lines _ _ _ _ c.requires.served.no_dumps ready all
     (subst (λ (l : List DeviceLineData). GainedFront (g.K.Sink.written c.replay_lines.new.out) (ends_text l ds') (g.K.Sink.written c.write_ends.new.out)) same h))
     c.write_ends.ensures.err
