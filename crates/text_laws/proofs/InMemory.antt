@@ -23,7 +23,7 @@ use Rattle.text_model.specs.Journals.{Journaled, entries_of}
 use Rattle.block_engine.specs.Determined.{LosesNothing}
 use Rattle.text_laws.specs.Replays.{written, OpenAs, IsJournalOf}
 use Rattle.text_laws.specs.Values.{IsEventValue}
-use Rattle.text_laws.specs.InMemory.{memory_device, IsTextInMemory, IsOwnText, LawOfReplay, LawOfJournals, HasOneText, HasOneJournal}
+use Rattle.text_laws.specs.InMemory.{memory_device, IsTextInMemory, IsOwnText, LawOfReplay, LawOfJournals, HasOneText, HasOneJournalInMemory}
 use Rattle.text_laws.proofs.Asked.{IsWithinLines}
 use Rattle.text_laws.proofs.Asks.{line_value}
 use Rattle.text_laws.proofs.Carried.{spelled_read}
@@ -112,7 +112,7 @@ journal_of bytes text s read is =
       alone = replays_alone Serves is.opened is.replay.ends s.lines is.replay.printed dumpless is.replay.replays;
     }
 
-pub has_one_journal : HasOneJournal
+pub has_one_journal : HasOneJournalInMemory
 has_one_journal bytes others text s t read read' is it =
     let first = scenario_is scenario_limits bytes s read in
     let other = scenario_is scenario_limits others t read' in

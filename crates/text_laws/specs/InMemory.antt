@@ -64,8 +64,8 @@ HasOneText = (bytes t u : List ℕ) (r s : ScenarioData) → scenario_of bytes �
 
 -- Texts of scenarios' replays over media in memory that are the same are of the same devices, and print the same: the same entries, with
 -- the same answers and the same completions.
-abbrev pub HasOneJournal : Type 0
-HasOneJournal =
+abbrev pub HasOneJournalInMemory : Type 0
+HasOneJournalInMemory =
     (bytes others text : List ℕ) (s t : ScenarioData)
     → scenario_of bytes ≡ Ok s → scenario_of others ≡ Ok t → (is : IsTextInMemory s text) → (it : IsTextInMemory t text)
     → (s.devices ≡ t.devices) × (is.replay.printed ≡ it.replay.printed)
