@@ -1,6 +1,6 @@
 -- Each script has a schedule, and its lines are replayed as it stands.
-use Rattle.std.proofs.Common.{◌≡◌, ◌≢◌, ℕ, zero, suc, ◌+◌, ◌<◌, ◌≤◌, Bool, true, false, cond, List, [], ◌∷◌, ◌++◌, length, map, All, slice_get, slice_set, Option, Some, None, refl, sym, ap, ◌∙◌, subst, arith, append_assoc, length-append}
-use Rattle.std.specs.List.{AllPairs, filter, flat_map}
+use Rattle.std.proofs.Common.{◌≡◌, ◌≢◌, ℕ, zero, suc, ◌<◌, Bool, true, false, cond, List, [], ◌∷◌, ◌++◌, length, map, All, slice_get, slice_set, Option, Some, None, refl, sym, ap, ◌∙◌, subst, arith, length-append}
+use Rattle.std.specs.List.{AllPairs, flat_map}
 use Rattle.std.specs.Str.{bytes_eq}
 use Rattle.std.proofs.lemmas.Bool.{cond-true}
 use Rattle.std.proofs.lemmas.List.{append-nil}
@@ -26,9 +26,9 @@ use Rattle.tcmu_model.proofs.DrainEnds.{drain_ends}
 use Rattle.tcmu_model.proofs.Draining.{all_todo}
 use Rattle.tcmu_model.proofs.Logs.{makes_grows}
 use Rattle.tcmu_model.proofs.Runs.{sound_step}
-use Rattle.text_model.specs.Journals.{Journaled, is_of, entries_of, IsLegalEach}
-use Rattle.text_model.specs.Replay.{made, lines_of, Plays}
-use Rattle.text_model.specs.Schedule.{may_stand, is_work, LiveRun, sent_under, sent, to_send, if_admin, admin_made, AllMade, IsSchedule, HasSchedule, StandsAttached, AreSchedules}
+use Rattle.text_model.specs.Journals.{Journaled, entries_of, IsLegalEach}
+use Rattle.text_model.specs.Replay.{lines_of, Plays}
+use Rattle.text_model.specs.Schedule.{may_stand, is_work, LiveRun, sent_under, sent, to_send, if_admin, admin_made, IsSchedule, HasSchedule, StandsAttached, AreSchedules}
 use Rattle.text_model.specs.ScenarioData.{ScenarioData}
 use Rattle.text_model.specs.ScenarioRules.{IsInitLine, IsAdminEvent, IsScript}
 use Rattle.text_model.specs.Script.{InitLineData, ScriptData, is_admin}
