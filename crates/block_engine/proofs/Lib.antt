@@ -1,4 +1,6 @@
 pub mod Choosing
+pub mod Syncing
 pub mod Unmapping
 pub mod Deciding
 pub mod Settling
+pub mod Known

@@ -5,7 +5,7 @@ use Rattle.tcmu_types.specs.Rules.{IsReply}
 use Rattle.tcmu_model.specs.MediumState.{MediumState, memory, file}
 use Rattle.scsi_model.specs.Medium.{empty_span, memory_state}
 use Rattle.scsi_model.specs.Runs.{IsRun}
-use Rattle.scsi_model.specs.ReadsLost.{reads_lost}
+use Rattle.scsi_model.specs.ReadsLost.{reads_lost, ServesKnown}
 use Rattle.tcmu_model.specs.Steps.{Asked}
 use Rattle.scsi_model.specs.Scsi.{Serves}
 
@@ -24,6 +24,13 @@ OneReply =
 -- a told medium stays told
 abbrev pub StaysTold : Type 0
 StaysTold = (name : List ℕ) (m : MediumState) (r : Asked) (reply : ReplyData) (after : MediumState) → IsTold m → Serves name m r reply after → IsTold after
+
+-- So it is of a request that is known to read nothing lost, and of one that is not: they have one reply, and leave one medium, which is
+-- told again.
+abbrev pub OneKnownReply : Type 0
+OneKnownReply =
+    (name : List ℕ) (m : MediumState) (r : Asked) (first second : ReplyData) (one other : MediumState) → IsTold m
+    → ServesKnown name m r first one → Serves name m r second other → (first ≡ second) × (one ≡ other) × IsTold one
 
 -- where nothing is lost, no request reads what is
 abbrev pub ReadsNothingLost : Type 0
@@ -60,6 +67,12 @@ abbrev pub OneReplyWithoutLoss : Type 0
 OneReplyWithoutLoss =
     (name : List ℕ) (m : MediumState) (r : Asked) (first second : ReplyData) (one other : MediumState) → LosesNothing m
     → Serves name m r first one → Serves name m r second other → (first ≡ second) × (one ≡ other) × LosesNothing one
+
+-- over such a medium every request reads nothing lost
+abbrev pub KnowsWithoutLoss : Type 0
+KnowsWithoutLoss =
+    (name : List ℕ) (m : MediumState) (r : Asked) (reply : ReplyData) (after : MediumState) → LosesNothing m
+    → Serves name m r reply after → ServesKnown name m r reply after × LosesNothing after
 
 -- what a request leaves of a medium is behind a run of the medium's calls
 abbrev pub RequestRuns : Type 0

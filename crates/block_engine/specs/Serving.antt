@@ -20,7 +20,7 @@ pub record Served {E : Type 0} (Meaning : Outcome) (in_len : ℕ) (old new : Med
   pub same : OnErr result (new ≡ old)
   pub counted : OnErr result (after ≡ before)
 
--- where SYNCHRONIZE CACHE was asked for and is GOOD, this holds: what is below was asked for one more sync
-abbrev pub ReachesBelow : {E : Type 0} → Result Op CdbFault → Type 0 → Result ReplyData E → Type 0
-ReachesBelow (Ok (op.Sync lba count)) Synced result = IfOk result (λ r. r.status ≡ 0 → Synced)
-ReachesBelow _ Synced result = Unit {0}
+-- where SYNCHRONIZE CACHE was asked for and is GOOD, this holds
+abbrev pub IfSynced : {E : Type 0} → Result Op CdbFault → Result ReplyData E → Type 0 → Type 0
+IfSynced (Ok (op.Sync lba count)) result P = IfOk result (λ r. r.status ≡ 0 → P)
+IfSynced _ result P = Unit {0}

@@ -120,8 +120,7 @@ pub fn sync<M: Medium>(
     lba: u64,
     count: u32,
 ) -> Result<Reply, NoMemory>
-    ensures served { Served (ServesSync (M.state medium.old) lba count) 0 (M.state medium.old) (M.state medium.new) (M.faults medium.old) (M.faults medium.new) result }
-    ensures synced { IfOk result (λ reply. reply.status ≡ 0 → M.synced medium.old medium.new) }
+    ensures { Served (ServesSync (M.state medium.old) lba count) 0 (M.state medium.old) (M.state medium.new) (M.faults medium.old) (M.faults medium.new) result }
 {
     if let Some(sense) = range_fault(medium.blocks(), lba, count) {
         return Ok(refused(alloc, sense));

@@ -1,10 +1,11 @@
 //! The engine: one handler for every medium.
-ghost use Rattle.std.specs.Prelude.{◌≡◌, ◌≤◌, true, length, Ok, IfOk, OnErr};
+ghost use Rattle.std.specs.Prelude.{◌≡◌, ◌≤◌, true, length, IfOk, OnErr};
 ghost use Rattle.tcmu_types.specs.Numbered.{Rose};
 ghost use Rattle.edge.specs.Outside.{CountsFailed};
 ghost use Rattle.scsi_model.specs.Decoding.{IsDecoded, decoded};
+ghost use Rattle.scsi_model.specs.Runs.{IsSynced};
 ghost use Rattle.scsi_model.specs.Scsi.{Serves, ServesOp, is_medium_error};
-ghost use Rattle.block_engine.specs.Serving.{Served, ReachesBelow};
+ghost use Rattle.block_engine.specs.Serving.{Served, IfSynced};
 
 use crate::blocks::{read, sync, write, write_same};
 use crate::compare::compare_write;
@@ -62,8 +63,7 @@ fn serve<M: Medium>(
     in_len: u32,
 ) -> Result<Reply, NoMemory>
     requires { IsDecoded op }
-    ensures served { Served (ServesOp name.now (M.state medium.old) sent.now in_len op) in_len (M.state medium.old) (M.state medium.new) (M.faults medium.old) (M.faults medium.new) result }
-    ensures synced { ReachesBelow (Ok op) (M.synced medium.old medium.new) result }
+    ensures { Served (ServesOp name.now (M.state medium.old) sent.now in_len op) in_len (M.state medium.old) (M.state medium.new) (M.faults medium.old) (M.faults medium.new) result }
 {
     match op {
         Op::Read { lba, count } => read(alloc, medium, lba, count, in_len),
@@ -95,8 +95,8 @@ impl<M: Medium + Drop> Handler for Engine<M> {
         // Sense data say that a call of the medium failed exactly where the medium counts one more.
         ensures caused { IfOk result (λ reply. is_medium_error reply.sense ≡ true → Rose (M.faults self.old.medium) (M.faults self.new.medium)) }
         ensures exact { IfOk result (λ reply. CountsFailed (M.faults self.old.medium) (is_medium_error reply.sense) (M.faults self.new.medium)) }
-        // A SYNCHRONIZE CACHE that is GOOD asked what is below the medium for a sync.
-        ensures synced { ReachesBelow (decoded request.now.cdb) (M.synced self.old.medium self.new.medium) result }
+        // A SYNCHRONIZE CACHE that is GOOD asked the store below the medium for one sync more, where syncs go to a store, as over a file.
+        ensures synced { IfSynced (decoded request.now.cdb) result (IsSynced (M.state self.old.medium) (M.state self.new.medium)) }
     {
         match decode(&request.cdb) {
             Ok(op) => serve(

@@ -1,5 +1,5 @@
 //! What follows from the engine's relation.
-ghost use Rattle.block_engine.specs.Determined.{SomeReply, WholeReply, OneReply, StaysTold, ReadsNothingLost, OneReplyInMemory, StaysInMemory, OneReplyWithoutLoss, RequestRuns};
+ghost use Rattle.block_engine.specs.Determined.{SomeReply, WholeReply, OneReply, StaysTold, OneKnownReply, ReadsNothingLost, OneReplyInMemory, StaysInMemory, OneReplyWithoutLoss, KnowsWithoutLoss, RequestRuns};
 
 /// Every request has a reply, over every medium.
 pub fn some_reply()
@@ -23,6 +23,11 @@ pub fn stays_told()
     ensures { StaysTold }
 {}
 
+/// One request of such a medium that reads and compares nothing that is lost settles what any serving of it gives and leaves.
+pub fn one_known_reply()
+    ensures { OneKnownReply }
+{}
+
 /// Where nothing is lost, no request reads what is lost.
 pub fn reads_nothing_lost()
     ensures { ReadsNothingLost }
@@ -42,6 +47,11 @@ pub fn stays_in_memory()
 /// lost, nothing gets lost.
 pub fn one_reply_without_loss()
     ensures { OneReplyWithoutLoss }
+{}
+
+/// Over such a medium no request reads or compares what is lost, and it stays such a medium.
+pub fn knows_without_loss()
+    ensures { KnowsWithoutLoss }
 {}
 
 /// What a request leaves of a medium is what some calls of it leave, each within the medium: so all that holds of runs of calls holds of

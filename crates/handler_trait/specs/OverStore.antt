@@ -7,4 +7,4 @@ use Rattle.edge.specs.Stores.{StoreState}
 
 -- what a store shows, of which these blocks are free
 abbrev pub base_of : StoreState → List ℕ → Base
-base_of s free = record { size = s.size; bytes = option_map (cleared free) s.bytes; free = free; calls = s.calls }
+base_of s free = record { size = s.size; bytes = option_map (cleared free) s.bytes; free = free; calls = s.calls; syncs = s.syncs }

@@ -1,5 +1,5 @@
 //! What a handler serves its device's bytes from.
-ghost use Rattle.std.specs.Prelude.{◌≡◌, ℕ, ◌+◌, ◌*◌, ◌%◌, ◌^◌, ◌<◌, ◌≤◌, length, is_err, OnOk};
+ghost use Rattle.std.specs.Prelude.{◌≡◌, ℕ, ◌+◌, ◌*◌, ◌%◌, ◌^◌, ◌<◌, ◌≤◌, length, is_err};
 ghost use Rattle.tcmu_types.specs.Numbered.{HasCause};
 ghost use Rattle.edge.specs.Outside.{CountsFailed};
 ghost use Rattle.tcmu_model.specs.MediumState.{MediumState};
@@ -14,9 +14,6 @@ pub trait Medium {
 
     /// How many calls have failed; the count stops at 2^64 - 1.
     ghost faults: { Self → ℕ };
-
-    /// What stands between a medium and itself after a sync that did not fail: what is below was asked for one more sync.
-    ghost synced: { Self → Self → Type 0 };
 
     /// How many logical blocks there are.
     fn blocks(&self) -> u64
@@ -63,7 +60,6 @@ pub trait Medium {
     /// Brings all that was written before to what is below (SYNCHRONIZE CACHE). The bytes of the medium stay as they are.
     fn sync(&mut self) -> Result<(), Failed>
         ensures syncs { Syncs (state self.old) (is_err result) (state self.new) }
-        ensures reached { OnOk result (synced self.old self.new) }
         ensures blocks { (state self.new).blocks ≡ (state self.old).blocks }
         ensures protected { (state self.new).protected ≡ (state self.old).protected }
         ensures cause { HasCause (faults self.old) (faults self.new) result }

@@ -20,10 +20,10 @@ cleared_of_none : (bytes : Option (List ℕ)) → option_map (cleared []) bytes 
 cleared_of_none None = refl
 cleared_of_none (Some xs) = ap (λ (ys : List ℕ). Some ys) (cleared_none xs)
 
-below_opened : (s : StoreState) → below_file s empty_span [] ≡ file_below s.size s.bytes s.calls
+below_opened : (s : StoreState) → below_file s empty_span [] ≡ file_below s.size s.bytes s.calls s.syncs
 below_opened s =
     ap (λ (bytes : Option (List ℕ)). record (below_file s empty_span []) { bytes = bytes }) (blanked_none s.bytes)
-    ∙ ap (λ (bytes : Option (List ℕ)). record (file_below s.size s.bytes s.calls) { store = opened_store s.size bytes s.calls }) (cleared_of_none s.bytes)
+    ∙ ap (λ (bytes : Option (List ℕ)). record (file_below s.size s.bytes s.calls s.syncs) { store = opened_store s.size bytes s.calls s.syncs }) (cleared_of_none s.bytes)
 
 pub opens_memory : (c : ConfigData) (blocks : ℕ) (protected : Bool) (fails : List ℕ) (below m : MediumState) (old : Option FilesState)
     → c.kind ≡ InMemory blocks → protected ≡ c.protected → fails ≡ c.fails → below ≡ memory_state blocks (replicate (512 * blocks) 0) 0

@@ -6,9 +6,11 @@ use Rattle.scsi_model.specs.Base.{cleared}
 use Rattle.scsi_model.specs.Medium.{has_store}
 use Rattle.edge.specs.Stores.{StoreState}
 
--- This is the store below a medium: it has its length and its bytes, but for the free blocks, and has made its calls.
+-- This is the store below a medium: it has its length and its bytes, but for the free blocks, has made its calls, and as many of them
+-- were syncs.
 pub record IsStoredIn (s : StoreState) (m : MediumState) : Type 0 where
   pub layer : has_store m.below.layer ≡ true
   pub size : s.size ≡ m.below.store.size
   pub bytes : m.below.store.bytes ≡ option_map (cleared m.below.store.free) s.bytes
   pub calls : s.calls ≡ m.below.store.calls
+  pub syncs : s.syncs ≡ m.below.store.syncs

@@ -58,8 +58,6 @@ impl<M: Medium + Drop> Medium for Configured<M> {
 
     ghost faults = { λ m. m.faults };
 
-    ghost synced = { λ m n. M.synced m.below n.below };
-
     fn blocks(&self) -> u64 {
         self.below.blocks()
     }

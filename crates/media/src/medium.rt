@@ -38,8 +38,6 @@ impl<S: Store + Drop> Medium for Media<S> {
 
     ghost faults = { λ m. elim m [ Memory below ↦ ⟦<Configured<MemMedium> as Medium>⟧.faults below | File below ↦ ⟦<Configured<FileMedium<S>> as Medium>⟧.faults below ] };
 
-    ghost synced = { λ m n. elim m [ Memory below ↦ Unit {0} | File below ↦ elim n [ Memory other ↦ ⊥ | File behind ↦ ⟦<Configured<FileMedium<S>> as Medium>⟧.synced below behind ] ] };
-
     fn blocks(&self) -> u64 {
         match self {
             Media::Memory(medium) => medium.blocks(),

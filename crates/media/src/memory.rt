@@ -72,9 +72,6 @@ impl Medium for MemMedium {
 
     ghost faults = { λ _. 0 };
 
-    // There is nothing below that could be synced.
-    ghost synced = { λ m n. Unit {0} };
-
     fn blocks(&self) -> u64 {
         self.blocks
     }

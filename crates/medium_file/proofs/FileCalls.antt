@@ -4,14 +4,14 @@ use Rattle.std.specs.Option.{option_map}
 use Rattle.tcmu_types.specs.Numbered.{ComesOut, one_more, next_call}
 use Rattle.tcmu_types.proofs.Places.{get_take, get_drop, index_from_get}
 use Rattle.tcmu_model.specs.MediumState.{Span}
-use Rattle.scsi_model.specs.Base.{AsksStore, WritesStore, FillsStore}
+use Rattle.scsi_model.specs.Base.{AsksStore, SyncsStore, WritesStore, FillsStore}
 use Rattle.scsi_model.specs.Medium.{blanked, repeated, MatchesTold, Reads, Writes, Fills, Syncs, OnStore, with_piece, with_lost}
 use Rattle.scsi_model.proofs.LostRange.{Lies, SameOutside, kept_lost, more_lost, lies_same, seen, put_blanked, spoil_blanked}
 use Rattle.scsi_model.proofs.FileRuns.{overwritten_outside, fits_in}
 use Rattle.edge.specs.Stores.{StoreState, Puts, Spoils, Shows}
 use Rattle.handler_trait.specs.OverStore.{base_of}
 use Rattle.handler_trait.proofs.Repeating.{length_repeated}
-use Rattle.handler_trait.proofs.OverStore.{asked_base}
+use Rattle.handler_trait.proofs.OverStore.{asked_base, synced_base}
 use Rattle.medium_file.specs.FileState.{below_file, file_state}
 
 -- bytes that the store shows are as told, outside of the lost range
@@ -25,25 +25,34 @@ shown at lost free s out long l g = by s.bytes long g
         index_from_get out (blanked lost xs) i (at + i)
         (ap (λ ys. slice_get ys i) g ∙ get_take (length out) (drop at xs) i less ∙ get_drop at xs i ∙ sym (seen lost xs (lies_same lost s.size (length xs) k l) (at + i) hid))
 
--- a call of the store that leaves the bytes
-called : (lost : Span) (free : List ℕ) (s after : StoreState) (failed : Bool) → after.bytes ≡ s.bytes → after.size ≡ s.size → after.calls ≡ one_more s.calls → ComesOut s.calls failed
-    → OnStore AsksStore (below_file s lost free) failed (below_file after lost free)
-called lost free s after failed b z c o =
-    (base_of after free, asked_base s after free failed b z c o, ap (λ (bytes : Option (List ℕ)). record (below_file after lost free) { bytes = option_map (blanked lost) bytes }) b)
+-- what a call of the store that leaves the bytes leaves below
+same_below : (lost : Span) (free : List ℕ) (s after : StoreState) → after.bytes ≡ s.bytes
+    → below_file after lost free ≡ record (below_file s lost free) { store = base_of after free }
+same_below lost free s after b = ap (λ (bytes : Option (List ℕ)). record (below_file after lost free) { bytes = option_map (blanked lost) bytes }) b
+
+-- such a call: one that is no sync, and a sync
+asked : (lost : Span) (free : List ℕ) (s after : StoreState) (failed : Bool) → after.bytes ≡ s.bytes → after.size ≡ s.size → after.calls ≡ one_more s.calls → ComesOut s.calls failed
+    → after.syncs ≡ s.syncs → OnStore AsksStore (below_file s lost free) failed (below_file after lost free)
+asked lost free s after failed b z c o n = (base_of after free, asked_base s after free failed b z c o n, same_below lost free s after b)
+
+synced : (lost : Span) (free : List ℕ) (s after : StoreState) (failed : Bool) → after.bytes ≡ s.bytes → after.size ≡ s.size → after.calls ≡ one_more s.calls → ComesOut s.calls failed
+    → after.syncs ≡ next_call s.syncs → OnStore SyncsStore (below_file s lost free) failed (below_file after lost free)
+synced lost free s after failed b z c o n = (base_of after free, synced_base s after free failed b z c o n, same_below lost free s after b)
 
 pub reads_file : (at blocks calls later : ℕ) (lost : Span) (free : List ℕ) (s after : StoreState) (out : List ℕ) (failed : Bool) → later ≡ next_call calls
     → IfSome s.bytes (λ xs. length xs ≡ s.size) → Lies lost s.size
-    → after.bytes ≡ s.bytes → after.size ≡ s.size → after.calls ≡ one_more s.calls → ComesOut s.calls failed → (failed ≡ false → Shows s.bytes at out)
+    → after.bytes ≡ s.bytes → after.size ≡ s.size → after.calls ≡ one_more s.calls → ComesOut s.calls failed → after.syncs ≡ s.syncs
+    → (failed ≡ false → Shows s.bytes at out)
     → Reads at out (file_state blocks s lost free calls) failed (file_state blocks after lost free later)
-reads_file at blocks calls later lost free s after out failed f long l b z n o given = rw f (record {
-  made = inr (refl, below_file after lost free, called lost free s after failed b z n o, refl);
+reads_file at blocks calls later lost free s after out failed f long l b z n o k given = rw f (record {
+  made = inr (refl, below_file after lost free, asked lost free s after failed b z n o k, refl);
   told = λ h. shown at lost free s out long l (given h);
 })
 
 pub syncs_file : (blocks calls later : ℕ) (lost : Span) (free : List ℕ) (s after : StoreState) (failed : Bool) → later ≡ next_call calls
-    → after.bytes ≡ s.bytes → after.size ≡ s.size → after.calls ≡ one_more s.calls → ComesOut s.calls failed
+    → after.bytes ≡ s.bytes → after.size ≡ s.size → after.calls ≡ one_more s.calls → ComesOut s.calls failed → after.syncs ≡ next_call s.syncs
     → Syncs (file_state blocks s lost free calls) failed (file_state blocks after lost free later)
-syncs_file blocks calls later lost free s after failed f b z n o = rw f (inr (refl, below_file after lost free, called lost free s after failed b z n o, refl))
+syncs_file blocks calls later lost free s after failed f b z n o k = rw f (inr (refl, below_file after lost free, synced lost free s after failed b z n o k, refl))
 
 -- what a piece that was put, and one that may be spoiled, leave of what the medium shows
 put_below : (at : ℕ) (lost : Span) (free later : List ℕ) (s after : StoreState) (piece : List ℕ)

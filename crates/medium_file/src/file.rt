@@ -1,7 +1,7 @@
 //! A medium over a store, with the range of the bytes that failed calls may have spoiled.
 ghost use Rattle.std.specs.Prelude.{◌≡◌, [], ◌+◌, ◌*◌, ◌/◌, ◌%◌, ◌^◌, ◌<◌, ◌≤◌, length, is_err, OnOk, OnErr};
 ghost use Rattle.std.specs.Option.{option_map};
-ghost use Rattle.tcmu_types.specs.Numbered.{HasCause, next_call};
+ghost use Rattle.tcmu_types.specs.Numbered.{HasCause};
 ghost use Rattle.tcmu_model.specs.MediumState.{file};
 ghost use Rattle.scsi_model.specs.Medium.{Reads, Writes, Fills, repeated, narrowed, widened, span_of, empty_span, blanked};
 ghost use Rattle.edge.specs.Outside.{CountsFailed};
@@ -129,8 +129,6 @@ impl<S: Store + Drop> Medium for FileMedium<S> {
     ghost state = { λ f. f.medium };
 
     ghost faults = { λ f. S.faults f.store };
-
-    ghost synced = { λ f g. S.syncs g.store ≡ next_call (S.syncs f.store) };
 
     fn blocks(&self) -> u64 {
         self.blocks

@@ -1,9 +1,9 @@
 -- Each call of a medium has an outcome, and only one where the failing calls of the medium and of its store are told.
 use Rattle.std.proofs.Common.{◌∙◌, ◌≡◌, ℕ, zero, suc, ◌+◌, ◌*◌, ◌/◌, Bool, true, false, nat_le, List, [], ◌∷◌, length, sym, ap, refl, Option, Some, None, IfSome, is_some}
-use Rattle.tcmu_types.specs.Numbered.{Numbered, ComesOut, is_listed, one_more}
+use Rattle.tcmu_types.specs.Numbered.{Numbered, ComesOut, is_listed, one_more, next_call}
 use Rattle.tcmu_model.specs.MediumState.{Dirty, Layer, memory, file, overlay, write_back, Base, Below}
 use Rattle.scsi_model.specs.Calls.{Call, unchanged, Does, Leaves, Then, Chosen}
-use Rattle.scsi_model.specs.Base.{stored, spoiled, AsksStore, WritesStore, FillsStore}
+use Rattle.scsi_model.specs.Base.{stored, spoiled, AsksStore, SyncsStore, WritesStore, FillsStore}
 use Rattle.scsi_model.specs.Medium.{with_piece, with_lost, OnStore, dirty_blocks, with_dirty, dirty_from, joined_dirty, FlushesBlocks, Flushes, Dirties, DirtiesEach, WritesBack, ReadsBelow, WritesBelow, FillsBelow, SyncsBelow, repeated}
 use Rattle.scsi_model.proofs.Joined.{IsDecided, does_decided, leaves_decided, then_decided, chosen_decided}
 
@@ -38,6 +38,13 @@ tells_below b = tells_store b.store
 asks_decided : IsDecided tells_store AsksStore
 asks_decided = record {
   some = λ s. let x = comes_some s.calls in (x.0, record s { calls = one_more s.calls }, (x.1, refl));
+  one = λ s f g a b t x y. (comes_one s.calls f g t x.0 y.0, x.1 ∙ sym y.1);
+  same = λ s f a x. ap tells_store x.1;
+}
+
+syncs_store_decided : IsDecided tells_store SyncsStore
+syncs_store_decided = record {
+  some = λ s. let x = comes_some s.calls in (x.0, record s { calls = one_more s.calls; syncs = next_call s.syncs }, (x.1, refl));
   one = λ s f g a b t x y. (comes_one s.calls f g t x.0 y.0, x.1 ∙ sym y.1);
   same = λ s f a x. ap tells_store x.1;
 }
@@ -129,6 +136,6 @@ fills_decided (write_back slots dirty) at block count =
 
 pub syncs_decided : (l : Layer) → IsDecided tells_below (SyncsBelow l)
 syncs_decided memory = does_decided tells_below unchanged (λ b. refl)
-syncs_decided file = on_store_decided AsksStore asks_decided
+syncs_decided file = on_store_decided SyncsStore syncs_store_decided
 syncs_decided overlay = does_decided tells_below unchanged (λ b. refl)
-syncs_decided (write_back slots dirty) = then_decided tells_below (Flushes slots) (OnStore AsksStore) (flushes_decided slots) (on_store_decided AsksStore asks_decided)
+syncs_decided (write_back slots dirty) = then_decided tells_below (Flushes slots) (OnStore SyncsStore) (flushes_decided slots) (on_store_decided SyncsStore syncs_store_decided)

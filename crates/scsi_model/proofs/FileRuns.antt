@@ -5,12 +5,12 @@ use Rattle.std.specs.Option.{option_map}
 use Rattle.std.proofs.lemmas.Bool.{cases_Bool}
 use Rattle.std.proofs.lemmas.List.{length-append, take-append-drop, length-replicate}
 use Rattle.tcmu_types.specs.Numbers.{is_among}
-use Rattle.tcmu_types.specs.Numbered.{one_more}
+use Rattle.tcmu_types.specs.Numbered.{one_more, next_call}
 use Rattle.tcmu_types.specs.Overwriting.{overwritten}
 use Rattle.tcmu_types.proofs.Overwriting.{within, get_overwritten, length_overwritten, overwritten_more}
 use Rattle.tcmu_model.specs.MediumState.{Span, Layer, file, Base, Below, MediumState}
 use Rattle.scsi_model.specs.Calls.{Call}
-use Rattle.scsi_model.specs.Base.{stored, spoiled, AsksStore, WritesStore, FillsStore}
+use Rattle.scsi_model.specs.Base.{stored, spoiled, AsksStore, SyncsStore, WritesStore, FillsStore}
 use Rattle.scsi_model.specs.Medium.{zeros, lies_in, blanked, repeated, with_piece, with_lost, OnStore, ReadsBelow, WritesBelow, FillsBelow, SyncsBelow, MakesCall, counted}
 use Rattle.scsi_model.specs.Runs.{MediumCall, read, write, fill, sync, IsWithin, Makes, MadeCall, Runs, touches, SameAt, ShowsFile, RunsShowFile, RunsLeave}
 use Rattle.scsi_model.proofs.Cleared.{among_with, among_without, block_inside, block_outside}
@@ -294,6 +294,10 @@ shows_lost at n m t fits s o =
 shows_asked : (m : MediumState) → ShowsFile m → ShowsFile (record (counted m) { below = record m.below { store = record m.below.store { calls = one_more m.below.store.calls } } })
 shows_asked m s = record { layer = s.layer; size = s.size; long = s.long; ordered = s.ordered; inside = s.inside; bytes = s.bytes; free = s.free }
 
+shows_synced : (m : MediumState) → ShowsFile m
+    → ShowsFile (record (counted m) { below = record m.below { store = record m.below.store { calls = one_more m.below.store.calls; syncs = next_call m.below.store.syncs } } })
+shows_synced m s = record { layer = s.layer; size = s.size; long = s.long; ordered = s.ordered; inside = s.inside; bytes = s.bytes; free = s.free }
+
 shows_counted : (m : MediumState) → ShowsFile m → ShowsFile (counted m)
 shows_counted m s = record { layer = s.layer; size = s.size; long = s.long; ordered = s.ordered; inside = s.inside; bytes = s.bytes; free = s.free }
 
@@ -301,6 +305,12 @@ asks_shows : (m : MediumState) (f : Bool) (a : Below) → ShowsFile m → OnStor
 asks_shows m f a s x =
     let e : a ≡ record m.below { store = record m.below.store { calls = one_more m.below.store.calls } } = x.2 ∙ ap (λ (t : Base). record m.below { store = t }) x.1.1 in
     rw e (shows_asked m s)
+
+syncs_shows : (m : MediumState) (f : Bool) (a : Below) → ShowsFile m → OnStore SyncsStore m.below f a → ShowsFile (record (counted m) { below = a })
+syncs_shows m f a s x =
+    let e : a ≡ record m.below { store = record m.below.store { calls = one_more m.below.store.calls; syncs = next_call m.below.store.syncs } } =
+    x.2 ∙ ap (λ (t : Base). record m.below { store = t }) x.1.1 in
+    rw e (shows_synced m s)
 
 writes_shows : (at : ℕ) (piece : List ℕ) (m : MediumState) (f : Bool) (a : Below) → IsWithin m.blocks (write at piece) → ShowsFile m
     → WritesBelow file at piece m.below f a → ShowsFile (record (counted m) { below = a })
@@ -343,7 +353,7 @@ call_shows : (c : MediumCall) (m : MediumState) (f : Bool) (a : MediumState) →
 call_shows (read at out) m f a w x s = made_shows ReadsBelow m f a s (λ b. asks_shows m f b s) x.made
 call_shows (write at piece) m f a w x s = made_shows (λ l. WritesBelow l at piece) m f a s (λ b. writes_shows at piece m f b w s) x
 call_shows (fill at block count) m f a w x s = made_shows (λ l. FillsBelow l at block count) m f a s (λ b. fills_shows at block count m f b w s) x
-call_shows sync m f a w x s = made_shows SyncsBelow m f a s (λ b. asks_shows m f b s) x
+call_shows sync m f a w x s = made_shows SyncsBelow m f a s (λ b. syncs_shows m f b s) x
 
 same_at : (i : ℕ) (s : Base) → SameAt i s s
 same_at i s = record { byte = refl; free = refl }
@@ -359,6 +369,11 @@ left_store at n piece false k = refl
 asks_at : (i : ℕ) (b : Below) (f : Bool) (a : Below) → OnStore AsksStore b f a → SameAt i b.store a.store
 asks_at i b f a x =
     let e : a.store ≡ record b.store { calls = one_more b.store.calls } = ap (λ (k : Below). k.store) x.2 ∙ x.1.1 in
+    rw e (record { byte = refl; free = refl })
+
+syncs_at : (i : ℕ) (b : Below) (f : Bool) (a : Below) → OnStore SyncsStore b f a → SameAt i b.store a.store
+syncs_at i b f a x =
+    let e : a.store ≡ record b.store { calls = one_more b.store.calls; syncs = next_call b.store.syncs } = ap (λ (k : Below). k.store) x.2 ∙ x.1.1 in
     rw e (record { byte = refl; free = refl })
 
 made_at : (i : ℕ) (C : Layer → Call Below) (m : MediumState) (f : Bool) (a : MediumState) → ShowsFile m
@@ -381,7 +396,7 @@ call_leaves (fill at block count) m f a i w x s away =
     made_at i (λ l. FillsBelow l at block count) m f a s
     (λ b y. let e : b.store ≡ y.1.0 = ap (λ (k : Below). k.store) y.2 ∙ left_store at (512 * count) (repeated count block) f y.0 ∙ ap (λ (k : Below). k.store) y.1.2 in
     rw e (only_at at (512 * count) i m.below.store y.1.0 away (fills_only at block count m.below.store y.1.0 f w.1 w.2 told y.1.1))) x
-call_leaves sync m f a i w x s away = made_at i SyncsBelow m f a s (λ b. asks_at i m.below f b) x
+call_leaves sync m f a i w x s away = made_at i SyncsBelow m f a s (λ b. syncs_at i m.below f b) x
 
 -- ==== runs
 

@@ -6,3 +6,5 @@ pub mod Decided
 pub mod Running
 pub mod FileRuns
 pub mod Lossless
+pub mod Syncing
+pub mod Holding

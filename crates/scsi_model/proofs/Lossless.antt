@@ -4,7 +4,7 @@ use Rattle.std.specs.Bool.{MatchBool}
 use Rattle.tcmu_types.specs.Numbered.{is_listed}
 use Rattle.tcmu_model.specs.MediumState.{Span, Layer, memory, file, Base, Below, MediumState}
 use Rattle.scsi_model.specs.Calls.{Call, unchanged, Does, Leaves}
-use Rattle.scsi_model.specs.Base.{stored, spoiled, AsksStore, WritesStore, FillsStore}
+use Rattle.scsi_model.specs.Base.{stored, spoiled, AsksStore, SyncsStore, WritesStore, FillsStore}
 use Rattle.scsi_model.specs.Medium.{empty_span, span_of, covers, narrowed, repeated, with_piece, with_lost, OnStore, ReadsBelow, WritesBelow, FillsBelow, SyncsBelow, MakesCall, counted}
 use Rattle.scsi_model.specs.Runs.{MediumCall, read, write, fill, sync, Makes, MadeCall, Runs, IsLossless, RunsStayLossless}
 use Rattle.scsi_model.proofs.Decided.{true_false}
@@ -27,6 +27,9 @@ Unfailing C = (s : Base) (f : Bool) (t : Base) → ListsNone s → C s f t → (
 
 asks_unfailing : Unfailing AsksStore
 asks_unfailing s f t e x = (subst (λ (o : Option (List ℕ)). IfSome o (λ fs. f ≡ is_listed fs s.calls.calls)) e x.0, ap (λ (k : Base). k.calls.fails) x.1 ∙ e)
+
+syncs_unfailing : Unfailing SyncsStore
+syncs_unfailing s f t e x = (subst (λ (o : Option (List ℕ)). IfSome o (λ fs. f ≡ is_listed fs s.calls.calls)) e x.0, ap (λ (k : Base). k.calls.fails) x.1 ∙ e)
 
 writes_unfailing : (at : ℕ) (piece : List ℕ) → Unfailing (WritesStore at piece)
 writes_unfailing at piece s f t e x =
@@ -101,7 +104,7 @@ call_lossless (fill at block count) m f a l x =
     made_lossless (λ k. FillsBelow k at block count) m f a (λ b w y. whole_piece at (repeated count block) m.below f b w y)
     (λ b w y. safe_stored (FillsStore at block count) (fills_unfailing at block count) at (repeated count block) (512 * count) m.below f b w y) l x
 call_lossless sync m f a l x =
-    made_lossless SyncsBelow m f a (λ b w y. whole_unchanged m.below f b w y) (λ b w y. (safe_store AsksStore asks_unfailing m.below f b w y).1) l x
+    made_lossless SyncsBelow m f a (λ b w y. whole_unchanged m.below f b w y) (λ b w y. (safe_store SyncsStore syncs_unfailing m.below f b w y).1) l x
 
 lossless_along : (calls : List MadeCall) (m after : MediumState) → Runs calls m after → IsLossless m → IsLossless after
 lossless_along [] m after e l = rw e l

@@ -7,7 +7,7 @@ use Rattle.scsi_model.specs.Calls.{Call}
 use Rattle.scsi_model.specs.Medium.{ReadsBelow, WritesBelow, FillsBelow, SyncsBelow, MakesCall}
 use Rattle.scsi_model.specs.Runs.{MediumCall, read, write, fill, sync, Makes, MadeCall, Runs, IsRun, clean, Stays, RunsKeep, RunsCount}
 use Rattle.scsi_model.proofs.Joined.{Kept}
-use Rattle.scsi_model.proofs.Steady.{IsSteady, DirtyingIn, reads_kept, writes_kept, fills_kept, syncs_kept}
+use Rattle.scsi_model.proofs.Steady.{IsSteady, Syncing, DirtyingIn, reads_kept, writes_kept, fills_kept, syncs_kept}
 
 -- ==== below
 
@@ -35,6 +35,9 @@ same_steady = record {
   spoilt = λ at n b. record { size = refl; fails = refl; bytes = refl; stored = told_map _ b.store.bytes };
 }
 
+same_synced : Syncing SameBelow
+same_synced b = record { size = refl; fails = refl; bytes = refl; stored = refl }
+
 same_dirty : (l : Layer) → DirtyingIn SameBelow l
 same_dirty memory = tt
 same_dirty file = tt
@@ -54,6 +57,9 @@ layer_steady k = record {
   put = λ at piece b e. e;
   spoilt = λ at n b e. e;
 }
+
+layer_synced : (k : Layer) → Syncing (InLayer k)
+layer_synced k b e = e
 
 layer_dirty : (l : Layer) → DirtyingIn (InLayer (clean l)) l
 layer_dirty memory = tt
@@ -93,7 +99,7 @@ call_stays (fill at block count) m f a x =
     let l = m.below.layer in
     made_stays (FillsBelow l at block count) m f a (fills_kept SameBelow l at block count same_steady (same_dirty l)) (fills_kept (InLayer (clean l)) l at block count (layer_steady (clean l)) (layer_dirty l)) x
 call_stays sync m f a x =
-    let l = m.below.layer in made_stays (SyncsBelow l) m f a (syncs_kept SameBelow l same_steady (same_dirty l)) (syncs_kept (InLayer (clean l)) l (layer_steady (clean l)) (layer_dirty l)) x
+    let l = m.below.layer in made_stays (SyncsBelow l) m f a (syncs_kept SameBelow l same_steady same_synced (same_dirty l)) (syncs_kept (InLayer (clean l)) l (layer_steady (clean l)) (layer_synced (clean l)) (layer_dirty l)) x
 
 call_counts : (c : MediumCall) (m : MediumState) (f : Bool) (a : MediumState) → Makes c m f a → a.own ≡ one_more m.own
 call_counts (read at out) m f a x = made_counts (ReadsBelow m.below.layer) m f a x.made

@@ -1,9 +1,9 @@
 -- What every call below keeps, since each change that a call may leave keeps it.
 use Rattle.std.proofs.Common.{◌≡◌, ℕ, zero, suc, ◌+◌, ◌*◌, ◌/◌, nat_le, List, [], ◌∷◌, length, sym, subst, refl}
-use Rattle.tcmu_types.specs.Numbered.{one_more}
+use Rattle.tcmu_types.specs.Numbered.{one_more, next_call}
 use Rattle.tcmu_model.specs.MediumState.{Dirty, Layer, memory, file, overlay, write_back, Base, Below}
 use Rattle.scsi_model.specs.Calls.{Call, unchanged, Does, Leaves, Then}
-use Rattle.scsi_model.specs.Base.{stored, spoiled, AsksStore, WritesStore, FillsStore}
+use Rattle.scsi_model.specs.Base.{stored, spoiled, AsksStore, SyncsStore, WritesStore, FillsStore}
 use Rattle.scsi_model.specs.Medium.{with_piece, with_lost, OnStore, dirty_blocks, with_dirty, dirty_from, joined_dirty, FlushesBlocks, Flushes, Dirties, DirtiesEach, WritesBack, ReadsBelow, WritesBelow, FillsBelow, SyncsBelow, repeated}
 use Rattle.scsi_model.proofs.Joined.{Kept, IsOrder, does_kept, leaves_kept, then_kept, chosen_kept}
 
@@ -19,6 +19,10 @@ pub record IsSteady (R : Below → Below → Type 0) : Type 0 where
   pub asked : (b : Below) → R b (over (record b.store { calls = one_more b.store.calls }) b)
   pub put : (at : ℕ) (piece : List ℕ) (b : Below) → R b (over (stored at piece b.store) b)
   pub spoilt : (at n : ℕ) (b : Below) → R b (over (spoiled at n b.store) b)
+
+-- and that of a sync too
+abbrev pub Syncing : (Below → Below → Type 0) → Type 0
+Syncing R = (b : Below) → R b (over (record b.store { calls = one_more b.store.calls; syncs = next_call b.store.syncs }) b)
 
 -- and these too, where a layer has such blocks
 abbrev pub Dirtying : (Below → Below → Type 0) → ℕ → Type 0
@@ -46,6 +50,9 @@ on_base R change h s b e = subst (λ t. R b (over (change t) b)) e (h b)
 asks_kept : (R : Below → Below → Type 0) → IsSteady R → Kept (OnBase R) AsksStore
 asks_kept R k s f a c = subst (OnBase R s) (sym c.1) (on_base R (λ t. record t { calls = one_more t.calls }) k.asked s)
 
+syncs_store_kept : (R : Below → Below → Type 0) → Syncing R → Kept (OnBase R) SyncsStore
+syncs_store_kept R y s f a c = subst (OnBase R s) (sym c.1) (on_base R (λ t. record t { calls = one_more t.calls; syncs = next_call t.syncs }) y s)
+
 writes_store_kept : (R : Below → Below → Type 0) (at : ℕ) (piece : List ℕ) → IsSteady R → Kept (OnBase R) (WritesStore at piece)
 writes_store_kept R at piece k =
     leaves_kept (OnBase R) AsksStore (stored at piece) (spoiled at (length piece)) (base_order R k) (asks_kept R k)
@@ -69,7 +76,7 @@ flushes_blocks_kept R slots (x ∷ xs) k d =
     (on_store_kept R (WritesStore (512 * x.block) x.bytes) (writes_store_kept R (512 * x.block) x.bytes k)) (d xs) k.order.same)
     (flushes_blocks_kept R slots xs k d)
 
-flushes_kept : (R : Below → Below → Type 0) (slots : ℕ) → IsSteady R → Dirtying R slots → Kept R (Flushes slots)
+pub flushes_kept : (R : Below → Below → Type 0) (slots : ℕ) → IsSteady R → Dirtying R slots → Kept R (Flushes slots)
 flushes_kept R slots k d b f a c = flushes_blocks_kept R slots (dirty_blocks b.layer) k d b f a c
 
 dirties_kept : (R : Below → Below → Type 0) (slots first n : ℕ) (piece : List ℕ) → IsSteady R → Dirtying R slots → Kept R (Dirties slots first n piece)
@@ -120,8 +127,8 @@ fills_kept R (write_back slots dirty) at block count k d =
     leaves_kept R (DirtiesEach slots (at / 512) block count) (with_piece at (repeated count block)) (with_lost at (512 * count)) k.order
     (dirties_each_kept R slots (at / 512) block count k d) (k.piece at (repeated count block)) (k.lost at (512 * count))
 
-pub syncs_kept : (R : Below → Below → Type 0) (l : Layer) → IsSteady R → DirtyingIn R l → Kept R (SyncsBelow l)
-syncs_kept R memory k d = does_kept R unchanged k.order.same
-syncs_kept R file k d = on_store_kept R AsksStore (asks_kept R k)
-syncs_kept R overlay k d = does_kept R unchanged k.order.same
-syncs_kept R (write_back slots dirty) k d = then_kept R (Flushes slots) (OnStore AsksStore) k.order (flushes_kept R slots k d) (on_store_kept R AsksStore (asks_kept R k))
+pub syncs_kept : (R : Below → Below → Type 0) (l : Layer) → IsSteady R → Syncing R → DirtyingIn R l → Kept R (SyncsBelow l)
+syncs_kept R memory k y d = does_kept R unchanged k.order.same
+syncs_kept R file k y d = on_store_kept R SyncsStore (syncs_store_kept R y)
+syncs_kept R overlay k y d = does_kept R unchanged k.order.same
+syncs_kept R (write_back slots dirty) k y d = then_kept R (Flushes slots) (OnStore SyncsStore) k.order (flushes_kept R slots k d) (on_store_kept R SyncsStore (syncs_store_kept R y))

@@ -3,7 +3,7 @@ use Rattle.std.specs.Prelude.{◌≡◌, ℕ, zero, suc, ◌+◌, ◌/◌, ◌||
 use Rattle.std.specs.List.{filter}
 use Rattle.std.specs.Option.{option_map}
 use Rattle.tcmu_types.specs.Overwriting.{overwritten}
-use Rattle.tcmu_types.specs.Numbered.{Numbered, ComesOut, one_more}
+use Rattle.tcmu_types.specs.Numbered.{Numbered, ComesOut, one_more, next_call}
 use Rattle.tcmu_types.specs.Numbers.{is_among}
 use Rattle.tcmu_model.specs.MediumState.{Base}
 use Rattle.scsi_model.specs.Calls.{Call, unchanged, Does, Leaves, Then}
@@ -48,9 +48,13 @@ spoiled at n s =
 
 -- ==== calls of a store
 
--- a call that changes no byte: it is counted, and fails as listed
+-- a call that is no sync and changes no byte: it is counted, and fails as listed
 abbrev pub AsksStore : Call Base
 AsksStore s failed after = ComesOut s.calls failed × (after ≡ record s { calls = one_more s.calls })
+
+-- a sync: it changes no byte either, and is one sync more, also where it fails
+abbrev pub SyncsStore : Call Base
+SyncsStore s failed after = ComesOut s.calls failed × (after ≡ record s { calls = one_more s.calls; syncs = next_call s.syncs })
 
 -- a call that writes a piece
 abbrev pub WritesStore : ℕ → List ℕ → Call Base
@@ -63,10 +67,10 @@ FillsStore at block (suc n) = Then (WritesStore at block) (FillsStore (at + 512)
 
 -- ==== stores as they open
 
--- so many bytes as they are told, of which none is free
-abbrev pub opened_store : ℕ → Option (List ℕ) → Numbered → Base
-opened_store size bytes calls = record { size = size; bytes = bytes; free = []; calls = calls }
+-- so many bytes as they are told, of which none is free, behind these calls and so many syncs
+abbrev pub opened_store : ℕ → Option (List ℕ) → Numbered → ℕ → Base
+opened_store size bytes calls syncs = record { size = size; bytes = bytes; free = []; calls = calls; syncs = syncs }
 
 -- below memory there is none
 abbrev pub no_store : Base
-no_store = opened_store 0 (Some []) (record { fails = Some []; calls = 0 })
+no_store = opened_store 0 (Some []) (record { fails = Some []; calls = 0 }) 0

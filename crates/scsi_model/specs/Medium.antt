@@ -7,7 +7,7 @@ use Rattle.tcmu_types.specs.Overwriting.{overwritten}
 use Rattle.tcmu_types.specs.Numbered.{Numbered, ComesOut, one_more}
 use Rattle.tcmu_model.specs.MediumState.{Span, Dirty, Layer, memory, file, overlay, write_back, Base, Below, MediumState}
 use Rattle.scsi_model.specs.Calls.{Call, unchanged, Does, Leaves, Then, Chosen}
-use Rattle.scsi_model.specs.Base.{AsksStore, WritesStore, FillsStore, opened_store, no_store}
+use Rattle.scsi_model.specs.Base.{AsksStore, SyncsStore, WritesStore, FillsStore, opened_store, no_store}
 
 -- ==== spans
 
@@ -124,6 +124,13 @@ has_store file = true
 has_store overlay = true
 has_store (write_back slots dirty) = true
 
+-- whether a sync goes to it: one of an overlay does not
+abbrev pub syncs_store : Layer → Bool
+syncs_store memory = false
+syncs_store file = true
+syncs_store overlay = false
+syncs_store (write_back slots dirty) = true
+
 -- ==== the four calls below a medium's own list
 
 abbrev pub ReadsBelow : Layer → Call Below
@@ -149,9 +156,9 @@ FillsBelow (write_back slots dirty) at block count =
 
 abbrev pub SyncsBelow : Layer → Call Below
 SyncsBelow memory = Does unchanged
-SyncsBelow file = OnStore AsksStore
+SyncsBelow file = OnStore SyncsStore
 SyncsBelow overlay = Does unchanged
-SyncsBelow (write_back slots dirty) = Then (Flushes slots) (OnStore AsksStore)
+SyncsBelow (write_back slots dirty) = Then (Flushes slots) (OnStore SyncsStore)
 
 -- ==== the four calls of a medium
 
@@ -196,8 +203,8 @@ abbrev pub memory_below : ℕ → Below
 memory_below blocks = in_memory (zeros (512 * blocks))
 
 -- a file as its store tells it
-abbrev pub file_below : ℕ → Option (List ℕ) → Numbered → Below
-file_below size bytes calls = record { bytes = bytes; lost = empty_span; layer = file; store = opened_store size bytes calls }
+abbrev pub file_below : ℕ → Option (List ℕ) → Numbered → ℕ → Below
+file_below size bytes calls syncs = record { bytes = bytes; lost = empty_span; layer = file; store = opened_store size bytes calls syncs }
 
 -- so many logical blocks over what bears them, with a protected bit and a list of calls that fail
 abbrev pub opened_medium : ℕ → Bool → List ℕ → Below → MediumState

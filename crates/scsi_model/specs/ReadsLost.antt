@@ -1,10 +1,10 @@
 -- What a request reads or compares of the medium, and whether some of it is lost.
-use Rattle.std.specs.Prelude.{ℕ, ◌*◌, min, max, Bool, nat_lt, List, is_some, Ok, Err, Result, if◌then◌else◌}
+use Rattle.std.specs.Prelude.{◌≡◌, ℕ, ◌*◌, min, max, Bool, false, nat_lt, List, is_some, Ok, Err, Result, if◌then◌else◌}
 use Rattle.tcmu_model.specs.MediumState.{Span, MediumState}
-use Rattle.tcmu_model.specs.Steps.{Asked}
+use Rattle.tcmu_model.specs.Steps.{Asked, HandlerRelation}
 use Rattle.scsi_model.specs.Decoding.{decoded}
 use Rattle.scsi_model.specs.Medium.{span_of, empty_span}
-use Rattle.scsi_model.specs.Scsi.{Check, first_failed, range_checks, write_checks}
+use Rattle.scsi_model.specs.Scsi.{Check, first_failed, range_checks, write_checks, Serves}
 use Rattle.scsi_model.specs.declared.op.Op.{Op}
 use Rattle.scsi_model.specs.declared.op.Op.TheVariants as op
 use Rattle.scsi_model.specs.declared.op.CdbFault.{CdbFault}
@@ -32,3 +32,7 @@ overlap s t = nat_lt (max s.start t.start) (min s.end t.end)
 -- whether a request reads or compares a byte that is lost
 abbrev pub reads_lost : MediumState → Asked → Bool
 reads_lost m r = overlap (span_asked_for m r (decoded r.cdb)) m.below.lost
+
+-- the meaning of those requests alone that read and compare nothing that is lost
+abbrev pub ServesKnown : HandlerRelation
+ServesKnown name m r reply after = (reads_lost m r ≡ false) × Serves name m r reply after

@@ -3,9 +3,11 @@ use Rattle.std.specs.Prelude.{◌≡◌, ◌⊎◌, ℕ, ◌+◌, ◌*◌, ◌/�
 use Rattle.std.specs.Option.{option_map, option_and_then}
 use Rattle.tcmu_types.specs.Lists.{Every}
 use Rattle.tcmu_types.specs.Numbers.{is_among}
-use Rattle.tcmu_model.specs.MediumState.{Layer, memory, file, overlay, write_back, Base, MediumState}
+use Rattle.tcmu_types.specs.Numbered.{next_call}
+use Rattle.tcmu_model.specs.MediumState.{Span, Layer, memory, file, overlay, write_back, Base, MediumState}
 use Rattle.scsi_model.specs.Calls.{Call}
-use Rattle.scsi_model.specs.Medium.{span_of, empty_span, lies_in, blanked, Reads, Writes, Fills, Syncs}
+use Rattle.scsi_model.specs.Base.{cleared}
+use Rattle.scsi_model.specs.Medium.{span_of, empty_span, lies_in, blanked, syncs_store, Reads, Writes, Fills, Syncs}
 
 -- ==== runs
 
@@ -75,6 +77,16 @@ RunsCount =
     (calls : List MadeCall) (m after : MediumState) → Runs calls m after → m.own.calls + length calls < 2 ^ 64
     → after.own.calls ≡ m.own.calls + length calls
 
+-- ==== syncs
+
+-- where a sync goes to a store, that was asked for one more
+abbrev pub IsSynced : MediumState → MediumState → Type 0
+IsSynced m after = syncs_store m.below.layer ≡ true → after.below.store.syncs ≡ next_call m.below.store.syncs
+
+-- so it is behind each sync of a medium that did not fail
+abbrev pub SyncsReach : Type 0
+SyncsReach = (m after : MediumState) → Syncs m false after → IsSynced m after
+
 -- ==== nothing lost
 
 -- A lossless medium: it lies in memory, or in a file whose store lists no failing call, and nothing of it is lost.
@@ -101,6 +113,19 @@ pub record ShowsFile (m : MediumState) : Type 0 where
 -- it does so behind each run of its calls
 abbrev pub RunsShowFile : Type 0
 RunsShowFile = (m after : MediumState) → IsRun m after → ShowsFile m → ShowsFile after
+
+-- bytes that its store may hold: those that the medium's calls left, whatever stands in the free blocks
+abbrev pub MayHold : MediumState → List ℕ → Type 0
+MayHold m xs = m.below.store.bytes ≡ Some (cleared m.below.store.free xs)
+
+-- bytes that are the same outside of a range
+pub record SameBut (lost : Span) (xs ys : List ℕ) : Type 0 where
+  pub long : length ys ≡ length xs
+  pub bytes : (i : ℕ) → lies_in lost i ≡ false → slice_get ys i ≡ slice_get xs i
+
+-- what it may hold is determined, but for the lost range
+abbrev pub HoldsOne : Type 0
+HoldsOne = (m : MediumState) (xs ys : List ℕ) → ShowsFile m → MayHold m xs → MayHold m ys → SameBut m.below.lost xs ys
 
 -- whether a place lies in the range of a write or a fill
 abbrev pub touches : ℕ → MediumCall → Bool
