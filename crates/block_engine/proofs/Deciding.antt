@@ -5,7 +5,7 @@ use Rattle.tcmu_types.specs.Numbered.{ComesOut}
 use Rattle.tcmu_model.specs.MediumState.{Below, MediumState}
 use Rattle.scsi_model.specs.Calls.{Call}
 use Rattle.scsi_model.specs.Medium.{ReadsBelow, WritesBelow, FillsBelow, SyncsBelow, MakesCall, counted, Writes, Fills, Syncs}
-use Rattle.scsi_model.specs.Runs.{MediumCall, IsWithin, Makes, IsRun}
+use Rattle.scsi_model.specs.Runs.{MediumCall, LiesWithin, CallMakes, IsRun}
 use Rattle.scsi_model.proofs.Joined.{IsDecided}
 use Rattle.scsi_model.proofs.Decided.{true_false, comes_one, comes_some, tells_below, reads_decided, writes_decided, fills_decided, syncs_decided}
 
@@ -46,5 +46,5 @@ pub syncs_sure : (m : MediumState) → IsSure m (Syncs m)
 syncs_sure m = makes_sure (SyncsBelow m.below.layer) m (syncs_decided m.below.layer)
 
 -- a call within the medium is a run
-pub call_runs : (c : MediumCall) (m : MediumState) (f : Bool) (a : MediumState) → IsWithin m.blocks c → Makes c m f a → IsRun m a
+pub call_runs : (c : MediumCall) (m : MediumState) (f : Bool) (a : MediumState) → LiesWithin m.blocks c → CallMakes c m f a → IsRun m a
 call_runs c m f a w x = (record { call = c; failed = f } ∷ [], (a, w, x, refl))

@@ -3,7 +3,7 @@ use Rattle.std.proofs.Common.{◌∙◌, ◌≡◌, ℕ, ◌*◌, ◌/◌, Bool,
 use Rattle.std.specs.Option.{option_map}
 use Rattle.text_model.specs.Config.{ConfigData, InMemory, InFile}
 use Rattle.tcmu_model.specs.MediumState.{MediumState}
-use Rattle.scsi_model.specs.Base.{cleared, opened_store}
+use Rattle.scsi_model.specs.Base.{zeroed, opened_store}
 use Rattle.scsi_model.specs.Medium.{blanked, empty_span, memory_state, opened_medium, memory_below, file_below}
 use Rattle.scsi_model.proofs.Cleared.{cleared_none}
 use Rattle.edge.specs.Stores.{StoreState, FilesState, FetchGives}
@@ -16,7 +16,7 @@ blanked_none : (bytes : Option (List ℕ)) → option_map (blanked empty_span) b
 blanked_none None = refl
 blanked_none (Some xs) = refl
 
-cleared_of_none : (bytes : Option (List ℕ)) → option_map (cleared []) bytes ≡ bytes
+cleared_of_none : (bytes : Option (List ℕ)) → option_map (zeroed []) bytes ≡ bytes
 cleared_of_none None = refl
 cleared_of_none (Some xs) = ap (λ (ys : List ℕ). Some ys) (cleared_none xs)
 

@@ -2,7 +2,7 @@
 use Rattle.std.specs.Prelude.{◌≡◌, true}
 use Rattle.std.specs.Option.{option_map}
 use Rattle.tcmu_model.specs.MediumState.{MediumState}
-use Rattle.scsi_model.specs.Base.{cleared}
+use Rattle.scsi_model.specs.Base.{zeroed}
 use Rattle.scsi_model.specs.Medium.{has_store}
 use Rattle.edge.specs.Stores.{StoreState}
 
@@ -11,6 +11,6 @@ use Rattle.edge.specs.Stores.{StoreState}
 pub record IsStoredIn (s : StoreState) (m : MediumState) : Type 0 where
   pub layer : has_store m.below.layer ≡ true
   pub size : s.size ≡ m.below.store.size
-  pub bytes : m.below.store.bytes ≡ option_map (cleared m.below.store.free) s.bytes
+  pub bytes : m.below.store.bytes ≡ option_map (zeroed m.below.store.free) s.bytes
   pub calls : s.calls ≡ m.below.store.calls
   pub syncs : s.syncs ≡ m.below.store.syncs

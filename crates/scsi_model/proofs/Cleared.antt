@@ -8,7 +8,7 @@ use Rattle.tcmu_types.proofs.Places.{same_list, get_within}
 use Rattle.tcmu_types.proofs.Overwriting.{within, get_overwritten}
 use Rattle.tcmu_types.proofs.Rises.{among-append, among-filter}
 use Rattle.scsi_model.specs.Medium.{zeros}
-use Rattle.scsi_model.specs.Base.{blocks_from, without_blocks, with_blocks, cleared_from, cleared}
+use Rattle.scsi_model.specs.Base.{blocks_from, without_blocks, with_blocks, zeroed_from, zeroed}
 
 -- ==== blocks by their numbers
 
@@ -65,7 +65,7 @@ zeroed (Some x) = Some 0
 abbrev pub hidden : Bool → Option ℕ → Option ℕ
 hidden b o = if b then zeroed o else o
 
-get_cleared_from : (at : ℕ) (blocks xs : List ℕ) (i : ℕ) → slice_get (cleared_from at blocks xs) i ≡ hidden (is_among blocks ((at + i) / 512)) (slice_get xs i)
+get_cleared_from : (at : ℕ) (blocks xs : List ℕ) (i : ℕ) → slice_get (zeroed_from at blocks xs) i ≡ hidden (is_among blocks ((at + i) / 512)) (slice_get xs i)
 get_cleared_from at blocks [] i = go (is_among blocks ((at + i) / 512))
   where
     go : (b : Bool) → ◌≡◌ {A = Option ℕ} None (hidden b None)
@@ -80,29 +80,29 @@ get_cleared_from at blocks (x ∷ xs) zero =
 get_cleared_from at blocks (x ∷ xs) (suc i) =
     let e : at + suc i ≡ at + 1 + i = omega arith in rw e (get_cleared_from (at + 1) blocks xs i)
 
-pub get_cleared : (blocks xs : List ℕ) (i : ℕ) → slice_get (cleared blocks xs) i ≡ hidden (is_among blocks (i / 512)) (slice_get xs i)
+pub get_cleared : (blocks xs : List ℕ) (i : ℕ) → slice_get (zeroed blocks xs) i ≡ hidden (is_among blocks (i / 512)) (slice_get xs i)
 get_cleared blocks xs i = get_cleared_from 0 blocks xs i ∙ (let e : 0 + i ≡ i = omega arith in rw e refl)
 
-length_cleared_from : (at : ℕ) (blocks xs : List ℕ) → length (cleared_from at blocks xs) ≡ length xs
+length_cleared_from : (at : ℕ) (blocks xs : List ℕ) → length (zeroed_from at blocks xs) ≡ length xs
 length_cleared_from at blocks [] = refl
 length_cleared_from at blocks (x ∷ xs) = ap suc (length_cleared_from (at + 1) blocks xs)
 
-pub length_cleared : (blocks xs : List ℕ) → length (cleared blocks xs) ≡ length xs
+pub length_cleared : (blocks xs : List ℕ) → length (zeroed blocks xs) ≡ length xs
 length_cleared blocks xs = length_cleared_from 0 blocks xs
 
--- nothing is cleared where no block is
-pub cleared_none : (xs : List ℕ) → cleared [] xs ≡ xs
+-- nothing is zeroed where no block is
+pub cleared_none : (xs : List ℕ) → zeroed [] xs ≡ xs
 cleared_none xs = same_list _ _ (λ i. get_cleared [] xs i)
 
 -- ==== what is put, and what is spoiled
 
 pub cleared_put : (at : ℕ) (piece blocks xs : List ℕ) → at % 512 ≡ 0 → length piece % 512 ≡ 0 → at + length piece ≤ length xs
-    → cleared (without_blocks (at / 512) (length piece / 512) blocks) (overwritten at piece xs) ≡ overwritten at piece (cleared blocks xs)
+    → zeroed (without_blocks (at / 512) (length piece / 512) blocks) (overwritten at piece xs) ≡ overwritten at piece (zeroed blocks xs)
 cleared_put at piece blocks xs a b h =
     let n = length piece in
     let f = at / 512 in
     let m = n / 512 in
-    let k : at + n ≤ length (cleared blocks xs) = rw (length_cleared blocks xs) h in
+    let k : at + n ≤ length (zeroed blocks xs) = rw (length_cleared blocks xs) h in
     same_list _ _ (λ i.
     get_cleared (without_blocks f m blocks) (overwritten at piece xs) i
     ∙ ap (hidden (is_among (without_blocks f m blocks) (i / 512))) (get_overwritten at piece xs h i)
@@ -117,7 +117,7 @@ cleared_put at piece blocks xs a b h =
     let all : (nat_lt (i / 512) f || nat_le (f + m) (i / 512)) ≡ true = grind (arith, out_block) in
     rw (e, all) (sym (get_cleared blocks xs i)))
     (cases_Bool (within at (at + n) i))
-    ∙ sym (get_overwritten at piece (cleared blocks xs) k i))
+    ∙ sym (get_overwritten at piece (zeroed blocks xs) k i))
 
 get_zero : (n i : ℕ) → i < n → slice_get (zeros n) i ≡ Some 0
 get_zero zero i h = absurd (omega arith)
@@ -125,14 +125,14 @@ get_zero (suc n) zero h = refl
 get_zero (suc n) (suc i) h = get_zero n i (omega arith)
 
 pub cleared_spoiled : (at n : ℕ) (junk blocks xs : List ℕ) → at % 512 ≡ 0 → n % 512 ≡ 0 → length junk ≡ n → at + n ≤ length xs
-    → cleared (with_blocks (at / 512) (n / 512) blocks) (overwritten at junk xs) ≡ overwritten at (zeros n) (cleared blocks xs)
+    → zeroed (with_blocks (at / 512) (n / 512) blocks) (overwritten at junk xs) ≡ overwritten at (zeros n) (zeroed blocks xs)
 cleared_spoiled at n junk blocks xs a b l h =
     let f = at / 512 in
     let m = n / 512 in
     let all = with_blocks f m blocks in
     let z = length-replicate {A = ℕ} n 0 in
     let k : at + length junk ≤ length xs = rw l h in
-    let k' : at + length (zeros n) ≤ length (cleared blocks xs) = rw z (rw (length_cleared blocks xs) h) in
+    let k' : at + length (zeros n) ≤ length (zeroed blocks xs) = rw z (rw (length_cleared blocks xs) h) in
     same_list _ _ (λ i.
     get_cleared all (overwritten at junk xs) i
     ∙ ap (hidden (is_among all (i / 512))) (get_overwritten at junk xs k i)
@@ -145,5 +145,5 @@ cleared_spoiled at n junk blocks xs a b l h =
     rw (e, block_inside at n i a b e, some.1) (sym (get_zero n (i - at) here)))
     (λ (e : within at (at + n) i ≡ false). rw (e, block_outside at n i a b e) (sym (get_cleared blocks xs i)))
     (cases_Bool (within at (at + n) i))
-    ∙ ap (λ t. if within at (at + t) i then slice_get (zeros n) (i - at) else slice_get (cleared blocks xs) i) (sym z)
-    ∙ sym (get_overwritten at (zeros n) (cleared blocks xs) k' i))
+    ∙ ap (λ t. if within at (at + t) i then slice_get (zeros n) (i - at) else slice_get (zeroed blocks xs) i) (sym z)
+    ∙ sym (get_overwritten at (zeros n) (zeroed blocks xs) k' i))

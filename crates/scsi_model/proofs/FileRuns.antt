@@ -12,7 +12,7 @@ use Rattle.tcmu_model.specs.MediumState.{Span, Layer, file, Base, Below, MediumS
 use Rattle.scsi_model.specs.Calls.{Call}
 use Rattle.scsi_model.specs.Base.{stored, spoiled, AsksStore, SyncsStore, WritesStore, FillsStore}
 use Rattle.scsi_model.specs.Medium.{zeros, lies_in, blanked, repeated, with_piece, with_lost, OnStore, ReadsBelow, WritesBelow, FillsBelow, SyncsBelow, MakesCall, counted}
-use Rattle.scsi_model.specs.Runs.{MediumCall, read, write, fill, sync, IsWithin, Makes, MadeCall, Runs, touches, SameAt, ShowsFile, RunsShowFile, RunsLeave}
+use Rattle.scsi_model.specs.Runs.{MediumCall, read, write, fill, sync, LiesWithin, CallMakes, MadeCall, Runs, touches, SameAt, ShowsFile, RunsShowFile, RunsLeave}
 use Rattle.scsi_model.proofs.Cleared.{among_with, among_without, block_inside, block_outside}
 use Rattle.scsi_model.proofs.LostRange.{Lies, SameOutside, kept_lost, more_lost, narrowed_seen, widened_seen, lies_narrowed, lies_widened, put_blanked, spoil_blanked}
 
@@ -312,7 +312,7 @@ syncs_shows m f a s x =
     x.2 ∙ ap (λ (t : Base). record m.below { store = t }) x.1.1 in
     rw e (shows_synced m s)
 
-writes_shows : (at : ℕ) (piece : List ℕ) (m : MediumState) (f : Bool) (a : Below) → IsWithin m.blocks (write at piece) → ShowsFile m
+writes_shows : (at : ℕ) (piece : List ℕ) (m : MediumState) (f : Bool) (a : Below) → LiesWithin m.blocks (write at piece) → ShowsFile m
     → WritesBelow file at piece m.below f a → ShowsFile (record (counted m) { below = a })
 writes_shows at piece m f a w s x =
     let fits : at + length piece ≤ m.below.store.size = rw s.size w.0 in
@@ -326,7 +326,7 @@ writes_shows at piece m f a w s x =
     by false k o e fits told =
         rw (e ∙ ap (with_piece at piece) o.2) (shows_put at piece m o.0 fits s (writes_put at piece m.below.store o.0 w.1 w.2 o.1))
 
-fills_shows : (at : ℕ) (block : List ℕ) (count : ℕ) (m : MediumState) (f : Bool) (a : Below) → IsWithin m.blocks (fill at block count) → ShowsFile m
+fills_shows : (at : ℕ) (block : List ℕ) (count : ℕ) (m : MediumState) (f : Bool) (a : Below) → LiesWithin m.blocks (fill at block count) → ShowsFile m
     → FillsBelow file at block count m.below f a → ShowsFile (record (counted m) { below = a })
 fills_shows at block count m f a w s x =
     let fits : at + 512 * count ≤ m.below.store.size = rw s.size w.0 in
@@ -349,7 +349,7 @@ made_shows : (C : Layer → Call Below) (m : MediumState) (f : Bool) (a : Medium
 made_shows C m f a s below (inl x) = rw x.2 (shows_counted m s)
 made_shows C m f a s below (inr x) = rw x.3 (below x.1 (subst (λ (l : Layer). C l m.below f x.1) s.layer x.2))
 
-call_shows : (c : MediumCall) (m : MediumState) (f : Bool) (a : MediumState) → IsWithin m.blocks c → Makes c m f a → ShowsFile m → ShowsFile a
+call_shows : (c : MediumCall) (m : MediumState) (f : Bool) (a : MediumState) → LiesWithin m.blocks c → CallMakes c m f a → ShowsFile m → ShowsFile a
 call_shows (read at out) m f a w x s = made_shows ReadsBelow m f a s (λ b. asks_shows m f b s) x.made
 call_shows (write at piece) m f a w x s = made_shows (λ l. WritesBelow l at piece) m f a s (λ b. writes_shows at piece m f b w s) x
 call_shows (fill at block count) m f a w x s = made_shows (λ l. FillsBelow l at block count) m f a s (λ b. fills_shows at block count m f b w s) x
@@ -381,7 +381,7 @@ made_at : (i : ℕ) (C : Layer → Call Below) (m : MediumState) (f : Bool) (a :
 made_at i C m f a s below (inl x) = rw x.2 (same_at i m.below.store)
 made_at i C m f a s below (inr x) = rw x.3 (below x.1 (subst (λ (l : Layer). C l m.below f x.1) s.layer x.2))
 
-call_leaves : (c : MediumCall) (m : MediumState) (f : Bool) (a : MediumState) (i : ℕ) → IsWithin m.blocks c → Makes c m f a → ShowsFile m → touches i c ≡ false
+call_leaves : (c : MediumCall) (m : MediumState) (f : Bool) (a : MediumState) (i : ℕ) → LiesWithin m.blocks c → CallMakes c m f a → ShowsFile m → touches i c ≡ false
     → SameAt i m.below.store a.below.store
 call_leaves (read at out) m f a i w x s away = made_at i ReadsBelow m f a s (λ b. asks_at i m.below f b) x.made
 call_leaves (write at piece) m f a i w x s away =

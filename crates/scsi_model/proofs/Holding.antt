@@ -3,7 +3,7 @@ use Rattle.std.proofs.Common.{◌∙◌, ◌≡◌, ℕ, ◌/◌, Bool, true, fa
 use Rattle.std.proofs.lemmas.Bool.{cases_Bool}
 use Rattle.tcmu_types.specs.Numbers.{is_among}
 use Rattle.tcmu_model.specs.MediumState.{MediumState}
-use Rattle.scsi_model.specs.Base.{cleared}
+use Rattle.scsi_model.specs.Base.{zeroed}
 use Rattle.scsi_model.specs.Medium.{lies_in}
 use Rattle.scsi_model.specs.Runs.{ShowsFile, HoldsOne}
 use Rattle.scsi_model.proofs.Cleared.{hidden, get_cleared, length_cleared}
@@ -23,10 +23,10 @@ away m i s out =
 pub holds_one : HoldsOne
 holds_one m xs ys s a b =
     let free = m.below.store.free in
-    let same : cleared free ys ≡ cleared free xs = some_one _ _ (sym b ∙ a) in
+    let same : zeroed free ys ≡ zeroed free xs = some_one _ _ (sym b ∙ a) in
     record {
       long = sym (length_cleared free ys) ∙ ap (λ (zs : List ℕ). length zs) same ∙ length_cleared free xs;
       bytes = λ i out.
-          let known : (zs : List ℕ) → slice_get (cleared free zs) i ≡ slice_get zs i = λ zs. get_cleared free zs i ∙ ap (λ t. hidden t (slice_get zs i)) (away m i s out) in
+          let known : (zs : List ℕ) → slice_get (zeroed free zs) i ≡ slice_get zs i = λ zs. get_cleared free zs i ∙ ap (λ t. hidden t (slice_get zs i)) (away m i s out) in
           sym (known ys) ∙ ap (λ (zs : List ℕ). slice_get zs i) same ∙ known xs;
     }

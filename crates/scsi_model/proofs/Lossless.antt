@@ -6,7 +6,7 @@ use Rattle.tcmu_model.specs.MediumState.{Span, Layer, memory, file, Base, Below,
 use Rattle.scsi_model.specs.Calls.{Call, unchanged, Does, Leaves}
 use Rattle.scsi_model.specs.Base.{stored, spoiled, AsksStore, SyncsStore, WritesStore, FillsStore}
 use Rattle.scsi_model.specs.Medium.{empty_span, span_of, covers, narrowed, repeated, with_piece, with_lost, OnStore, ReadsBelow, WritesBelow, FillsBelow, SyncsBelow, MakesCall, counted}
-use Rattle.scsi_model.specs.Runs.{MediumCall, read, write, fill, sync, Makes, MadeCall, Runs, IsLossless, RunsStayLossless}
+use Rattle.scsi_model.specs.Runs.{MediumCall, read, write, fill, sync, CallMakes, MadeCall, Runs, IsLossless, RunsStayLossless}
 use Rattle.scsi_model.proofs.Decided.{true_false}
 
 nothing_narrowed : (lost s : Span) → lost ≡ empty_span → narrowed lost s ≡ empty_span
@@ -94,7 +94,7 @@ made_lossless C m f a whole safe l (inr x) = rw x.3 (by l.place)
         let w = safe x.1 (record { layer = e.0; fails = e.1; lost = l.lost }) (subst (λ (k : Layer). C k m.below f x.1) e.0 x.2) in
         record { place = inr (w.layer, w.fails); lost = w.lost }
 
-call_lossless : (c : MediumCall) (m : MediumState) (f : Bool) (a : MediumState) → IsLossless m → Makes c m f a → IsLossless a
+call_lossless : (c : MediumCall) (m : MediumState) (f : Bool) (a : MediumState) → IsLossless m → CallMakes c m f a → IsLossless a
 call_lossless (read at out) m f a l x =
     made_lossless ReadsBelow m f a (λ b w y. whole_unchanged m.below f b w y) (λ b w y. (safe_store AsksStore asks_unfailing m.below f b w y).1) l x.made
 call_lossless (write at piece) m f a l x =

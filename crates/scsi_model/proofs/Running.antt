@@ -5,7 +5,7 @@ use Rattle.tcmu_types.specs.Numbered.{Numbered, one_more, next_call}
 use Rattle.tcmu_model.specs.MediumState.{Layer, memory, file, overlay, write_back, Below, MediumState}
 use Rattle.scsi_model.specs.Calls.{Call}
 use Rattle.scsi_model.specs.Medium.{ReadsBelow, WritesBelow, FillsBelow, SyncsBelow, MakesCall}
-use Rattle.scsi_model.specs.Runs.{MediumCall, read, write, fill, sync, Makes, MadeCall, Runs, IsRun, clean, Stays, RunsKeep, RunsCount}
+use Rattle.scsi_model.specs.Runs.{MediumCall, read, write, fill, sync, CallMakes, MadeCall, Runs, IsRun, clean, Stays, RunsKeep, RunsCount}
 use Rattle.scsi_model.proofs.Joined.{Kept}
 use Rattle.scsi_model.proofs.Steady.{IsSteady, Syncing, DirtyingIn, reads_kept, writes_kept, fills_kept, syncs_kept}
 
@@ -89,7 +89,7 @@ made_counts : (C : Call Below) (m : MediumState) (f : Bool) (a : MediumState) �
 made_counts C m f a (inl x) = ap (λ (n : MediumState). n.own) x.2
 made_counts C m f a (inr x) = ap (λ (n : MediumState). n.own) x.3
 
-pub call_stays : (c : MediumCall) (m : MediumState) (f : Bool) (a : MediumState) → Makes c m f a → Stays m a
+pub call_stays : (c : MediumCall) (m : MediumState) (f : Bool) (a : MediumState) → CallMakes c m f a → Stays m a
 call_stays (read at out) m f a x =
     let l = m.below.layer in made_stays (ReadsBelow l) m f a (reads_kept SameBelow l same_steady) (reads_kept (InLayer (clean l)) l (layer_steady (clean l))) x.made
 call_stays (write at piece) m f a x =
@@ -101,7 +101,7 @@ call_stays (fill at block count) m f a x =
 call_stays sync m f a x =
     let l = m.below.layer in made_stays (SyncsBelow l) m f a (syncs_kept SameBelow l same_steady same_synced (same_dirty l)) (syncs_kept (InLayer (clean l)) l (layer_steady (clean l)) (layer_synced (clean l)) (layer_dirty l)) x
 
-call_counts : (c : MediumCall) (m : MediumState) (f : Bool) (a : MediumState) → Makes c m f a → a.own ≡ one_more m.own
+call_counts : (c : MediumCall) (m : MediumState) (f : Bool) (a : MediumState) → CallMakes c m f a → a.own ≡ one_more m.own
 call_counts (read at out) m f a x = made_counts (ReadsBelow m.below.layer) m f a x.made
 call_counts (write at piece) m f a x = made_counts (WritesBelow m.below.layer at piece) m f a x
 call_counts (fill at block count) m f a x = made_counts (FillsBelow m.below.layer at block count) m f a x

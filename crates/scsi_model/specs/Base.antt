@@ -26,13 +26,13 @@ with_blocks first n blocks = blocks_from first n ++ without_blocks first n block
 -- ==== bytes
 
 -- bytes that stand from a place on, with zeros in these blocks
-abbrev pub cleared_from : ℕ → List ℕ → List ℕ → List ℕ
-cleared_from at blocks [] = []
-cleared_from at blocks (x ∷ xs) = (if is_among blocks (at / 512) then 0 else x) ∷ cleared_from (at + 1) blocks xs
+abbrev pub zeroed_from : ℕ → List ℕ → List ℕ → List ℕ
+zeroed_from at blocks [] = []
+zeroed_from at blocks (x ∷ xs) = (if is_among blocks (at / 512) then 0 else x) ∷ zeroed_from (at + 1) blocks xs
 
 -- these bytes, with zeros in these blocks
-abbrev pub cleared : List ℕ → List ℕ → List ℕ
-cleared blocks bytes = cleared_from 0 blocks bytes
+abbrev pub zeroed : List ℕ → List ℕ → List ℕ
+zeroed blocks bytes = zeroed_from 0 blocks bytes
 
 -- ==== what a call leaves of a store
 

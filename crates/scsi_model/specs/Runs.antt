@@ -6,7 +6,7 @@ use Rattle.tcmu_types.specs.Numbers.{is_among}
 use Rattle.tcmu_types.specs.Numbered.{next_call}
 use Rattle.tcmu_model.specs.MediumState.{Span, Layer, memory, file, overlay, write_back, Base, MediumState}
 use Rattle.scsi_model.specs.Calls.{Call}
-use Rattle.scsi_model.specs.Base.{cleared}
+use Rattle.scsi_model.specs.Base.{zeroed}
 use Rattle.scsi_model.specs.Medium.{span_of, empty_span, lies_in, blanked, syncs_store, Reads, Writes, Fills, Syncs}
 
 -- ==== runs
@@ -19,17 +19,17 @@ pub data MediumCall : Type 0 where
   sync : MediumCall
 
 -- its range lies in so many blocks, and one that writes has whole blocks
-abbrev pub IsWithin : ℕ → MediumCall → Type 0
-IsWithin blocks (read at out) = at + length out ≤ 512 * blocks
-IsWithin blocks (write at piece) = (at + length piece ≤ 512 * blocks) × (at % 512 ≡ 0) × (length piece % 512 ≡ 0)
-IsWithin blocks (fill at block count) = (at + 512 * count ≤ 512 * blocks) × (at % 512 ≡ 0) × (length block ≡ 512)
-IsWithin blocks sync = Unit {0}
+abbrev pub LiesWithin : ℕ → MediumCall → Type 0
+LiesWithin blocks (read at out) = at + length out ≤ 512 * blocks
+LiesWithin blocks (write at piece) = (at + length piece ≤ 512 * blocks) × (at % 512 ≡ 0) × (length piece % 512 ≡ 0)
+LiesWithin blocks (fill at block count) = (at + 512 * count ≤ 512 * blocks) × (at % 512 ≡ 0) × (length block ≡ 512)
+LiesWithin blocks sync = Unit {0}
 
-abbrev pub Makes : MediumCall → Call MediumState
-Makes (read at out) = Reads at out
-Makes (write at piece) = Writes at piece
-Makes (fill at block count) = Fills at block count
-Makes sync = Syncs
+abbrev pub CallMakes : MediumCall → Call MediumState
+CallMakes (read at out) = Reads at out
+CallMakes (write at piece) = Writes at piece
+CallMakes (fill at block count) = Fills at block count
+CallMakes sync = Syncs
 
 -- a call that was made, and whether it failed
 pub record MadeCall : Type 0 where
@@ -39,7 +39,7 @@ pub record MadeCall : Type 0 where
 -- these calls, in order, lead from one state to the other
 abbrev pub Runs : List MadeCall → MediumState → MediumState → Type 0
 Runs [] m after = after ≡ m
-Runs (c ∷ cs) m after = (middle : MediumState) × IsWithin m.blocks c.call × Makes c.call m c.failed middle × Runs cs middle after
+Runs (c ∷ cs) m after = (middle : MediumState) × LiesWithin m.blocks c.call × CallMakes c.call m c.failed middle × Runs cs middle after
 
 -- some calls do
 abbrev pub IsRun : MediumState → MediumState → Type 0
@@ -116,7 +116,7 @@ RunsShowFile = (m after : MediumState) → IsRun m after → ShowsFile m → Sho
 
 -- bytes that its store may hold: those that the medium's calls left, whatever stands in the free blocks
 abbrev pub MayHold : MediumState → List ℕ → Type 0
-MayHold m xs = m.below.store.bytes ≡ Some (cleared m.below.store.free xs)
+MayHold m xs = m.below.store.bytes ≡ Some (zeroed m.below.store.free xs)
 
 -- bytes that are the same outside of a range
 pub record SameBut (lost : Span) (xs ys : List ℕ) : Type 0 where

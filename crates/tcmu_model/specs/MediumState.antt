@@ -21,8 +21,8 @@ pub data Layer : Type 0 where
   overlay : Layer
   write_back : ℕ → List Dirty → Layer
 
--- What the store below a medium holds: so many bytes, these where they are told, how its calls come out, and how many of them were syncs. What stands in the free
--- blocks (by their numbers) is not known, since failed calls may have spoiled it: they are shown as zeros.
+-- What the store below a medium holds: so many bytes, these where they are told, how its calls come out, and how many of them were syncs.
+-- What stands in the free blocks (by their numbers) is not known, since failed calls may have spoiled it: they are shown as zeros.
 pub record Base : Type 0 where
   pub size : ℕ
   pub bytes : Option (List ℕ)

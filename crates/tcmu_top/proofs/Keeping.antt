@@ -7,7 +7,7 @@ use Rattle.std.proofs.lemmas.List.{length-map, length-take-le, take-take, take-m
 use Rattle.std.proofs.lemmas.Option.{same_Some, slice_get_within}
 use Rattle.edge.specs.Stores.{StoreState, Content, store_of, out, at_home, FilesState, after_fetch, given_back, after_keep}
 use Rattle.tcmu_model.specs.MediumState.{MediumState}
-use Rattle.scsi_model.specs.Base.{cleared}
+use Rattle.scsi_model.specs.Base.{zeroed}
 use Rattle.scsi_model.specs.Medium.{has_store}
 use Rattle.tcmu_model.specs.Device.{Device}
 use Rattle.text_model.specs.Config.{MediumData, InMemory, InFile}
@@ -133,11 +133,11 @@ pub returned_file : (name : List ℕ) (s : StoreState) (m : MediumState) (old ne
 returned_file name s m old new sized stored kept layer told = by s.bytes refl
   where
     by : (o : Option (List ℕ)) → s.bytes ≡ o → (c : Content) × IsLeftOf m c × (new ≡ option_map (after_keep name c) old)
-    by None e = let none : is_some m.below.store.bytes ≡ false = ap (λ (o : Option (List ℕ)). is_some o) (stored.bytes ∙ ap (option_map (cleared m.below.store.free)) e) in absurd (false≢true (sym none ∙ told))
+    by None e = let none : is_some m.below.store.bytes ≡ false = ap (λ (o : Option (List ℕ)). is_some o) (stored.bytes ∙ ap (option_map (zeroed m.below.store.free)) e) in absurd (false≢true (sym none ∙ told))
     by (Some bs) e =
         let long = subst (λ (o : Option (List ℕ)). IfSome o (λ bs. length bs ≡ s.size)) e sized in
         let c : Content = record { bytes = bs; calls = s.calls; syncs = s.syncs } in
-        (c, record { size = long ∙ stored.size; bytes = stored.bytes ∙ ap (option_map (cleared m.below.store.free)) e; calls = stored.calls; syncs = stored.syncs }, kept c (file_of s bs e long))
+        (c, record { size = long ∙ stored.size; bytes = stored.bytes ∙ ap (option_map (zeroed m.below.store.free)) e; calls = stored.calls; syncs = stored.syncs }, kept c (file_of s bs e long))
 
 -- a medium in memory is in no file
 pub returned_none : (k : MediumData) (m : MediumState) (old : Option FilesState) → has_store m.below.layer ≡ false → Returns k m old old

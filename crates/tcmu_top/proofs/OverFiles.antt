@@ -6,7 +6,7 @@ use Rattle.std.proofs.lemmas.Bool.{cases_Bool, false≢true}
 use Rattle.std.proofs.lemmas.Option.{slice_get_within}
 use Rattle.edge.specs.Stores.{Content, StoreState, store_of, Place, at_home, FilesState}
 use Rattle.tcmu_model.specs.MediumState.{MediumState}
-use Rattle.scsi_model.specs.Base.{cleared}
+use Rattle.scsi_model.specs.Base.{zeroed}
 use Rattle.scsi_model.specs.Medium.{lies_in, empty_span, blanked, opened_medium, file_below}
 use Rattle.scsi_model.specs.Runs.{ShowsFile}
 use Rattle.scsi_model.proofs.Cleared.{hidden, get_cleared}
@@ -107,7 +107,7 @@ named_at (l ∷ ls) name e = go l.config.kind refl e (named_at ls name)
     go (InFile other) kind e rest = first other kind (bytes_eq name other) refl e rest
 
 -- where nothing is lost of a medium that shows its file, no block of its store is free
-none_free : (m : MediumState) → m.below.lost ≡ empty_span → ShowsFile m → (xs : List ℕ) → cleared m.below.store.free xs ≡ xs
+none_free : (m : MediumState) → m.below.lost ≡ empty_span → ShowsFile m → (xs : List ℕ) → zeroed m.below.store.free xs ≡ xs
 none_free m e s xs = same_list _ _ (λ i. get_cleared m.below.store.free xs i ∙ ap (λ b. hidden b (slice_get xs i)) (away i))
   where
     away : (i : ℕ) → is_among m.below.store.free (i / 512) ≡ false
@@ -123,7 +123,7 @@ none_free m e s xs = same_list _ _ (λ i. get_cleared m.below.store.free xs i �
 -- a medium that loses nothing leaves one content
 one_content : (m : MediumState) (a b : Content) → LosesNothing m → ShowsFile m → IsLeftOf m a → IsLeftOf m b → a ≡ b
 one_content m a b keeps shows p q =
-    let hidden_same : cleared m.below.store.free a.bytes ≡ cleared m.below.store.free b.bytes = same_some _ _ (sym p.bytes ∙ q.bytes) in
+    let hidden_same : zeroed m.below.store.free a.bytes ≡ zeroed m.below.store.free b.bytes = same_some _ _ (sym p.bytes ∙ q.bytes) in
     let bytes : a.bytes ≡ b.bytes = sym (none_free m keeps.lost shows a.bytes) ∙ hidden_same ∙ none_free m keeps.lost shows b.bytes in
     content_same a b bytes (p.calls ∙ sym q.calls) (p.syncs ∙ sym q.syncs)
 

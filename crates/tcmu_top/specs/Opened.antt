@@ -8,7 +8,7 @@ use Rattle.media.specs.Opening as medium
 use Rattle.media.specs.declared.make.MakeFault.{MakeFault}
 use Rattle.media.specs.declared.make.MakeFault.TheVariants as fault
 use Rattle.tcmu_model.specs.MediumState.{MediumState}
-use Rattle.scsi_model.specs.Base.{cleared}
+use Rattle.scsi_model.specs.Base.{zeroed}
 use Rattle.scsi_model.specs.Medium.{has_store, opened_medium, memory_below, file_below}
 use Rattle.tcmu_model.specs.Device.{Device}
 use Rattle.text_model.specs.Config.{ConfigData, MediumData, InMemory, InFile}
@@ -80,7 +80,7 @@ EachFile ls P = (at : ℕ) (l : DeviceLineData) (name : List ℕ) → slice_get 
 -- how many of them were syncs.
 pub record IsLeftOf (m : MediumState) (content : Content) : Type 0 where
   pub size : length content.bytes ≡ m.below.store.size
-  pub bytes : m.below.store.bytes ≡ Some (cleared m.below.store.free content.bytes)
+  pub bytes : m.below.store.bytes ≡ Some (zeroed m.below.store.free content.bytes)
   pub calls : content.calls ≡ m.below.store.calls
   pub syncs : content.syncs ≡ m.below.store.syncs
 
