@@ -58,12 +58,12 @@ block_outside at n i a b h =
 -- ==== bytes by their places
 
 -- a byte that is shown as zero, and one that is shown as zero or as it is
-abbrev zeroed : Option ℕ → Option ℕ
-zeroed None = None
-zeroed (Some x) = Some 0
+abbrev as_zero : Option ℕ → Option ℕ
+as_zero None = None
+as_zero (Some x) = Some 0
 
 abbrev pub hidden : Bool → Option ℕ → Option ℕ
-hidden b o = if b then zeroed o else o
+hidden b o = if b then as_zero o else o
 
 get_cleared_from : (at : ℕ) (blocks xs : List ℕ) (i : ℕ) → slice_get (zeroed_from at blocks xs) i ≡ hidden (is_among blocks ((at + i) / 512)) (slice_get xs i)
 get_cleared_from at blocks [] i = go (is_among blocks ((at + i) / 512))

@@ -1,5 +1,5 @@
 -- What the store below a medium over a file may hold.
-use Rattle.std.proofs.Common.{◌∙◌, ◌≡◌, ℕ, ◌/◌, Bool, true, false, List, length, sym, ap, Some, slice_get, ⊎_elim}
+use Rattle.std.proofs.Common.{◌∙◌, ◌≡◌, ℕ, ◌/◌, true, false, List, length, sym, ap, Some, slice_get, ⊎_elim}
 use Rattle.std.proofs.lemmas.Bool.{cases_Bool}
 use Rattle.tcmu_types.specs.Numbers.{is_among}
 use Rattle.tcmu_model.specs.MediumState.{MediumState}

@@ -1,11 +1,11 @@
 -- What a sync asks of the store below a medium.
-use Rattle.std.proofs.Common.{◌∙◌, ◌≡◌, inl, inr, ℕ, Bool, true, false, sym, ap, refl}
+use Rattle.std.proofs.Common.{◌∙◌, ◌≡◌, inl, inr, Bool, true, false, sym, ap, refl}
 use Rattle.std.specs.Bool.{MatchBool}
 use Rattle.tcmu_types.specs.Numbered.{next_call}
 use Rattle.tcmu_model.specs.MediumState.{Layer, memory, file, overlay, write_back, Base, Below, MediumState}
 use Rattle.scsi_model.specs.Base.{SyncsStore}
-use Rattle.scsi_model.specs.Medium.{OnStore, Flushes, SyncsBelow, syncs_store}
-use Rattle.scsi_model.specs.Runs.{IsSynced, SyncsReach}
+use Rattle.scsi_model.specs.Medium.{OnStore, SyncsBelow, syncs_store}
+use Rattle.scsi_model.specs.Runs.{SyncsReach}
 use Rattle.scsi_model.proofs.Decided.{true_false}
 use Rattle.scsi_model.proofs.Steady.{IsSteady, flushes_kept}
 
