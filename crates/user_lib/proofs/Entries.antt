@@ -1,8 +1,8 @@
 -- What is read of an entry one after another: iovecs and ids.
-use Rattle.std.proofs.Common.{◌≡◌, ℕ, suc, ◌+◌, ◌-◌, ◌*◌, ◌<◌, ◌≤◌, Bool, true, false, cond, List, [], ◌∷◌, ◌++◌, length, take, drop, drop-cons, add-one, get_or, refl, sym, ap, ◌∙◌, subst, arith, append_assoc, Result, Ok}
+use Rattle.std.proofs.Common.{◌≡◌, ℕ, suc, ◌+◌, ◌-◌, ◌*◌, ◌<◌, ◌≤◌, Bool, true, false, cond, List, [], ◌∷◌, ◌++◌, length, take, drop, drop-cons, add-one, get_or, refl, sym, ap, ◌∙◌, subst, arith, append_assoc, Result, Ok, ⊎_elim}
 use Rattle.std.proofs.lemmas.List.{append-nil}
 use Rattle.std.specs.List.{filter, list_all}
-use Rattle.std.proofs.lemmas.Bool.{and_parts, leb-true}
+use Rattle.std.proofs.lemmas.Bool.{and_parts, cases_Bool, leb-true}
 use Rattle.tcmu_types.specs.declared.iovec.Iov.{Iov}
 use Rattle.region_model.specs.declared.mailbox.Mailbox.{Mailbox}
 use Rattle.region_model.specs.declared.entry.EntryRef.TheVariants as entry
@@ -49,6 +49,14 @@ pub ids_left : (p : ℕ → Bool) (front : List ℕ) (b i n : ℕ) (items : List
 ids_left p front b i n items x h e t =
     let rest : List ℕ = tmr_ids_in front b (i + 1) (n - (i + 1)) in
     ap (λ xs. items ++ xs) (sym (filter_first p x rest false t)) ∙ ap (λ xs. items ++ filter p xs) (ap (λ y. y ∷ rest) e ∙ sym (ids_first front b i n h))
+
+pub ids_step : (p : ℕ → Bool) (front : List ℕ) (b i n : ℕ) (items new : List ℕ) (x : ℕ) → i < n → x ≡ tmr_id_at front b i → new ≡ cond (p x) (items ++ x ∷ []) items →
+    new ++ filter p (tmr_ids_in front b (i + 1) (n - (i + 1))) ≡ items ++ filter p (tmr_ids_in front b i (n - i))
+ids_step p front b i n items new x h e q =
+    ⊎_elim
+    (λ (t : p x ≡ true). ids_taken p front b i n items new x h e t (q ∙ ap (λ c. cond c (items ++ x ∷ []) items) t))
+    (λ (t : p x ≡ false). ap (λ xs. xs ++ filter p (tmr_ids_in front b (i + 1) (n - (i + 1)))) (q ∙ ap (λ c. cond c (items ++ x ∷ []) items) t) ∙ ids_left p front b i n items x h e t)
+    (cases_Bool (p x))
 
 pub ids_end : (p : ℕ → Bool) (front : List ℕ) (b i n : ℕ) (items : List ℕ) → n ≤ i → items ++ filter p (tmr_ids_in front b i (n - i)) ≡ items
 ids_end p front b i n items h = let e : n - i ≡ 0 = omega (arith, h) in ap (λ k. items ++ filter p (tmr_ids_in front b i k)) e ∙ append-nil items

@@ -1,7 +1,11 @@
 -- Answers placed change no block but those of their jobs, and before the data area only their entries.
-use Rattle.std.proofs.Common.{◌≡◌, ◌⊎◌, ℕ, zero, suc, ◌+◌, ◌-◌, ◌*◌, ◌<◌, ◌≤◌, Bool, true, false, cond, List, [], ◌∷◌, ◌++◌, length, length-take, take, drop, Option, Some, None, refl, sym, ap, ◌∙◌, subst, arith, ⊎_elim}
+use Rattle.std.proofs.Common.{◌≡◌, ◌⊎◌, inl, inr, ℕ, zero, suc, ◌+◌, ◌-◌, ◌*◌, ◌<◌, ◌≤◌, Bool, true, false, cond, List, [], ◌∷◌, ◌++◌, length, length-take, take, drop, Option, Some, None, refl, sym, ap, ◌∙◌, subst, arith, ⊎_elim}
 use Rattle.std.specs.Prelude.{slice_get}
 use Rattle.std.proofs.Math.Nat.{mul-suc}
+use Rattle.std.proofs.lemmas.Bool.{cases_lt}
+use Rattle.std.proofs.lemmas.List.{drop_all, take_all}
+use Rattle.tcmu_types.specs.ByteFields.{put}
+use Rattle.tcmu_types.proofs.ByteFields.{put-nothing}
 use Rattle.tcmu_types.specs.declared.iovec.Iov.{Iov}
 use Rattle.tcmu_types.specs.Lists.{Every, with_first, without_first}
 use Rattle.tcmu_types.proofs.Everies.{every-back, every-front, every-take}
@@ -14,12 +18,38 @@ use Rattle.region_model.proofs.Areas.{length-overlaid, size-home}
 use Rattle.ring_laws.specs.Sizes.{IsSized}
 use Rattle.ring_laws.specs.UserKept.{HasRing, IsAnswered, OnlyAnswers, UserSound}
 use Rattle.ring_laws.proofs.AnyAnswers.{Answers, respond_keeps}
+use Rattle.ring_laws.proofs.AnswerData.{returned-other}
 use Rattle.shm_region.specs.Copies.{LeaveOut, ShareNone}
-use Rattle.shm_region.proofs.Copied.{beside}
-use Rattle.shm_region.proofs.Over.{over_before, over_past}
-use Rattle.shm_region.proofs.Returned.{returned_leaves_others}
 use Rattle.user_lib.specs.Frames.{ChangesOnly, LeavesBlock, answered_jobs, front_jobs}
 use Rattle.user_lib.proofs.Placings.{payload_front, payload_pages, placed_first}
+
+-- ==== bytes that two ranges share
+
+beside : (a n b m : ℕ) → ShareNone a n b m → (a + n ≤ b) ⊎ (b + m ≤ a) ⊎ (n ≡ 0) ⊎ (m ≡ 0)
+beside a n b m none =
+    ⊎_elim (λ (x : b < a + n).
+    ⊎_elim (λ (y : a < b + m).
+    ⊎_elim (λ (left : a < b).
+    ⊎_elim (λ (some : 0 < m). absurd (none b (omega (arith, left)) x (omega arith) (omega (arith, some)))) (λ (h : m ≤ 0). inr (inr (inr (omega (arith, h))))) (cases_lt 0 m))
+    (λ (right : b ≤ a).
+    ⊎_elim (λ (some : 0 < n). absurd (none a (omega arith) (omega (arith, some)) right y)) (λ (h : n ≤ 0). inr (inr (inl (omega (arith, h))))) (cases_lt 0 n))
+    (cases_lt a b))
+    (λ (h : b + m ≤ a). inr (inl h))
+    (cases_lt a (b + m)))
+    (λ (h : a + n ≤ b). inl h)
+    (cases_lt b (a + n))
+
+over_past : (place at : ℕ) (bytes x : List ℕ) → length x ≤ at - place → overlaid place at bytes x ≡ x
+unfolding overlaid
+over_past place at bytes x h =
+    let none : length x - (at - place) ≡ 0 = omega (arith, h) in
+    ap (λ n. put x (at - place) (take n (drop (place - at) bytes))) none ∙ put-nothing x (at - place)
+
+over_before : (place at : ℕ) (bytes x : List ℕ) → length bytes ≤ place - at → overlaid place at bytes x ≡ x
+unfolding overlaid
+over_before place at bytes x h =
+    ap (λ (xs : List ℕ). put x (at - place) (take (length x - (at - place)) xs)) (drop_all (place - at) bytes h)
+    ∙ (ap (put x (at - place)) (take_all (length x - (at - place)) [] (omega arith)) ∙ put-nothing x (at - place))
 
 -- ==== one block
 
@@ -64,7 +94,7 @@ copied_block r (iov ∷ iovs) bytes k fits out =
     ∙ one
 
 payload_block : (r : RegionState) (iovs : List Iov) (carried : Carried) (payload : List ℕ) (k : ℕ) → Fits (size_of r) r.blocks k → LeavesBlock (length r.front) (size_of r) k iovs carried → slice_get (with_payload r iovs carried payload).blocks k ≡ slice_get r.blocks k
-payload_block r iovs (Moved parts) payload k fits out = returned_leaves_others r.blocks (named_by r iovs) (scattered parts payload) k out
+payload_block r iovs (Moved parts) payload k fits out = returned-other r.blocks (named_by r iovs) (scattered parts payload) k out
 payload_block r iovs (Copied bytes) payload k fits out = go (lie_in_area r iovs)
   where
     go : (b : Bool) → slice_get (cond b (copied_in r iovs payload) r).blocks k ≡ slice_get r.blocks k
@@ -88,7 +118,7 @@ unfolding user_responded
 changed_one r u at p sound ring fits =
     let alone : UserState = record u { offsets = at ∷ []; flags = record u.flags { ooo = true } } in
     let k : Answers r alone (user_responded r alone p) =
-        respond_keeps r alone p (record { ring = sound.ring; place = sound.place; tail = sound.tail; items = sound.items; offsets = (fits, tt) }) ring in
+    respond_keeps r alone p (record { ring = sound.ring; place = sound.place; tail = sound.tail; items = sound.items; offsets = (fits, tt) }) ring in
     record {
       long = k.front;
       pages = k.pages;
@@ -112,7 +142,7 @@ changed_more r mid after ats ats' jobs jobs' a b =
           let first : slice_get mid.blocks k ≡ slice_get r.blocks k = a.blocks k fits mine in
           let there : Fits (size_of mid) mid.blocks k = λ x e. fits x (sym first ∙ e) ∙ ap block_size (sym a.pages) in
           let other : OtherJobs (length mid.front) (size_of mid) k jobs' =
-              subst (λ n. OtherJobs (length mid.front) (block_size n) k jobs') (sym a.pages) (subst (λ n. OtherJobs n (size_of r) k jobs') (sym a.long) rest) in
+          subst (λ n. OtherJobs (length mid.front) (block_size n) k jobs') (sym a.pages) (subst (λ n. OtherJobs n (size_of r) k jobs') (sym a.long) rest) in
           b.blocks k there other ∙ first;
     }
 
@@ -140,7 +170,7 @@ changed_front k (g ∷ gs) sound ring = by_reply g.parked (λ m s e. changed_fro
         let one : Changed k.region (at ∷ []) (p.job ∷ []) (answered_region k.region k.user at p) = changed_one k.region k.user at p sound ring fit.0 in
         let u : UserState = record k.user { jobs = gs; offsets = ats; placed = k.user.placed + 1 } in
         let more = rest (record { region = answered_region k.region k.user at p; user = u })
-            (record { ring = sound.ring; place = sound.place; tail = sound.tail; items = sound.items; offsets = fit.1 }) (one.long ∙ ring) in
+        (record { ring = sound.ring; place = sound.place; tail = sound.tail; items = sound.items; offsets = fit.1 }) (one.long ∙ ring) in
         changed_more k.region (answered_region k.region k.user at p) (placed_front (placed_at k p gs (at ∷ ats)) gs).region (at ∷ []) (take (length (front_jobs gs)) ats) (p.job ∷ []) (front_jobs gs) one more
 
     by_reply : (o : Option Parked) → Rest →

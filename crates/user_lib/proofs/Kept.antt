@@ -1,17 +1,19 @@
 -- What every user side keeps, behind each of its calls.
-use Rattle.std.proofs.Common.{◌≡◌, ℕ, ◌+◌, ◌≤◌, true, List, length, Result, Ok, Err, refl, sym, ap, ◌∙◌, subst, arith}
+use Rattle.std.proofs.Common.{◌≡◌, ◌⊎◌, ℕ, ◌+◌, ◌≤◌, true, List, [], length, Result, Ok, Err, refl, sym, ap, ◌∙◌, subst, arith, ⊎_elim}
 use Rattle.std.specs.List.{list_any}
 use Rattle.region_model.specs.declared.mailbox.Mailbox.{Mailbox}
 use Rattle.region_model.specs.declared.mailbox.MailboxFault.{MailboxFault}
 use Rattle.region_model.specs.Layout.{data_start}
 use Rattle.region_model.specs.Regions.{RegionState}
 use Rattle.region_model.specs.Sides.{Parked, UserState}
-use Rattle.region_model.specs.UserSteps.{attached_to, is_open_job, user_abandoned, user_attached, user_mailbox, user_of, user_published, user_responded}
+use Rattle.region_model.specs.UserSteps.{attached_to, is_open_job, region_abandoned, region_reattached, user_abandoned, user_attached, user_mailbox, user_of, user_published, user_responded}
 use Rattle.region_model.specs.UserNext.{Job, nexted}
+use Rattle.ring_laws.specs.Restarted.{region_restarted}
 use Rattle.ring_laws.specs.Sizes.{IsSized}
 use Rattle.ring_laws.specs.UserKept.{HasPages, HasRing, IsWholeJob}
 use Rattle.ring_laws.proofs.AnyAnswers.{Answers, OnlyBlocks, abandon_sound, publish_sizes, publish_sound, reattach_only, respond_keeps, respond_ring}
-use Rattle.ring_laws.proofs.AnyAttached.{attached_sound}
+use Rattle.ring_laws.proofs.AnyAttached.{attached_pages, attached_sound}
+use Rattle.ring_laws.proofs.RestartedKept.{SameFront, front_restarted}
 use Rattle.ring_laws.proofs.AnyCounts.{abandon_counts, attach_counts, next_counts, publish_counts, respond_counts}
 use Rattle.ring_laws.proofs.AnyNext.{Nexts, next_keeps, next_ring}
 use Rattle.ring_laws.proofs.AnyWhole.{attach_jobs, next_job, next_jobs, next_pages, publish_jobs, publish_pages, respond_jobs, respond_pages}
@@ -63,9 +65,9 @@ abandoned_kept u h = record { sound = abandon_sound u h.sound; counts = abandon_
 -- a job that comes may be responded
 pub told_job : (r left : RegionState) (u after : UserState) (result : Result Next UserFault) → Told r u result left after → IsUser u → HasRing r u → HasPages r u → IsSized r → CanRespondNext after result
 told_job r left u after (Ok (next.Job job)) t h ring pages sized = (
-      subst (λ (v : UserState). list_any (is_open_job job.id) v.jobs ≡ true) t.user (next_gives r u job t.answer),
-      subst (λ (v : UserState). IsWholeJob v job) t.user (next_job r u job h.sound ring pages sized h.whole t.answer),
-    )
+  subst (λ (v : UserState). list_any (is_open_job job.id) v.jobs ≡ true) t.user (next_gives r u job t.answer),
+  subst (λ (v : UserState). IsWholeJob v job) t.user (next_job r u job h.sound ring pages sized h.whole t.answer),
+)
 told_job r left u after (Ok (next.Note type_ ids)) t h ring pages sized = tt
 told_job r left u after (Ok next.Nothing) t h ring pages sized = tt
 told_job r left u after (Err fault) t h ring pages sized = tt
@@ -93,3 +95,38 @@ ring_stays r left u after front s ring = front ∙ (ring ∙ ap data_start (sym 
 
 pub pages_stays : (r left : RegionState) (u after : UserState) → left.pages ≡ r.pages → StaysAttached u after → HasPages r u → HasPages left after
 pages_stays r left u after same s pages = same ∙ (pages ∙ sym s.pages)
+
+pub published_stays : (u after : UserState) → after ≡ user_published u → StaysAttached u after
+unfolding user_published
+published_stays u after e = record { ring = ap (λ (x : UserState). x.ring) e; pages = ap (λ (x : UserState). x.pages) e }
+
+-- jobs that are given up change nothing before the data area
+abandoned_front : (r : RegionState) (u : UserState) → SameFront r (region_abandoned r u.jobs)
+unfolding region_restarted
+abandoned_front r u = front_restarted r [] u
+
+pub abandoned_ring : (r left : RegionState) (u after : UserState) → after ≡ user_abandoned u → left ≡ region_abandoned r u.jobs → HasRing r u → HasRing left after
+unfolding user_abandoned
+abandoned_ring r left u after e f ring =
+    ap (λ (x : RegionState). length x.front) f ∙ (ap length (abandoned_front r u).front ∙ (ring ∙ ap data_start (sym (ap (λ (x : UserState). x.ring) e))))
+
+pub abandoned_pages : (r left : RegionState) (u after : UserState) → after ≡ user_abandoned u → left ≡ region_abandoned r u.jobs → HasPages r u → HasPages left after
+unfolding user_abandoned
+abandoned_pages r left u after e f pages =
+    ap (λ (x : RegionState). x.pages) f ∙ ((abandoned_front r u).pages ∙ (pages ∙ sym (ap (λ (x : UserState). x.pages) e)))
+
+-- attached again, or as before
+pub reattached_kept : (r : RegionState) (u after was : UserState) → (user_attached r ≡ Ok after) ⊎ (after ≡ was) → was ≡ u → IsUser u → IsUser after
+reattached_kept r u after was o same h = ⊎_elim (λ (k : user_attached r ≡ Ok after). attached_kept r after k) (λ (k : after ≡ was). subst IsUser (sym (k ∙ same)) h) o
+
+pub reattached_ring : (r left : RegionState) (u after was : UserState) → left ≡ region_reattached r u → (user_attached r ≡ Ok after) ⊎ (after ≡ was) → was ≡ u → HasRing r u → HasRing left after
+reattached_ring r left u after was e o same ring =
+    let k : OnlyBlocks r (region_reattached r u) = reattach_only r u in
+    let front : length left.front ≡ length r.front = ap (λ (x : RegionState). length x.front) e ∙ ap length k.front in
+    front ∙ ⊎_elim (λ (q : user_attached r ≡ Ok after). (attached_sound r after q).1) (λ (q : after ≡ was). ring ∙ ap (λ (x : UserState). data_start x.ring) (sym (q ∙ same))) o
+
+pub reattached_pages : (r left : RegionState) (u after was : UserState) → left ≡ region_reattached r u → (user_attached r ≡ Ok after) ⊎ (after ≡ was) → was ≡ u → HasPages r u → HasPages left after
+reattached_pages r left u after was e o same pages =
+    let k : OnlyBlocks r (region_reattached r u) = reattach_only r u in
+    let front : left.pages ≡ r.pages = ap (λ (x : RegionState). x.pages) e ∙ k.pages in
+    front ∙ ⊎_elim (λ (q : user_attached r ≡ Ok after). attached_pages r after q) (λ (q : after ≡ was). pages ∙ ap (λ (x : UserState). x.pages) (sym (q ∙ same))) o

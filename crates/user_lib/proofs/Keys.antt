@@ -130,11 +130,11 @@ jobs_parked s s' id key p (g ∷ gs) u h f =
     let c : kept_under s' g.key ≡ kept_under s g.key = kept_other s s' key (Some p) g.key u k.0 in
     ⊎_elim
     (λ (e : is_open id g ≡ true). rw (a, e) (
-      ap (λ (x : Option Parked). (record { id = g.id; parked = x }) ∷ jobs_of s' gs) u.changed
-      ∙ ap (λ xs. record { id = g.id; parked = Some p } ∷ xs) b))
+    ap (λ (x : Option Parked). (record { id = g.id; parked = x }) ∷ jobs_of s' gs) u.changed
+    ∙ ap (λ xs. record { id = g.id; parked = Some p } ∷ xs) b))
     (λ (e : is_open id g ≡ false). rw (a, e) (
-      ap (λ (x : Option Parked). (record { id = g.id; parked = x }) ∷ jobs_of s' (with_first (is_open id) (with_key key) gs)) c
-      ∙ ap (λ xs. job_of s g ∷ xs) (jobs_parked s s' id key p gs u h.1 k.1)))
+    ap (λ (x : Option Parked). (record { id = g.id; parked = x }) ∷ jobs_of s' (with_first (is_open id) (with_key key) gs)) c
+    ∙ ap (λ xs. job_of s g ∷ xs) (jobs_parked s s' id key p gs u h.1 k.1)))
     (cases_Bool (is_open id g))
 
 every_key : (P : ℕ → Type 0) (id key : ℕ) (gs : List Given) → Every P (keys_of gs) → P key → Every P (keys_of (with_first (is_open id) (with_key key) gs))

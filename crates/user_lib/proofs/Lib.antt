@@ -9,3 +9,4 @@ pub mod Opens
 pub mod Frames
 pub mod OnDevice
 pub mod Stays
+pub mod Reattached

@@ -21,9 +21,9 @@ movable_first : (n : ℕ) (x : Recorded) (xs : List Recorded) → (is_cmd x ≡ 
 movable_first n x xs may =
     ⊎_elim
     (λ (c : is_cmd x ≡ true). ⊎_elim
-      (λ (z : (n == 0) ≡ true). let q : n ≡ 0 = eqb-true n 0 z in let k : 0 < n = may c in absurd (omega (arith, q, k)))
-      (λ (z : (n == 0) ≡ false). rw (c, z) refl)
-      (cases_Bool (n == 0)))
+    (λ (z : (n == 0) ≡ true). let q : n ≡ 0 = eqb-true n 0 z in let k : 0 < n = may c in absurd (omega (arith, q, k)))
+    (λ (z : (n == 0) ≡ false). rw (c, z) refl)
+    (cases_Bool (n == 0)))
     (λ (c : is_cmd x ≡ false). rw c (ap (λ k. movable k xs + 1) (let q : n ≡ n - 0 = omega arith in q)))
     (cases_Bool (is_cmd x))
 
@@ -33,7 +33,7 @@ moving_less u after x h =
     let n : ℕ = u.placed - u.published in
     let may : is_cmd x ≡ true → 0 < n = λ c. let k = h.may c in omega (arith, k) in
     let left : after.placed - after.published ≡ n - one x =
-        ap (λ (v : UserState). v.placed - v.published) h.user ∙ (let q : u.placed - (u.published + one x) ≡ (u.placed - u.published) - one x = omega arith in q) in
+    ap (λ (v : UserState). v.placed - v.published) h.user ∙ (let q : u.placed - (u.published + one x) ≡ (u.placed - u.published) - one x = omega arith in q) in
     ap (λ xs. movable n xs) h.items ∙ (movable_first n x after.items may ∙ ap (λ k. movable k after.items + 1) (sym left))
 
 moved_items : (u after : UserState) (x : Recorded) (h : Moves u x after) → moving_items u ≡ x ∷ moving_items after
@@ -62,10 +62,10 @@ same_published u after x h =
     let long : lengths (moving_items u) ≡ x.len + lengths (moving_items after) = ap lengths (moved_items u after x h) ∙ sum_by-cons (λ (y : Recorded). y.len) x (moving_items after) in
     let count : after.published ≡ u.published + one x = ap (λ (v : UserState). v.published) h.user in
     let t : tail ≡ (u.tail + lengths (moving_items u)) % u.ring =
-        ap (λ r. (after.tail + lengths (moving_items after)) % r) ring
-        ∙ (ap (λ n. (n + lengths (moving_items after)) % u.ring) begins
-        ∙ (mod-add-mod (u.tail + x.len) u.ring (lengths (moving_items after))
-        ∙ ap (λ n. n % u.ring) (let q : (u.tail + x.len) + lengths (moving_items after) ≡ u.tail + lengths (moving_items u) = omega (arith, long) in q))) in
+    ap (λ r. (after.tail + lengths (moving_items after)) % r) ring
+    ∙ (ap (λ n. (n + lengths (moving_items after)) % u.ring) begins
+    ∙ (mod-add-mod (u.tail + x.len) u.ring (lengths (moving_items after))
+    ∙ ap (λ n. n % u.ring) (let q : (u.tail + x.len) + lengths (moving_items after) ≡ u.tail + lengths (moving_items u) = omega (arith, long) in q))) in
     let p : published ≡ u.published + commands (moving_items u) = let k = commands_less u after x h in omega (arith, count, k) in
     ap (λ (v : UserState). record v { items = items; tail = tail; published = published }) h.user
     ∙ (ap (λ xs. record u { items = xs; tail = tail; published = published }) (left_items u after x h)
@@ -79,7 +79,7 @@ all_published u h below =
     let none : moving_items u ≡ [] = ap (λ n. take n u.items) h in
     let items : drop (moving u) u.items ≡ u.items = ap (λ n. drop n u.items) h in
     let tail : (u.tail + lengths (moving_items u)) % u.ring ≡ u.tail =
-        ap (λ xs. (u.tail + lengths xs) % u.ring) none ∙ (ap (λ n. n % u.ring) (let q : u.tail + 0 ≡ u.tail = omega arith in q) ∙ mod-eq_of_lt below) in
+    ap (λ xs. (u.tail + lengths xs) % u.ring) none ∙ (ap (λ n. n % u.ring) (let q : u.tail + 0 ≡ u.tail = omega arith in q) ∙ mod-eq_of_lt below) in
     let count : u.published + commands (moving_items u) ≡ u.published = ap (λ xs. u.published + commands xs) none ∙ (let q : u.published + 0 ≡ u.published = omega arith in q) in
     ap (λ xs. record u { items = xs; tail = (u.tail + lengths (moving_items u)) % u.ring; published = u.published + commands (moving_items u) }) items
     ∙ (ap (λ n. record u { tail = n; published = u.published + commands (moving_items u) }) tail
@@ -93,9 +93,9 @@ moving_most u = go (u.placed - u.published) u.items
     go n (x ∷ xs) =
         ⊎_elim
         (λ (c : is_cmd x ≡ true). ⊎_elim
-          (λ (z : (n == 0) ≡ true). rw (c, z) (omega arith))
-          (λ (z : (n == 0) ≡ false). rw (c, z) (let k = go (n - 1) xs in omega (arith, k)))
-          (cases_Bool (n == 0)))
+        (λ (z : (n == 0) ≡ true). rw (c, z) (omega arith))
+        (λ (z : (n == 0) ≡ false). rw (c, z) (let k = go (n - 1) xs in omega (arith, k)))
+        (cases_Bool (n == 0)))
         (λ (c : is_cmd x ≡ false). rw c (let k = go n xs in omega (arith, k)))
         (cases_Bool (is_cmd x))
 

@@ -17,7 +17,7 @@ use Rattle.region_model.specs.declared.entry.EntryFault.{EntryFault}
 use Rattle.region_model.specs.HandSteps.{hand_responded}
 use Rattle.region_model.specs.Regions.{RegionState}
 use Rattle.region_model.specs.Represents.{Represents}
-use Rattle.region_model.specs.Sides.{InHand, JobState, PendingRow, TargetState, UserState}
+use Rattle.region_model.specs.Sides.{InHand, JobState, Parked, PendingRow, TargetState, UserState}
 use Rattle.region_model.specs.TargetCleans.{region_reset, target_reset}
 use Rattle.region_model.specs.UserNext.{BadEntry, BadMailbox, NextAnswer, Nexted, Nothing, next_within, nexted}
 use Rattle.region_model.specs.UserSteps.{opening_user, region_abandoned, region_published, region_reattached, user_abandoned, user_attached, user_publish_answer, user_published, user_respond_answer, user_responded}
@@ -124,20 +124,20 @@ responds r left u after job reply answer a e f t hand d lists s h found =
     let p = h.represents in
     let k = can_respond r.front u hand t.rows d lists s (record { serial = s; job = job; reply = Some reply }) reply h.sound h.owned p.ids p.jobs p.side found refl in
     let c = k.2 in
-    let given = record { job = job; reply = reply } in
+    let given : Parked = record { job = job; reply = reply } in
     record {
       answer = a ∙ answer_same u t.rows d lists s k.0 given k.1 c;
       stands = same_represents (user_responded r u given).region left t (user_responded r u given).user after (hand_responded hand s) (hand_responded hand s) (after_respond d s) lists (sym e) (sym f) refl
           (record {
-              ring = ring_kept r u t.items t.rows d lists s k.0 given k.1 c p.ring p.ids;
-              ids = ids_kept r u t.items t.rows d lists s k.0 given k.1 c p.ring p.ids;
-              notes = notes_kept r u t.items t.rows d lists s k.0 given k.1 c p.ring p.ids p.notes;
-              blocks = blocks_kept r u t.items t.rows d lists s k.0 given k.1 c p.ring p.ids p.pages p.blocks;
-              jobs = jobs_kept r u hand t.rows d lists s k.0 given k.1 c p.ids p.jobs;
-              target = target_kept u t t.rows d lists s k.0 given k.1 c p.target;
-              side = side_kept r u t.rows d lists s k.0 given k.1 c p.side;
-              pages = pages_kept r u t.rows d lists s k.0 given k.1 c p.pages;
-            });
+            ring = ring_kept r u t.items t.rows d lists s k.0 given k.1 c p.ring p.ids;
+            ids = ids_kept r u t.items t.rows d lists s k.0 given k.1 c p.ring p.ids;
+            notes = notes_kept r u t.items t.rows d lists s k.0 given k.1 c p.ring p.ids p.notes;
+            blocks = blocks_kept r u t.items t.rows d lists s k.0 given k.1 c p.ring p.ids p.pages p.blocks;
+            jobs = jobs_kept r u hand t.rows d lists s k.0 given k.1 c p.ids p.jobs;
+            target = target_kept u t t.rows d lists s k.0 given k.1 c p.target;
+            side = side_kept r u t.rows d lists s k.0 given k.1 c p.side;
+            pages = pages_kept r u t.rows d lists s k.0 given k.1 c p.pages;
+          });
     }
 
 -- ==== publish
@@ -149,15 +149,15 @@ publishes r left u after answer a f e t hand d lists s att =
       answer = a ∙ publish_same u d s.sound att p.side;
       stands = same_represents (region_published r u) left t (user_published u) after hand hand (after_publish d) lists (sym e) (sym f) refl
           (record {
-              ring = ring_published r u t.items d lists s.sound att p.ring p.side;
-              ids = ids_published r u t.items t.rows d lists s.sound att p.ring p.ids p.side;
-              notes = notes_published r u t.items t.rows d lists s.sound att p.ring p.notes p.side;
-              blocks = blocks_published r u d lists s.sound att p.blocks p.side;
-              jobs = jobs_published u hand t.rows d lists s.sound att p.jobs p.side;
-              target = target_published t u d lists s.sound att p.target p.side;
-              side = side_published u d s.sound att p.side;
-              pages = pages_published r u d p.pages;
-            });
+            ring = ring_published r u t.items d lists s.sound att p.ring p.side;
+            ids = ids_published r u t.items t.rows d lists s.sound att p.ring p.ids p.side;
+            notes = notes_published r u t.items t.rows d lists s.sound att p.ring p.notes p.side;
+            blocks = blocks_published r u d lists s.sound att p.blocks p.side;
+            jobs = jobs_published u hand t.rows d lists s.sound att p.jobs p.side;
+            target = target_published t u d lists s.sound att p.target p.side;
+            side = side_published u d s.sound att p.side;
+            pages = pages_published r u d p.pages;
+          });
     }
 
 -- ==== restart and reset
@@ -169,35 +169,37 @@ restarts r left u after f e before t hand d lists s q =
     let z : region_restarted before hand u ≡ left = sym (e ∙ ap (λ x. region_abandoned x u.jobs) q) in
     same_represents (region_restarted before hand u) left t (user_abandoned u) after [] [] (after_restart d) lists z (sym f) refl
     (record {
-        ring = ring_restarted before u hand t.items d lists s.sound p.ring;
-        ids = ids_restarted before u hand t.rows d p.ids;
-        notes = notes_restarted before u hand t.rows d p.notes;
-        blocks = blocks_restarted before u hand t.items t.rows d lists s.sound s.owned p.ring p.pages p.blocks p.jobs;
-        jobs = jobs_restarted u hand t.rows d lists p.jobs;
-        target = target_restarted t d lists p.target;
-        side = side_restarted u d p.side;
-        pages = pages_restarted before u hand d p.pages;
-      })
+      ring = ring_restarted before u hand t.items d lists s.sound p.ring;
+      ids = ids_restarted before u hand t.rows d p.ids;
+      notes = notes_restarted before u hand t.rows d p.notes;
+      blocks = blocks_restarted before u hand t.items t.rows d lists s.sound s.owned p.ring p.pages p.blocks p.jobs;
+      jobs = jobs_restarted u hand t.rows d lists p.jobs;
+      target = target_restarted t d lists p.target;
+      side = side_restarted u d p.side;
+      pages = pages_restarted before u hand d p.pages;
+    })
 
 pub resets : (r left : RegionState) (u after : UserState) (made : Bool) → left ≡ region_reattached r u → (made ≡ true → user_attached r ≡ Ok after) → ((made ≡ true → ⊥) → (f : MailboxFault) × (user_attached r ≡ Err f)) → ResetsDevice r u made left after
 resets r left u after made e ok err before t hand d lists level n s a q =
     let p = s.represents in
     let back : region_reset before ≡ left =
-        sym (e ∙ (ap (λ x. region_reattached x u) q ∙ reattached_reset before t u hand t.rows d lists level n s.sound p.ring p.pages p.jobs a)) in
+    sym (e ∙ (ap (λ x. region_reattached x u) q ∙ reattached_reset before t u hand t.rows d lists level n s.sound p.ring p.pages p.jobs a)) in
     let there : user_attached r ≡ Ok (opening_user d.settings) = ap user_attached q ∙ attached_reset before t d lists level n s.sound p.ring p.pages a in
     let done : made ≡ true = go made refl there in
-    let user : opening_user d.settings ≡ after = same_user (opening_user d.settings) after (sym there ∙ ok done) in
-    (done, same_represents (region_reset before) left (target_reset before t level) (opening_user d.settings) after [] [] (after_reset d level) [] back user refl
-      (record {
-          ring = ring_reset before t d lists level n s.sound p.ring a;
-          ids = ids_reset before t d level n a;
-          notes = notes_reset before t d level n a;
-          blocks = blocks_reset before d level n a;
-          jobs = jobs_reset before t d level n a;
-          target = target_reset_keeps before t d lists level n (record { sound = s.sound; owned = s.owned; ring = p.ring; ids = p.ids; blocks = p.blocks; target = p.target; pages = p.pages }) a;
-          side = side_reset d level n s.sound a;
-          pages = pages_reset before d level n p.pages a;
-        }))
+    let user : opening_user d.settings ≡ after = same_user (opening_user d.settings) after (sym there ∙ ok done) in (
+      done,
+      same_represents (region_reset before) left (target_reset before t level) (opening_user d.settings) after [] [] (after_reset d level) [] back user refl
+          (record {
+            ring = ring_reset before t d lists level n s.sound p.ring a;
+            ids = ids_reset before t d level n a;
+            notes = notes_reset before t d level n a;
+            blocks = blocks_reset before d level n a;
+            jobs = jobs_reset before t d level n a;
+            target = target_reset_keeps before t d lists level n (record { sound = s.sound; owned = s.owned; ring = p.ring; ids = p.ids; blocks = p.blocks; target = p.target; pages = p.pages }) a;
+            side = side_reset d level n s.sound a;
+            pages = pages_reset before d level n p.pages a;
+          }),
+    )
   where
     go : (b : Bool) → made ≡ b → user_attached r ≡ Ok (opening_user d.settings) → made ≡ true
     go true m there = m

@@ -70,6 +70,12 @@ payload_pages r iovs (Copied bytes) payload = go (lie_in_area r iovs)
     go true = copied_pages r iovs payload
     go false = refl
 
+pub inside_front : (r : RegionState) (iovs : List Iov) (payload : List ℕ) → lie_in_area r iovs ≡ true → (copied_in r iovs payload).front ≡ r.front
+inside_front r iovs payload e = copied_front (length r.front) r iovs payload refl (all_behind (length r.front) (length (bytes_of r)) iovs e)
+
+pub inside_pages : (r : RegionState) (iovs : List Iov) (payload : List ℕ) → (copied_in r iovs payload).pages ≡ r.pages
+inside_pages r iovs payload = copied_pages r iovs payload
+
 -- ==== one answer
 
 -- with the first offset that is left
@@ -92,7 +98,7 @@ pub front_step : (r left : RegionState) (u mid after : UserState) (p : Parked) �
 front_step r left u mid after p t h e j =
     let rest : List GivenJob = mid.jobs in
     let a : placed_one (record { region = r; user = u }) p rest ≡ record { region = left; user = after } =
-        placed_jobs r u p rest h ∙ (ap (λ (x : UserState). placed_one (record { region = r; user = x }) p rest) (sym t.user) ∙ e) in
+    placed_jobs r u p rest h ∙ (ap (λ (x : UserState). placed_one (record { region = r; user = x }) p rest) (sym t.user) ∙ e) in
     sym
     (ap (λ xs. placed_front (record { region = r; user = u }) xs) t.jobs
     ∙ (ap (λ k. placed_front k rest) a ∙ ap (λ xs. placed_front (record { region = left; user = after }) xs) (sym j)))
@@ -166,8 +172,8 @@ front_taken r u mid p h t =
     let offsets : mid.offsets ≡ u.offsets = ap (λ (x : UserState). x.offsets) t.user in
     let placed : mid.placed ≡ u.placed = ap (λ (x : UserState). x.placed) t.user in
     let dispatched : mid.dispatched ≡ u.dispatched = ap (λ (x : UserState). x.dispatched) t.user in
-    let first = subst (λ (gs : List GivenJob). Every (λ g. (q : Parked) → g.parked ≡ Some q → IsWholeJob u q.job) gs) t.jobs h.whole in
-    let mine : Every (λ g. (q : Parked) → g.parked ≡ Some q → IsWholeJob mid q.job) (record { id = t.id; parked = Some p } ∷ []) = whole_same u mid (record { id = t.id; parked = Some p } ∷ []) ring pages (first.0, tt) in
+    let first : Every (λ (g : GivenJob). (q : Parked) → g.parked ≡ Some q → IsWholeJob u q.job) (record { id = t.id; parked = Some p } ∷ mid.jobs) = subst (λ (gs : List GivenJob). Every (λ g. (q : Parked) → g.parked ≡ Some q → IsWholeJob u q.job) gs) t.jobs h.whole in
+    let mine : Every (λ (g : GivenJob). (q : Parked) → g.parked ≡ Some q → IsWholeJob mid q.job) (record { id = t.id; parked = Some p } ∷ []) = whole_same u mid (record { id = t.id; parked = Some p } ∷ []) ring pages (first.0, tt) in
     record {
       ring = h.ring ∙ ap data_start (sym ring);
       pages = h.pages ∙ sym pages;
@@ -183,7 +189,7 @@ front_placed r left u mid after p h t e front size =
     let ring : after.ring ≡ u.ring = q.ring ∙ ap (λ (x : UserState). x.ring) t.user in
     let pages : after.pages ≡ u.pages = q.pages ∙ ap (λ (x : UserState). x.pages) t.user in
     let offsets : mid.offsets ≡ u.offsets = ap (λ (x : UserState). x.offsets) t.user in
-    let first = subst (λ (gs : List GivenJob). Every (λ g. (x : Parked) → g.parked ≡ Some x → IsWholeJob u x.job) gs) t.jobs h.whole in
+    let first : Every (λ (g : GivenJob). (x : Parked) → g.parked ≡ Some x → IsWholeJob u x.job) (record { id = t.id; parked = Some p } ∷ mid.jobs) = subst (λ (gs : List GivenJob). Every (λ g. (x : Parked) → g.parked ≡ Some x → IsWholeJob u x.job) gs) t.jobs h.whole in
     record {
       ring = front ∙ (h.ring ∙ ap data_start (sym ring));
       pages = size ∙ (h.pages ∙ sym pages);

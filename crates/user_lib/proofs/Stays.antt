@@ -40,9 +40,9 @@ any_without p q (x ∷ xs) away h =
     ⊎_elim
     (λ (e : p x ≡ true). let n : q x ≡ false = away x e in let k : list_any q xs ≡ true = rw n at h in rw e k)
     (λ (e : p x ≡ false). rw e (⊎_elim
-      (λ (y : q x ≡ true). rw y refl)
-      (λ (n : q x ≡ false). let k : list_any q xs ≡ true = rw n at h in or_right (q x) (list_any q (without_first p xs)) (any_without p q xs away k))
-      (cases_Bool (q x))))
+    (λ (y : q x ≡ true). rw y refl)
+    (λ (n : q x ≡ false). let k : list_any q xs ≡ true = rw n at h in or_right (q x) (list_any q (without_first p xs)) (any_without p q xs away k))
+    (cases_Bool (q x))))
     (cases_Bool (p x))
 
 -- one is changed that does not pass it
@@ -52,9 +52,9 @@ any_with p q f (x ∷ xs) away h =
     ⊎_elim
     (λ (e : p x ≡ true). let n : q x ≡ false = away x e in let k : list_any q xs ≡ true = rw n at h in rw e (or_right (q (f x)) (list_any q xs) k))
     (λ (e : p x ≡ false). rw e (⊎_elim
-      (λ (y : q x ≡ true). rw y refl)
-      (λ (n : q x ≡ false). let k : list_any q xs ≡ true = rw n at h in or_right (q x) (list_any q (with_first p f xs)) (any_with p q f xs away k))
-      (cases_Bool (q x))))
+    (λ (y : q x ≡ true). rw y refl)
+    (λ (n : q x ≡ false). let k : list_any q xs ≡ true = rw n at h in or_right (q x) (list_any q (with_first p f xs)) (any_with p q f xs away k))
+    (cases_Bool (q x))))
     (cases_Bool (p x))
 
 -- ==== a next
@@ -138,9 +138,9 @@ other_shut : (id taken : ℕ) → id ≢ taken → (g : GivenJob) → is_open_jo
 other_shut id taken away g t =
     ⊎_elim
     (λ (o : is_open_job id g ≡ true).
-      let a : g.id ≡ id = eqb-true g.id id (and_parts (g.id == id) (not (is_some g.parked)) o).0 in
-      let b : g.id ≡ taken = eqb-true g.id taken (and_parts (g.id == taken) (not (is_some g.parked)) t).0 in
-      absurd (away (sym a ∙ b)))
+    let a : g.id ≡ id = eqb-true g.id id (and_parts (g.id == id) (not (is_some g.parked)) o).0 in
+    let b : g.id ≡ taken = eqb-true g.id taken (and_parts (g.id == taken) (not (is_some g.parked)) t).0 in
+    absurd (away (sym a ∙ b)))
     (λ (o : is_open_job id g ≡ false). o)
     (cases_Bool (is_open_job id g))
 

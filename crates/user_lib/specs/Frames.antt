@@ -1,8 +1,9 @@
 -- What a respond leaves of the region as it is.
-use Rattle.std.specs.Prelude.{◌≡◌, ℕ, ◌+◌, ◌*◌, List, [], ◌∷◌, length, take, slice_get, Option, Some, None, if◌then◌else◌}
+use Rattle.std.specs.Prelude.{◌≡◌, ℕ, false, ◌+◌, ◌*◌, List, [], ◌∷◌, length, take, slice_get, Option, Some, None, if◌then◌else◌}
 use Rattle.tcmu_types.specs.Lists.{Every, with_first}
+use Rattle.tcmu_types.specs.Numbers.{is_among}
 use Rattle.tcmu_types.specs.declared.iovec.Iov.{Iov}
-use Rattle.region_model.specs.Regions.{IsOther, RegionState, numbers_of, size_of}
+use Rattle.region_model.specs.Regions.{RegionState, numbers_of, size_of}
 use Rattle.region_model.specs.Sides.{Carried, Copied, GivenJob, JobState, Moved, Parked, UserState}
 use Rattle.region_model.specs.UserSteps.{is_open_job, with_parked}
 use Rattle.ring_laws.specs.UserKept.{OnlyAnswers}
@@ -20,7 +21,7 @@ answered_jobs u p = if u.flags.ooo then p.job ∷ [] else front_jobs (with_first
 -- Block k of an area is none of a job's: where the job has its blocks, their numbers are others, and where it has a copy, its iovecs name no
 -- byte of the block. The area begins at byte `start`.
 abbrev pub LeavesBlock : ℕ → ℕ → ℕ → List Iov → Carried → Type 0
-LeavesBlock start size k iovs (Moved parts) = IsOther k (numbers_of start size iovs)
+LeavesBlock start size k iovs (Moved parts) = is_among (numbers_of start size iovs) k ≡ false
 LeavesBlock start size k iovs (Copied bytes) = LeaveOut iovs (start + size * k) size
 
 -- no block changes but those of these jobs

@@ -59,8 +59,8 @@ DispatchesDevice r u result left after =
 
 -- ==== respond
 
-pub record Responds (t : TargetState) (hand : List InHand) (d : DeviceState) (lists : List Taken) (s : ℕ) (answer : Respond) (left : RegionState) (after : UserState) : Type 0 where
-  pub answer : answer ≡ respond_answer d s
+pub record Responds (t : TargetState) (hand : List InHand) (d : DeviceState) (lists : List Taken) (s : ℕ) (told : Respond) (left : RegionState) (after : UserState) : Type 0 where
+  pub answer : told ≡ respond_answer d s
   pub stands : Represents left t after (hand_responded hand s) (after_respond d s) lists
 
 -- the job in hand of a serial comes back with its reply
@@ -71,8 +71,8 @@ RespondsDevice r u job reply answer left after =
 
 -- ==== publish
 
-pub record Publishes (t : TargetState) (hand : List InHand) (d : DeviceState) (lists : List Taken) (answer : Publish) (left : RegionState) (after : UserState) : Type 0 where
-  pub answer : answer ≡ publish_answer d
+pub record Publishes (t : TargetState) (hand : List InHand) (d : DeviceState) (lists : List Taken) (told : Publish) (left : RegionState) (after : UserState) : Type 0 where
+  pub answer : told ≡ publish_answer d
   pub stands : Represents left t after hand (after_publish d) lists
 
 abbrev pub PublishesDevice : RegionState → UserState → Publish → RegionState → UserState → Type 0

@@ -14,12 +14,7 @@ use std::alloc::Global;
 use tcmu_types::{Bytes, Cdb, Iovs, NoMemory, takes_payload};
 
 /// The first `count` iovecs of the command's entry at a ring offset.
-pub(crate) fn read_iovs(
-    alloc: Global,
-    front: &[u8],
-    at: u32,
-    count: u32,
-) -> Result<Iovs, NoMemory>
+pub(crate) fn read_iovs(alloc: Global, front: &[u8], at: u32, count: u32) -> Result<Iovs, NoMemory>
     requires { ring_start + at + 48 + 16 * count ≤ length front.now }
     ensures { IfOk result (λ iovs. iovs.items ≡ iovs_in front.now (ring_start + at) 0 count) }
 {
@@ -55,12 +50,7 @@ pub(crate) fn answer_length(iovs: &Iovs, cdb: &Cdb) -> u32
 }
 
 /// The bytes that a command takes along, copied out of the region; none where it takes none.
-fn copied_data(
-    alloc: Global,
-    region: &Region,
-    iovs: &Iovs,
-    cdb: &Cdb,
-) -> Result<Bytes, NoMemory>
+fn copied_data(alloc: Global, region: &Region, iovs: &Iovs, cdb: &Cdb) -> Result<Bytes, NoMemory>
     requires { lie_in_area region.now iovs.now.items ≡ true }
     ensures { IfOk result (λ bytes. bytes.items ≡ copied_data region.now iovs.now.items cdb.now) }
 {
@@ -73,11 +63,7 @@ fn copied_data(
 }
 
 /// Moves the blocks of iovecs out of the region; None where they can't be lent.
-fn lend_blocks(
-    alloc: Global,
-    region: &mut Region,
-    iovs: &Iovs,
-) -> Result<Option<Parts>, NoMemory>
+fn lend_blocks(alloc: Global, region: &mut Region, iovs: &Iovs) -> Result<Option<Parts>, NoMemory>
     ensures lent { IfOk result (λ parts. LendsParts region.old iovs.now.items parts region.new) }
     ensures region { OnErr result (region.new ≡ region.old) }
 {

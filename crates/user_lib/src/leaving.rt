@@ -5,10 +5,10 @@ ghost use Rattle.region_model.specs.UserSteps.{flags_in, region_abandoned, regio
 ghost use Rattle.ring_laws.specs.UserKept.{AreWholeJobs, HasPages, HasRing};
 ghost use Rattle.user_lib.specs.Answering.{AreBack, GoesBack};
 
-use crate::{Job, JobData};
 use crate::books::UserBooks;
 use crate::jobs::{Jobs, ParkedJob, TakenJob};
 use crate::next::mailbox_of;
+use crate::{Job, JobData};
 use mailbox_bytes::{Mailbox, MailboxFault};
 use shm_region::Region;
 use std::alloc::Global;
@@ -131,7 +131,10 @@ impl UserBooks {
         ensures err { IfErr result (λ fault. user_attached region.old ≡ Err fault) }
         ensures unchanged { OnErr result (self.new ≡ self.old) }
     {
-        let mailbox = mailbox_of(region)?;
+        let mailbox = match mailbox_of(region) {
+            Ok(mailbox) => mailbox,
+            Err(fault) => return Err(fault),
+        };
         self.abandon(region);
         self.begin(&mailbox);
         Ok(())

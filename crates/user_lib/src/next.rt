@@ -1,5 +1,5 @@
 //! The next entry, over any bytes that the target left.
-ghost use Rattle.std.specs.Prelude.{◌≡◌, ◌≤◌, ◌+◌, ◌*◌, ◌%◌, ◌^◌, ◌==◌, true, length, if◌then◌else◌, OnOk, OnErr, IfOk};
+ghost use Rattle.std.specs.Prelude.{◌≡◌, ◌≤◌, ◌+◌, ◌*◌, [], ◌∷◌, ◌++◌, ◌%◌, ◌^◌, ◌==◌, true, length, if◌then◌else◌, OnOk, OnErr, IfOk};
 ghost use Rattle.std.specs.List.{filter, list_any};
 ghost use Rattle.region_model.specs.Layout.{ring_start};
 ghost use Rattle.region_model.specs.MailboxReading.{IsMailbox};
@@ -87,24 +87,26 @@ fn set_unknown(region: &mut Region, at: u32)
     region.write_front(place as u64, &[flags]);
 }
 
+/// Appends an id, in the room that is there, where a job of it is neither responded nor given up.
+fn keep_open(ids: &mut Ids, id: u16, jobs: &Jobs)
+    requires { 1 ≤ ids.old.spare }
+    ensures items { ids.new.items ≡ (if list_any (is_open_job id) jobs.now.jobs then ids.old.items ++ id ∷ [] else ids.old.items) }
+    ensures room { ids.old.spare ≤ ids.new.spare + 1 }
+{
+    if jobs.is_open(id) {
+        ids.push(id);
+    }
+}
+
 /// Those ids of a task management entry whose jobs are neither responded nor given up.
-fn open_ids(
-    alloc: Global,
-    front: &[u8],
-    at: u32,
-    count: u32,
-    jobs: &Jobs,
-) -> Result<Ids, NoMemory>
+fn open_ids(alloc: Global, front: &[u8], at: u32, count: u32, jobs: &Jobs) -> Result<Ids, NoMemory>
     requires { ring_start + at + 32 + 2 * count ≤ length front.now }
     ensures { IfOk result (λ ids. ids.items ≡ filter (λ id. list_any (is_open_job id) jobs.now.jobs) (tmr_ids_in front.now (ring_start + at) 0 count)) }
 {
     let mut ids = Ids::new(alloc);
     ids.reserve(count as u64)?;
     for index in 0..count {
-        let id = read_tmr_id(front, at, index);
-        if jobs.is_open(id) {
-            ids.push(id);
-        }
+        keep_open(&mut ids, read_tmr_id(front, at, index), jobs);
     }
     Ok(ids)
 }

@@ -1,12 +1,23 @@
 //! The tail: it moves over the items that were passed, up to the first command's entry that has no answer.
-ghost use Rattle.std.specs.Prelude.{◌≡◌, ◌==◌, not};
+ghost use Rattle.std.specs.Prelude.{◌≡◌, ◌==◌, not, if◌then◌else◌};
 ghost use Rattle.std.specs.Bool.{OnTrue, OnFalse};
+ghost use Rattle.tcmu_types.specs.ByteFields.{le, put};
+ghost use Rattle.region_model.specs.Layout.{tail_place};
 ghost use Rattle.region_model.specs.UserSteps.{moving, region_published, user_publish_answer, user_published};
 ghost use Rattle.user_lib.specs.Moving.{MovesOne};
 
 use crate::books::{UserBooks, place_behind};
 use shm_region::Region;
 use tcmu_types::Publish;
+
+/// Writes the tail where items moved.
+fn write_tail(region: &mut Region, items: u64, tail: u32)
+    ensures { region.new ≡ (if items == 0 then region.old else record region.old { front = put region.old.front tail_place (le 4 tail) }) }
+{
+    if items != 0 {
+        region.set_tail(tail);
+    }
+}
 
 impl UserBooks {
     /// Whether a publish would move an item.
@@ -49,9 +60,7 @@ impl UserBooks {
         let published = self.published;
         while self.move_item() {}
         let items = (held - self.items.len()) as u64;
-        if items != 0 {
-            region.set_tail(self.tail);
-        }
+        write_tail(region, items, self.tail);
         Publish::Moved {
             items,
             commands: self.published - published,

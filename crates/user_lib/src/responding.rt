@@ -11,9 +11,9 @@ ghost use Rattle.user_lib.specs.Carrying.{carried_of};
 ghost use Rattle.user_lib.specs.Given.{first_parked};
 ghost use Rattle.user_lib.specs.Answering.{CanAnswer, GoesBack, TakesParked, answer_by, answered_with};
 
-use crate::{Job, JobData};
 use crate::books::UserBooks;
 use crate::jobs::ParkedJob;
+use crate::{Job, JobData};
 use entry_codec::write_response;
 use iovec_scatter::scatter;
 use shm_region::Region;

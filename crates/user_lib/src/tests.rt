@@ -116,7 +116,10 @@ fn a_head_that_is_no_place_is_a_fault(rt: HostRuntime) -> Result<(), Fail> {
 #[test]
 fn an_unknown_entry_is_marked_and_passed(rt: HostRuntime) -> Result<(), Fail> {
     let mut region = region_with(rt.alloc(), 0, &[(12, 8), (128, 15)])?;
-    assert_eq!(rt; seen_twice(rt.alloc(), &mut region), (Seen::Nothing, Seen::Nothing));
+    assert_eq!(rt;
+        seen_twice(rt.alloc(), &mut region),
+        (Seen::Nothing, Seen::Nothing)
+    );
     assert_eq!(rt; byte_at(&region, 135), Some(1));
     Ok(())
 }
@@ -135,7 +138,14 @@ const READ: [(u32, u32); 6] = [
 const CASES: [(&[(u32, u32)], u32, Seen, Seen); 14] = [
     // an iovec that begins before the data area
     (
-        &[(12, 128), (128, 0x81), (136, 1), (152, 240), (184, 8), (240, 0x28)],
+        &[
+            (12, 128),
+            (128, 0x81),
+            (136, 1),
+            (152, 240),
+            (184, 8),
+            (240, 0x28),
+        ],
         0,
         Seen::Entry(0, EntryFault::IovOutside(0)),
         Seen::Entry(0, EntryFault::IovOutside(0)),
@@ -165,8 +175,20 @@ const CASES: [(&[(u32, u32)], u32, Seen, Seen); 14] = [
     (
         &[(12, 120), (128, 0x81)],
         0,
-        Seen::Entry(0, EntryFault::PastEnd { len: 128, limit: 120 }),
-        Seen::Entry(0, EntryFault::PastEnd { len: 128, limit: 120 }),
+        Seen::Entry(
+            0,
+            EntryFault::PastEnd {
+                len: 128,
+                limit: 120,
+            },
+        ),
+        Seen::Entry(
+            0,
+            EntryFault::PastEnd {
+                len: 128,
+                limit: 120,
+            },
+        ),
     ),
     // a block named by two iovecs is copied
     (
@@ -204,7 +226,14 @@ const CASES: [(&[(u32, u32)], u32, Seen, Seen); 14] = [
     ),
     // an iovec of no byte is copied
     (
-        &[(12, 128), (128, 0x81), (136, 1), (152, 240), (176, 8192), (240, 0x28)],
+        &[
+            (12, 128),
+            (128, 0x81),
+            (136, 1),
+            (152, 240),
+            (176, 8192),
+            (240, 0x28),
+        ],
         1,
         Seen::Copied(0, 0, 0),
         Seen::Nothing,
@@ -288,12 +317,7 @@ fn good(alloc: Global) -> Reply
 }
 
 /// Takes the next job and answers it with GOOD and no bytes, after the area has shrunk to so many blocks.
-fn answer_next(
-    alloc: Global,
-    region: &mut Region,
-    user: &mut User,
-    blocks: u32,
-) -> Option<Respond>
+fn answer_next(alloc: Global, region: &mut Region, user: &mut User, blocks: u32) -> Option<Respond>
     requires ring { HasRing region.old user.old }
     requires pages { HasPages region.old user.old }
     requires few { user.old.dispatched ≤ 2 ^ 63 }
@@ -321,11 +345,8 @@ fn a_copied_job_is_answered_in_a_shrunk_area(rt: HostRuntime) -> Result<(), Fail
         user.detach(&mut region);
     }
     let after = region.front();
-    let changed = before
-        .iter()
-        .zip(after.iter())
-        .enumerate()
-        .all(|(at, (old, new))| old == new || (132 <= at && at < 240 && at != 134));
+    let changed = before.iter().zip(after.iter()).enumerate().all(|(at, (old, new))| old == new
+        || (132 <= at && at < 240 && at != 134));
     assert!(rt; changed);
     Ok(())
 }

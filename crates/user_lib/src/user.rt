@@ -48,9 +48,13 @@ impl User {
         ensures device { IfOk result (λ u. AttachesDevice region.now u) }
         ensures no_device { IfErr result (λ fault. StandsForNone region.now) }
     {
-        let books = UserBooks::attach(alloc, region)?;
-        let user = User { books };
-        Ok(user)
+        match UserBooks::attach(alloc, region) {
+            Ok(books) => {
+                let user = User { books };
+                Ok(user)
+            }
+            Err(fault) => Err(fault),
+        }
     }
 
     /// Takes the next entry, behind padding and entries of unknown opcodes, which are passed. At a fault the user side is as it was.

@@ -10,5 +10,5 @@ use borrow.Author.Tests.{tests}
 pub returns : goal.returns
 returns c =
     let found : c.position.result ≡ position (is_open c.args.id) c.args.given.now.items =
-        position_from_yields_List (is_open c.args.id) _ _ c.position.result c.position.ensures.ran (YieldsList-from_deque _ c.iter.ensures.rest) (λ x b q k. search (rules, tests)) in
+    position_from_yields_List (is_open c.args.id) _ _ c.position.result c.position.ensures.ran (YieldsList-from_deque _ c.iter.ensures.rest) (λ x b q k. search (rules, tests)) in
     place_told (is_open c.args.id) c.args.given.now.items c.position.result found

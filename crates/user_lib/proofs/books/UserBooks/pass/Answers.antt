@@ -15,7 +15,7 @@ invariant_of-self-2 c =
     let x : Recorded = record { kind = c.args.kind; len = c.args.len } in
     record {
       ring = a.ring;
-      place = subst (IsPlace c.self.inside.ring) (sym c.place_behind.ensures) (next_place c.self.inside.ring (c.self.inside.place + c.args.len) a.ring.least a.ring.pages (omega (arith, even, words)));
+      place = subst (IsPlace c.self.inside.ring) (sym c.place_behind-self-inside.ensures) (next_place c.self.inside.ring (c.self.inside.place + c.args.len) a.ring.least a.ring.pages (omega (arith, even, words)));
       tail = a.tail;
       items = subst (λ (xs : List Recorded). Every P xs) (sym (c.push_back_reserved.ensures.items ∙ ap (λ (xs : List Recorded). xs ++ x ∷ []) c.reserve.ensures.items)) (every-append P c.self.inside.items.items (x ∷ []) a.items (words, tt));
       offsets = a.offsets;

@@ -8,13 +8,6 @@ use Rattle.user_lib.proofs.Keys.{at_none}
 use Rattle.user_lib.proofs.Placings.{goes_back, placed_first}
 use Rattle.user_lib.proofs.books.UserBooks.place.Goals as goal
 
-pub overflow_add-self-placed : goal.overflow_add-self-placed
-overflow_add-self-placed c =
-    let a : c.self.inside.placed ≡ c.args.self.now.placed = ap (λ (x : UserState). x.placed) c.self.view_is in
-    let b : c.self.inside.dispatched ≡ c.args.self.now.dispatched = ap (λ (x : UserState). x.dispatched) c.self.view_is in
-    let d = c.requires.can in
-    omega (arith, a, b, d.entry, d.counted)
-
 pub answer-requires-clause-inside : goal.answer-requires-clause-inside
 answer-requires-clause-inside c =
     let o = subst (Every (λ x. x + 112 ≤ c.self.inside.ring)) c.in-Some.ensures.items c.self.invariant.offsets in

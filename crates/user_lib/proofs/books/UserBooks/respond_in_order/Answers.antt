@@ -19,7 +19,7 @@ place_front-requires c =
     let jobs : List GivenJob = c.park.new.self.jobs in
     let same = ap (λ (x : UserState). record x { jobs = jobs }) (sym c.self.view_is) in
     let kept : jobs ≡ with_first (is_open_job c.args.id) (with_parked c.args.parked) c.args.self.now.jobs =
-        c.park.ensures ∙ ap (λ (x : UserState). with_first (is_open_job c.args.id) (with_parked c.args.parked) x.jobs) c.self.view_is in
+    c.park.ensures ∙ ap (λ (x : UserState). with_first (is_open_job c.args.id) (with_parked c.args.parked) x.jobs) c.self.view_is in
     let few : length jobs ≤ length c.args.self.now.jobs = omega (arith, ap length kept, length-with_first (is_open_job c.args.id) (with_parked c.args.parked) c.args.self.now.jobs) in
     record {
       ring = subst (HasRing c.args.region.now) same c.requires.ring;
@@ -39,7 +39,7 @@ returns c =
     record {
       answer =
           c.answer_for.ensures
-          ∙ (ap (λ o. answer_by o c.args.id) (c.first_open.ensures ∙ ap (λ (x : UserState). option_map (λ g. g.id) (first_of is_unanswered x.jobs)) c.self.view_is)
+          ∙ (ap (λ o. answer_by o c.args.id) (c.first_open-first.ensures ∙ ap (λ (x : UserState). option_map (λ g. g.id) (first_of is_unanswered x.jobs)) c.self.view_is)
           ∙ answer_same c.args.id (first_of is_unanswered c.args.self.now.jobs));
       value =
           ap (λ n. placed_front (record { region = r; user = record c.args.self.now { jobs = with_first (is_open_job n) (with_parked p) c.args.self.now.jobs } }) (with_first (is_open_job n) (with_parked p) c.args.self.now.jobs)) (sym c.requires.id)

@@ -59,5 +59,5 @@ pub give-requires-clause-inside : goal.give-requires-clause-inside
 give-requires-clause-inside c =
     let low : length c.args.region.now.front ≡ data_start c.args.mailbox.now.cmdr_size = omega (arith, c.requires.ring, c.requires.size) in
     let k = inside_area c.args.region.now c.front.result.now c.area_len.result c.args.mailbox.now c.self.inside.place c.in-Ok-Cmd.len c.in-Ok-Cmd.id c.in-Ok-Cmd.iov_cnt c.in-Ok-Cmd.cdb c.front.ensures.front low c.area_len.ensures.end
-        (sym c.in-Ok-Cmd.ensures.value ∙ ap Ok c.in-Ok-Cmd.field-0-is) in
+    (sym c.in-Ok-Cmd.ensures.value ∙ ap Ok c.in-Ok-Cmd.field-0-is) in
     subst (λ n. lie_in_area c.args.region.now (iovs_in c.args.region.now.front (ring_start + n) 0 c.in-Ok-Cmd.iov_cnt) ≡ true) (ap (λ (x : UserState). x.place) c.self.view_is) k

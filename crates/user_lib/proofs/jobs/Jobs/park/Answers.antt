@@ -25,7 +25,7 @@ invariant_of-self c =
     subst (λ (gs : List Given). AreKeyed c.insert_reserved-key.new.self gs)
     (sym (with_first_set (is_open c.args.id) (with_key key) c.self.inside.given.items c.in-Some.place x (with_key key x) f c.index_mut.ensures.value refl))
     (keyed_parked c.self.inside.parked c.insert_reserved-key.new.self c.args.id key _ c.self.inside.given.items c.insert_reserved-key.ensures.updates c.insert_reserved-key.ensures.was_vacant
-      (any_at (is_open c.args.id) c.self.inside.given.items c.in-Some.place f) c.insert_reserved-key.ensures.len c.insert_reserved-key.ensures.capacity c.self.invariant)
+    (any_at (is_open c.args.id) c.self.inside.given.items c.in-Some.place f) c.insert_reserved-key.ensures.len c.insert_reserved-key.ensures.capacity c.self.invariant)
 
 pub unreachable-requires : goal.unreachable-requires
 unreachable-requires c =
@@ -40,5 +40,5 @@ returns c =
     let x = c.index_mut.result.now in
     ap (λ (gs : List Given). jobs_of c.insert_reserved-key.new.self gs) (with_first_set (is_open c.args.id) (with_key key) c.self.inside.given.items c.in-Some.place x (with_key key x) f c.index_mut.ensures.value refl)
     ∙ (jobs_parked c.self.inside.parked c.insert_reserved-key.new.self c.args.id key c.args.parked c.self.inside.given.items c.insert_reserved-key.ensures.updates c.self.invariant.apart
-      (free_key c.self.inside.parked key c.self.inside.given.items c.self.invariant.apart c.insert_reserved-key.ensures.was_vacant)
+    (free_key c.self.inside.parked key c.self.inside.given.items c.self.invariant.apart c.insert_reserved-key.ensures.was_vacant)
     ∙ ap (λ v. with_first (is_open_job c.args.id) (with_parked c.args.parked) v.jobs) c.self.view_is)

@@ -27,5 +27,5 @@ pub returns-in_default : goal.returns-in_default
 returns-in_default c =
     let none : list_any (is_open c.args.id) c.self.inside.given.items ≡ false = at_none _ _ c.open_place.result c.in_default.is c.open_place.ensures in
     let all : list_any (is_open_job c.args.id) c.args.self.now.jobs ≡ false =
-        sym (ap (λ v. list_any (is_open_job c.args.id) v.jobs) c.self.view_is) ∙ (any_open c.self.inside.parked c.args.id c.self.inside.given.items c.self.invariant.apart ∙ none) in
+    sym (ap (λ v. list_any (is_open_job c.args.id) v.jobs) c.self.view_is) ∙ (any_open c.self.inside.parked c.args.id c.self.inside.given.items c.self.invariant.apart ∙ none) in
     sym (without_first_none (is_open_job c.args.id) c.args.self.now.jobs all)
