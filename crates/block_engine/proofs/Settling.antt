@@ -1,22 +1,19 @@
 -- What each part of a request's meaning settles: it has an outcome; under a premise it has only one; and it leaves the medium behind a run
 -- of calls.
-use Rattle.std.proofs.Common.{◌∙◌, ◌≡◌, ◌⊎◌, inl, inr, ℕ, zero, suc, ◌+◌, ◌*◌, ◌%◌, ◌<◌, ◌≤◌, ◌==◌, min, Bool, true, false, List, [], ◌∷◌, length, take, drop, sym, ap, subst, refl, arith, Option, Some, None, IfSome, is_some, MatchOption, Result, Ok, Err, MatchResult, slice_index, nat_eq, nat_lt, not, if◌then◌else◌, ⊎_elim}
+use Rattle.std.proofs.Common.{◌∙◌, ◌≡◌, ◌⊎◌, inl, inr, ℕ, zero, ◌+◌, ◌*◌, ◌%◌, ◌<◌, ◌≤◌, ◌==◌, min, Bool, true, false, List, [], ◌∷◌, length, take, drop, sym, ap, subst, refl, arith, Option, Some, None, IfSome, is_some, MatchOption, Result, Ok, Err, MatchResult, nat_eq, nat_lt, not, if◌then◌else◌, ⊎_elim}
 use Rattle.std.specs.Bool.{MatchBool}
 use Rattle.std.specs.List.{list_all, list_any}
 use Rattle.std.proofs.lemmas.List.{length-take, length-drop, length-replicate}
 use Rattle.std.specs.Cmp.Lexicographic.{pointwise}
-use Rattle.std.proofs.lemmas.Bool.{cases_Bool, cases_lt, and_parts, or_parts, eqb-true}
-use Rattle.std.proofs.lemmas.Option.{slice_get_past}
+use Rattle.std.proofs.lemmas.Bool.{cases_Bool, and_parts, or_parts, eqb-true}
 use Rattle.tcmu_types.specs.Data.{SenseData, ReplyData}
 use Rattle.tcmu_types.specs.Rules.{IsReply}
-use Rattle.tcmu_types.proofs.Places.{same_list, get_from_index}
-use Rattle.tcmu_model.specs.MediumState.{Span, memory, file, Below, MediumState}
-use Rattle.scsi_model.specs.Medium.{span_of, lies_in, MatchesTold, Reads, Writes, Fills, Syncs, zeros, empty_span, memory_state}
+use Rattle.tcmu_model.specs.MediumState.{Span, memory, file, MediumState}
+use Rattle.scsi_model.specs.Medium.{span_of, lies_in, Reads, Writes, Fills, Syncs, zeros, empty_span, memory_state}
 use Rattle.scsi_model.specs.Runs.{read, write, fill, sync, IsRun, clean}
 use Rattle.scsi_model.specs.ReadsLost.{span_behind, span_looked_at, span_asked_for, overlap}
 use Rattle.scsi_model.proofs.Running.{run_none, run_then, runs_keep}
 use Rattle.scsi_model.proofs.Lossless.{runs_stay_lossless}
-use Rattle.scsi_model.proofs.Decided.{true_false}
 use Rattle.scsi_model.specs.Decoding.{decoded}
 use Rattle.scsi_model.specs.Scsi.{Outcome, Answers, Either, Check, check, first_failed, Checked, Calls, range_checks, write_checks, list_checks, good, refused, ReadsSome, ReadsBytes, WritesBytes, ComparesBytes, ComparesBlocks, Compared, UnmapsOne, Unmaps, UnmapsList, cut, extents_of, is_beyond, is_bad_list, ServesOp, fault_sense}
 use Rattle.scsi_model.specs.Senses.{unrecovered_read_error, write_error, parameter_list_length_error, logical_block_address_out_of_range, invalid_field_in_cdb, invalid_field_in_parameter_list, write_protected, miscompare_during_verify_operation}
@@ -27,6 +24,7 @@ use Rattle.scsi_model.specs.declared.op.CdbFault.{CdbFault}
 use Rattle.scsi_model.specs.declared.op.CdbFault.TheVariants as fault
 use Rattle.block_engine.specs.Determined.{IsTold, SomeReply, WholeReply, OneReply, StaysTold, ReadsNothingLost, OneReplyInMemory, StaysInMemory, OneReplyWithoutLoss, RequestRuns}
 use Rattle.block_engine.proofs.Deciding.{TellsFails, IsSure, reads_sure, writes_sure, fills_sure, syncs_sure, call_runs}
+use Rattle.block_engine.proofs.Told.{told_some, SeesRange, told_one}
 
 -- a run keeps the number of blocks, and the failing calls told
 blocks_after : (m a : MediumState) → IsRun m a → a.blocks ≡ m.blocks
@@ -195,48 +193,6 @@ calls_settle P n m C tells c run = record {
   run = λ r a x. run x.0 a x.1;
   fits = λ r a x. subst (Fits n) (sym x.2) (call_fits n write_error [] x.0 (omega arith) (omega arith));
 }
-
--- ==== bytes that are read
-
-abbrev numbers : ℕ → ℕ → List ℕ → List ℕ
-numbers at zero xs = []
-numbers at (suc n) xs = slice_index xs at ∷ numbers (suc at) n xs
-
-length_numbers : (at n : ℕ) (xs : List ℕ) → length (numbers at n xs) ≡ n
-length_numbers at zero xs = refl
-length_numbers at (suc n) xs = ap suc (length_numbers (suc at) n xs)
-
-numbers_at : (at n i : ℕ) (xs : List ℕ) → i < n → slice_index (numbers at n xs) i ≡ slice_index xs (at + i)
-numbers_at at zero i xs h = absurd (omega arith)
-numbers_at at (suc n) zero xs h = ap (slice_index xs) (omega arith)
-numbers_at at (suc n) (suc i) xs h = numbers_at (suc at) n i xs (omega arith) ∙ ap (slice_index xs) (omega arith)
-
-told_some : (b : Below) (at n : ℕ) → (out : List ℕ) × (length out ≡ n) × MatchesTold b at out
-told_some b at n = by b.bytes
-  where
-    by : (o : Option (List ℕ)) → (out : List ℕ) × (length out ≡ n) × IfSome o (λ bytes. (i : ℕ) → i < length out → lies_in b.lost (at + i) ≡ false → slice_index out i ≡ slice_index bytes (at + i))
-    by None = (numbers at n [], length_numbers at n [], tt)
-    by (Some xs) = (numbers at n xs, length_numbers at n xs, λ i h _. numbers_at at n i xs (rw (← length_numbers at n xs) h))
-
--- no byte of the range is lost
-abbrev SeesRange : MediumState → ℕ → ℕ → Type 0
-SeesRange m at n = (i : ℕ) → i < n → lies_in m.below.lost (at + i) ≡ false
-
--- the bytes that are read are determined, where none is lost
-told_one : (m : MediumState) (at n : ℕ) (out ys : List ℕ) → is_some m.below.bytes ≡ true → length out ≡ n → length ys ≡ n → SeesRange m at n
-    → MatchesTold m.below at out → MatchesTold m.below at ys → out ≡ ys
-told_one m at n out ys t l k sees x y = by m.below.bytes t x y
-  where
-    by : (o : Option (List ℕ)) → is_some o ≡ true
-        → IfSome o (λ bytes. (i : ℕ) → i < length out → lies_in m.below.lost (at + i) ≡ false → slice_index out i ≡ slice_index bytes (at + i))
-        → IfSome o (λ bytes. (i : ℕ) → i < length ys → lies_in m.below.lost (at + i) ≡ false → slice_index ys i ≡ slice_index bytes (at + i))
-        → out ≡ ys
-    by None t x y = true_false (sym t)
-    by (Some bytes) t x y =
-        same_list out ys (λ i. ⊎_elim
-        (λ (h : i < n). get_from_index out ys i i (rw l h) (rw k h) (x i (rw l h) (sees i h) ∙ sym (y i (rw k h) (sees i h))))
-        (λ (h : n ≤ i). slice_get_past out i (rw l h) ∙ sym (slice_get_past ys i (rw k h)))
-        (cases_lt i n))
 
 -- ==== READ, and COMPARE AND WRITE
 

@@ -72,7 +72,13 @@ fn serve<M: Medium>(
         Op::WriteSame { lba, count } => write_same(alloc, medium, lba, count, sent),
         Op::Unmap { length } => unmap(alloc, medium, length, sent),
         Op::CompareWrite { lba, count } => compare_write(alloc, medium, lba, count, sent),
-        _ => show(alloc, name, medium, op, in_len),
+        Op::TestUnitReady
+        | Op::RequestSense { .. }
+        | Op::Inquiry { .. }
+        | Op::ModeSense { .. }
+        | Op::Capacity10
+        | Op::Capacity16 { .. }
+        | Op::ReportLuns { .. } => show(alloc, name, medium, op, in_len),
     }
 }
 

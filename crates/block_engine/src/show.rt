@@ -61,6 +61,12 @@ pub fn show<M: Medium>(
             let data = report_luns(alloc, select)?;
             cut(alloc, data.as_slice(), limit, in_len)
         }
-        _ => Ok(done(alloc)),
+        Op::TestUnitReady
+        | Op::Read { .. }
+        | Op::Write { .. }
+        | Op::Sync { .. }
+        | Op::WriteSame { .. }
+        | Op::Unmap { .. }
+        | Op::CompareWrite { .. } => Ok(done(alloc)),
     }
 }

@@ -1,6 +1,6 @@
 -- Where a name stands among files in memory.
 use Rattle.std.proofs.Common.{◌≡◌, ◌∙◌, ℕ, zero, suc, ◌+◌, ◌%◌, ◌^◌, ◌≤◌, Bool, true, false, not, ◌&&◌, ◌||◌, nat_le, nat_eq, length, is_some, List, [], ◌∷◌, ◌++◌, Option, Some, None, IfSome, cond, refl, sym, ap, subst, arith, get_or, zero-add, if◌then◌else◌}
-use Rattle.std.specs.List.{position, position_from, slice_set, list_any}
+use Rattle.std.specs.List.{position, position_from, slice_set}
 use Rattle.std.specs.Str.{bytes_eq}
 use Rattle.std.proofs.lemmas.Iterator.Adapters.{position_from-zero}
 use Rattle.std.proofs.lemmas.Slice.Eq.{bytes_eq-Decides}
@@ -8,7 +8,7 @@ use Rattle.std.proofs.Math.Path.{fun_ext}
 use Rattle.std.proofs.lemmas.Bool.{and_parts, leb-true, eqb-true}
 use Rattle.tcmu_types.specs.Numbered.{is_listed, next_call}
 use Rattle.edge.specs.Stores.{FetchGives, store_of, is_medium_size, Content, Place, missing, out, at_home, can_open, with_place, given_back, FilesState}
-use Rattle.edge.specs.Memory.{StoreInMemory, NamedStore, FilesInMemory, files_state, after_add, content_of, place_of, place_in}
+use Rattle.edge.specs.Memory.{CallsInMemory, StoreInMemory, NamedStore, FilesInMemory, files_state, after_add, content_of, place_of, place_in}
 
 -- ==== tests of names
 
@@ -165,20 +165,17 @@ whole_blocks n e =
 fetchable : (listed : Bool) (p : Place) → listed ≡ false → can_open p ≡ true → (listed || not (can_open p)) ≡ false
 fetchable listed p e t = ap (λ b. b || not (can_open p)) e ∙ ap not t
 
-pub unlisted : (fails : List ℕ) (call fetches : ℕ) → call ≡ next_call fetches → false ≡ list_any (λ k. nat_eq k call) fails → is_listed fails fetches ≡ false
-unlisted fails call fetches c e = ap (λ (n : ℕ). list_any (λ k. nat_eq k n) fails) (sym c) ∙ sym e
-
 -- behind the fetch of a file that is at home
-pub fetched_state : (old : FilesInMemory) (fetches : ℕ) (files : List NamedStore) (name : List ℕ) (s : StoreInMemory) → fetches ≡ next_call old.fetches
+pub fetched_state : (old : FilesInMemory) (calls : CallsInMemory) (files : List NamedStore) (name : List ℕ) (s : StoreInMemory) → calls.calls ≡ next_call old.fetches → calls.fails ≡ old.fails
     → is_listed old.fails old.fetches ≡ false → can_open (place_in old.files name) ≡ true → place_in old.files name ≡ at_home (content_of s)
     → ((q : List ℕ) → place_in files q ≡ with_place name out (place_in old.files) q)
-    → FetchGives name (store_of (content_of s)) (Some (files_state old)) (Some (files_state (record old { files = files; fetches = fetches })))
-fetched_state old fetches files name s more unlisted can home places =
+    → FetchGives name (store_of (content_of s)) (Some (files_state old)) (Some (files_state (record { files = files; fails = calls.fails; fetches = calls.calls; faults = calls.faults })))
+fetched_state old calls files name s more kept unlisted can home places =
     let size = whole_blocks (length s.bytes) (ap can_open (sym home) ∙ can) in
     record {
       whole = size.0;
       some = size.1;
       most = size.2;
       told = (fetchable (is_listed old.fails old.fetches) (place_in old.files name) unlisted can, (content_of s, home, refl));
-      after = ap (λ (f : FilesState). Some f) (same_places _ _ places refl more);
+      after = ap (λ (f : FilesState). Some f) (same_places _ _ places kept more);
     }

@@ -1,6 +1,12 @@
--- What a source, a sink, a store and files in memory show.
+-- What numbered calls, a source, a sink, a store and files in memory show.
 use Rattle.std.specs.Prelude.{ℕ, List, [], ◌∷◌, bytes_eq, Option, Some, None, if◌then◌else◌}
 use Rattle.edge.specs.Stores.{Content, Place, missing, out, at_home, FilesState, with_place}
+
+-- the numbers of the calls that fail, the calls made, and the faults
+pub record CallsInMemory : Type 0 where
+  pub fails : List ℕ
+  pub calls : ℕ
+  pub faults : ℕ
 
 -- the bytes that are left, the numbers of the calls that fail, the calls made, and the faults
 pub record FromMemory : Type 0 where

@@ -4,6 +4,7 @@
 
 mod files;
 mod host;
+mod listed_calls;
 mod memory;
 mod memory_files;
 mod memory_store;
@@ -13,6 +14,7 @@ mod store;
 
 pub use files::{FetchOk, Files};
 pub use host::{HostFiles, HostStore};
+pub use listed_calls::ListedCalls;
 pub use memory::{MemSink, MemSource};
 pub use memory_files::MemFiles;
 pub use memory_store::MemStore;

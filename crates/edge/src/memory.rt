@@ -3,7 +3,7 @@ ghost use Rattle.std.specs.Prelude.{◌≡◌, ℕ, List, [], Option, Some, ◌+
 ghost use Rattle.tcmu_types.specs.Numbered.{HasCause, is_listed, next_call};
 ghost use Rattle.edge.specs.Outside.{Tells, Gave, Gained, GainedFront, CountsFailed};
 
-use crate::{Failed, Sink, Source};
+use crate::{Failed, ListedCalls, Sink, Source};
 use std::alloc::Global;
 use std::marker::Model;
 use tcmu_types::{Bytes, NoMemory, Serials};
@@ -13,9 +13,7 @@ use tcmu_types::{Bytes, NoMemory, Serials};
 pub struct MemSource {
     bytes: Bytes,
     at: usize,
-    fails: Serials,
-    calls: u64,
-    faults: u64,
+    calls: ListedCalls,
 }
 
 impl Model for MemSource {
@@ -24,7 +22,7 @@ impl Model for MemSource {
 
     ghost Value = { FromMemory };
 
-    ghost view = { λ s. record { left = drop s.at s.bytes.items; fails = s.fails.items; calls = s.calls; faults = s.faults } };
+    ghost view = { λ s. record { left = drop s.at s.bytes.items; fails = s.calls.fails; calls = s.calls.calls; faults = s.calls.faults } };
 
     ghost invariant = { λ s. s.at ≤ length s.bytes.items };
 }
@@ -37,9 +35,7 @@ impl MemSource {
         MemSource {
             bytes,
             at: 0,
-            fails,
-            calls: 0,
-            faults: 0,
+            calls: ListedCalls::new(fails),
         }
     }
 }
@@ -76,11 +72,7 @@ impl Source for MemSource {
         ensures exact { is_err result ≡ is_listed self.old.fails self.old.calls }
         ensures fails { self.new.fails ≡ self.old.fails }
     {
-        self.calls = self.calls.saturating_add(1);
-        if self.fails.contains(self.calls) {
-            self.faults = self.faults.saturating_add(1);
-            return Err(Failed);
-        }
+        self.calls.begin()?;
         let count = copy_front(&self.bytes.as_slice()[self.at..], into);
         self.at += count;
         Ok(count)
@@ -92,9 +84,7 @@ impl Source for MemSource {
 pub struct MemSink {
     bytes: Bytes,
     room: u64,
-    fails: Serials,
-    calls: u64,
-    faults: u64,
+    calls: ListedCalls,
 }
 
 impl Model for MemSink {
@@ -103,7 +93,7 @@ impl Model for MemSink {
 
     ghost Value = { ToMemory };
 
-    ghost view = { λ s. record { written = s.bytes.items; room = s.room; fails = s.fails.items; calls = s.calls; faults = s.faults } };
+    ghost view = { λ s. record { written = s.bytes.items; room = s.room; fails = s.calls.fails; calls = s.calls.calls; faults = s.calls.faults } };
 
     ghost invariant = { λ s. s.room ≤ s.bytes.spare };
 }
@@ -119,9 +109,7 @@ impl MemSink {
         Ok(MemSink {
             bytes,
             room,
-            fails,
-            calls: 0,
-            faults: 0,
+            calls: ListedCalls::new(fails),
         })
     }
 
@@ -136,7 +124,7 @@ impl MemSink {
     pub fn calls(&self) -> u64
         ensures { result ≡ self.now.calls }
     {
-        self.calls
+        self.calls.calls()
     }
 }
 
@@ -158,14 +146,9 @@ impl Sink for MemSink {
         ensures room { OnOk result (self.new.room + length piece.now ≡ self.old.room) }
         ensures room_kept { OnErr result (self.new.room ≡ self.old.room) }
     {
-        self.calls = self.calls.saturating_add(1);
-        if self.fails.contains(self.calls) {
-            self.faults = self.faults.saturating_add(1);
-            return Err(Failed);
-        }
+        self.calls.begin()?;
         if self.room < piece.len() as u64 {
-            self.faults = self.faults.saturating_add(1);
-            return Err(Failed);
+            return Err(self.calls.fault());
         }
         self.bytes.extend(piece);
         self.room -= piece.len() as u64;

@@ -9,7 +9,7 @@ ghost use Rattle.edge.specs.Stores.{missing, out, can_open, fetch_fails, one_mor
 ghost use Rattle.edge.specs.Memory.{files_state, after_add, content_at, content_of, place_of, place_in};
 
 use crate::files::has_medium_size;
-use crate::{Failed, FetchOk, Files, MemStore, Store};
+use crate::{Failed, FetchOk, Files, ListedCalls, MemStore, Store};
 use std::alloc::Global;
 use std::marker::Model;
 use tcmu_types::{Bytes, NoMemory, Serials};
@@ -33,9 +33,7 @@ impl Model for Named {
 #[derive(Debug, Drop)]
 pub struct MemFiles {
     files: Vec<Named>,
-    fails: Serials,
-    fetches: u64,
-    faults: u64,
+    fetches: ListedCalls,
 }
 
 impl Model for MemFiles {
@@ -43,7 +41,7 @@ impl Model for MemFiles {
 
     ghost Value = { FilesInMemory };
 
-    ghost view = { λ m. record { files = m.files.items; fails = m.fails.items; fetches = m.fetches; faults = m.faults } };
+    ghost view = { λ m. record { files = m.files.items; fails = m.fetches.fails; fetches = m.fetches.calls; faults = m.fetches.faults } };
 }
 
 /// Whether a medium can be made of a file.
@@ -125,9 +123,7 @@ impl MemFiles {
     {
         MemFiles {
             files: Vec::new(alloc),
-            fails,
-            fetches: 0,
-            faults: 0,
+            fetches: ListedCalls::new(fails),
         }
     }
 
@@ -169,14 +165,11 @@ impl Files for MemFiles {
         ensures cause { HasCause self.old.faults self.new.faults result }
         ensures count { CountsFailed self.old.faults (is_err result) self.new.faults }
     {
-        self.fetches = self.fetches.saturating_add(1);
-        if !self.fails.contains(self.fetches) {
-            if let Some(store) = take_out(&mut self.files, name) {
-                return Ok(FetchOk::File(store));
-            }
+        self.fetches.begin()?;
+        match take_out(&mut self.files, name) {
+            Some(store) => Ok(FetchOk::File(store)),
+            None => Err(self.fetches.fault()),
         }
-        self.faults = self.faults.saturating_add(1);
-        Err(Failed)
     }
 
     fn keep(&mut self, name: &[u8], file: MemStore) {

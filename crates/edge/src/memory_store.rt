@@ -4,7 +4,7 @@ ghost use Rattle.tcmu_types.specs.Numbered.{HasCause, is_listed, next_call};
 ghost use Rattle.edge.specs.Outside.{CountsFailed};
 ghost use Rattle.edge.specs.Stores.{Shows, Puts, Spoils};
 
-use crate::{Failed, Store};
+use crate::{Failed, ListedCalls, Store};
 use std::marker::Model;
 use tcmu_types::{Bytes, Serials, copy_out, overwrite};
 
@@ -12,10 +12,8 @@ use tcmu_types::{Bytes, Serials, copy_out, overwrite};
 #[derive(Debug, Drop)]
 pub struct MemStore {
     bytes: Vec<u8>,
-    fails: Serials,
-    calls: u64,
+    calls: ListedCalls,
     syncs: u64,
-    faults: u64,
 }
 
 impl Model for MemStore {
@@ -23,7 +21,7 @@ impl Model for MemStore {
 
     ghost Value = { StoreInMemory };
 
-    ghost view = { λ s. record { bytes = s.bytes.items; fails = s.fails.items; calls = s.calls; syncs = s.syncs; faults = s.faults } };
+    ghost view = { λ s. record { bytes = s.bytes.items; fails = s.calls.fails; calls = s.calls.calls; syncs = s.syncs; faults = s.calls.faults } };
 }
 
 impl MemStore {
@@ -33,10 +31,8 @@ impl MemStore {
     {
         MemStore {
             bytes: bytes.into_vec(),
-            fails,
-            calls: 0,
+            calls: ListedCalls::new(fails),
             syncs: 0,
-            faults: 0,
         }
     }
 
@@ -45,21 +41,6 @@ impl MemStore {
         ensures { result.now ≡ self.now.bytes }
     {
         &self.bytes
-    }
-
-    /// Counts a call, and fails if it is listed.
-    fn call(&mut self) -> Result<(), Failed>
-        ensures exact { is_err result ≡ is_listed self.old.fails self.old.calls }
-        ensures kept { self.new ≡ record self.old { calls = next_call self.old.calls; faults = self.new.faults } }
-        ensures cause { HasCause self.old.faults self.new.faults result }
-        ensures count { CountsFailed self.old.faults (is_err result) self.new.faults }
-    {
-        self.calls = self.calls.saturating_add(1);
-        if self.fails.contains(self.calls) {
-            self.faults = self.faults.saturating_add(1);
-            return Err(Failed);
-        }
-        Ok(())
     }
 }
 
@@ -89,7 +70,7 @@ impl Store for MemStore {
         ensures cause { HasCause self.old.faults self.new.faults result }
         ensures count { CountsFailed self.old.faults (is_err result) self.new.faults }
     {
-        self.call()?;
+        self.calls.begin()?;
         copy_out(&self.bytes, at as usize, into);
         Ok(())
     }
@@ -105,7 +86,7 @@ impl Store for MemStore {
         ensures cause { HasCause self.old.faults self.new.faults result }
         ensures count { CountsFailed self.old.faults (is_err result) self.new.faults }
     {
-        self.call()?;
+        self.calls.begin()?;
         overwrite(&mut self.bytes, at as usize, piece);
         Ok(())
     }
@@ -117,6 +98,6 @@ impl Store for MemStore {
         ensures count { CountsFailed self.old.faults (is_err result) self.new.faults }
     {
         self.syncs = self.syncs.saturating_add(1);
-        self.call()
+        self.calls.begin()
     }
 }

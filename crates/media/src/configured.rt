@@ -2,8 +2,7 @@
 ghost use Rattle.std.specs.Prelude.{◌≡◌, ◌+◌, ◌*◌, ◌≤◌, length};
 ghost use Rattle.media.specs.Configured.{configured};
 
-use crate::own_calls::OwnCalls;
-use edge::Failed;
+use edge::{Failed, ListedCalls};
 use handler_trait::Medium;
 use std::marker::Model;
 use tcmu_types::Serials;
@@ -15,7 +14,7 @@ use tcmu_types::Serials;
 pub struct Configured<M: Medium + Drop> {
     below: M,
     protected: bool,
-    own: OwnCalls,
+    own: ListedCalls,
 }
 
 impl<M: Medium + Drop> Model for Configured<M> {
@@ -23,7 +22,7 @@ impl<M: Medium + Drop> Model for Configured<M> {
 
     ghost Value = { ConfiguredData M };
 
-    ghost view = { λ m. record { protected = m.protected; fails = m.own.fails.items; calls = m.own.made; faults = m.own.faults; below = m.below } };
+    ghost view = { λ m. record { protected = m.protected; fails = m.own.fails; calls = m.own.calls; faults = m.own.faults; below = m.below } };
 }
 
 impl<M: Medium + Drop> Configured<M> {
@@ -36,7 +35,7 @@ impl<M: Medium + Drop> Configured<M> {
         Configured {
             below,
             protected,
-            own: OwnCalls::new(fails),
+            own: ListedCalls::new(fails),
         }
     }
 

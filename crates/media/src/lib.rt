@@ -5,7 +5,6 @@ mod configured;
 mod make;
 mod medium;
 mod memory;
-mod own_calls;
 
 pub use configured::Configured;
 pub use make::{MakeFault, make_medium};

@@ -17,9 +17,9 @@ use Rattle.text_model.specs.declared.faults.Why.TheVariants as why
 use Rattle.text_model.specs.Journals.{Journaled, IsLegalEach}
 use Rattle.tcmu_top.specs.declared.status.Status.{Status}
 use Rattle.tcmu_top.specs.declared.status.Status.TheVariants as status
-use Rattle.tcmu_top.specs.Calls.{TookFront, outside}
+use Rattle.tcmu_top.specs.Calls.{TookFront, outside, files_and_sink}
 use Rattle.tcmu_top.specs.Opened.{file_names, NoneFailed, AsTheyWere, KeptFiles, after_fetches, AreOpen, OpenFailed, KeepsEach}
-use Rattle.tcmu_top.specs.Top.{Replayed, ReplayedInPart, Outcome, Outcomes, TextWritten, CutShort, StoppedByMemory, NotOpened, too_long, ScenarioEnds, Ends}
+use Rattle.tcmu_top.specs.Top.{Replayed, ReplayedInPart, CameOf, RunKind, TextWritten, CutShort, StoppedByMemory, NotOpened, too_long, ScenarioEnds, Ends}
 use Rattle.tcmu_top.proofs.Fetching.{place_free, fetches_fails, own_files}
 use Rattle.tcmu_top.proofs.Keeping.{fetched_out}
 use Rattle.tcmu_top.proofs.GivenBack.{tell_files}
@@ -60,7 +60,7 @@ cut_short s files mid files' ds ends old new rules h count r k =
     let each : length ends ≡ length s.devices = count ∙ opened_count s.devices ds (open_as files s.devices ds h.opens) in
     record { opened = ds; opens = h.opens; ends = ends; count = each; replay = r; fetched = h.fetched.none; kept = kept_files files mid files' s.devices ds ends r.part.made rules.files h r.part.legal k }
 
-pub wanting_early : (OnTheWay : Outcome) (s : ScenarioData) (files files' : Option FilesState) (old : Option (List ℕ)) → AsTheyWere NoneFailed s.devices files files' → StoppedByMemory OnTheWay files files' s old old
+pub wanting_early : (OnTheWay : CameOf) (s : ScenarioData) (files files' : Option FilesState) (old : Option (List ℕ)) → AsTheyWere NoneFailed s.devices files files' → StoppedByMemory OnTheWay files files' s old old
 wanting_early OnTheWay s files files' old same = inl (record { nothing = refl; same = same })
 
 pub not_opened : (s : ScenarioData) (files files' : Option FilesState) (faults faults' : ℕ) (old : Option (List ℕ)) → OpenFailed s.devices files files' faults faults' → Rose faults faults' × NotOpened files files' s old old
@@ -87,7 +87,7 @@ bad_of status.BadWords = too_long
 bad_of status.OpenFault = too_long
 
 -- the source had more
-pub ends_too_long : (run : Outcomes) (left left' : Option (List ℕ)) (reads reads' read read' opened wrote : ℕ) (files : Option FilesState) (old : Option (List ℕ)) → IfSome left (λ bytes. 4194304 < length bytes)
+pub ends_too_long : (run : RunKind) (left left' : Option (List ℕ)) (reads reads' read read' opened wrote : ℕ) (files : Option FilesState) (old : Option (List ℕ)) → IfSome left (λ bytes. 4194304 < length bytes)
     → TookFront left left' reads reads' → read' ≡ read → Ends run (outside left reads read files opened old wrote) (outside left' reads' read' files opened old wrote) (status.BadScenario 0 why.TooLong)
 ends_too_long run left left' reads reads' read read' opened wrote files old h took calm =
     record {
@@ -106,22 +106,22 @@ ends_too_long run left left' reads reads' read read' opened wrote files old h to
 
 -- ==== the statuses of a scenario
 
-pub scenario_ok : (run : Outcomes) (s : ScenarioData) (files files' : Option FilesState) (opened opened' : ℕ) (old new : Option (List ℕ)) (wrote wrote' : ℕ) → opened' ≡ opened → wrote' ≡ wrote → run.whole files files' s old new
-    → ScenarioEnds run s files files' opened opened' old new wrote wrote' status.Ok
+pub scenario_ok : (run : RunKind) (s : ScenarioData) (files files' : Option FilesState) (opened opened' : ℕ) (old new : Option (List ℕ)) (wrote wrote' : ℕ) → opened' ≡ opened → wrote' ≡ wrote → run.whole files files' s old new
+    → ScenarioEnds run s (files_and_sink files opened old wrote) (files_and_sink files' opened' new wrote') status.Ok
 scenario_ok run s files files' opened opened' old new wrote wrote' calm still h =
     record { ok = λ e. h; write_fault = λ e. absurd (cc); no_memory = λ e. absurd (cc); open_fault = λ e. absurd (cc); reads = λ e. absurd (cc); scenario = λ line reason e. absurd (cc); words = λ e. absurd (cc); calm_files = λ ne. calm; calm_sink = λ ne. still }
 
-pub scenario_cut : (run : Outcomes) (s : ScenarioData) (files files' : Option FilesState) (opened opened' : ℕ) (old new : Option (List ℕ)) (wrote wrote' : ℕ) → opened' ≡ opened → Rose wrote wrote' → run.cut_short files files' s old new
-    → ScenarioEnds run s files files' opened opened' old new wrote wrote' status.WriteFault
+pub scenario_cut : (run : RunKind) (s : ScenarioData) (files files' : Option FilesState) (opened opened' : ℕ) (old new : Option (List ℕ)) (wrote wrote' : ℕ) → opened' ≡ opened → Rose wrote wrote' → run.cut_short files files' s old new
+    → ScenarioEnds run s (files_and_sink files opened old wrote) (files_and_sink files' opened' new wrote') status.WriteFault
 scenario_cut run s files files' opened opened' old new wrote wrote' calm rose h =
     record { ok = λ e. absurd (cc); write_fault = λ e. (rose, h); no_memory = λ e. absurd (cc); open_fault = λ e. absurd (cc); reads = λ e. absurd (cc); scenario = λ line reason e. absurd (cc); words = λ e. absurd (cc); calm_files = λ ne. calm; calm_sink = λ ne. absurd (ne refl) }
 
-pub scenario_wanting : (run : Outcomes) (s : ScenarioData) (files files' : Option FilesState) (opened opened' : ℕ) (old new : Option (List ℕ)) (wrote wrote' : ℕ) → opened' ≡ opened → wrote' ≡ wrote → StoppedByMemory run.stopped files files' s old new
-    → ScenarioEnds run s files files' opened opened' old new wrote wrote' status.NoMemory
+pub scenario_wanting : (run : RunKind) (s : ScenarioData) (files files' : Option FilesState) (opened opened' : ℕ) (old new : Option (List ℕ)) (wrote wrote' : ℕ) → opened' ≡ opened → wrote' ≡ wrote → StoppedByMemory run.stopped files files' s old new
+    → ScenarioEnds run s (files_and_sink files opened old wrote) (files_and_sink files' opened' new wrote') status.NoMemory
 scenario_wanting run s files files' opened opened' old new wrote wrote' calm still h =
     record { ok = λ e. absurd (cc); write_fault = λ e. absurd (cc); no_memory = λ e. h; open_fault = λ e. absurd (cc); reads = λ e. absurd (cc); scenario = λ line reason e. absurd (cc); words = λ e. absurd (cc); calm_files = λ ne. calm; calm_sink = λ ne. still }
 
-pub scenario_not_opened : (run : Outcomes) (s : ScenarioData) (files files' : Option FilesState) (opened opened' : ℕ) (old new : Option (List ℕ)) (wrote wrote' : ℕ) → wrote' ≡ wrote → Rose opened opened' × NotOpened files files' s old new
-    → ScenarioEnds run s files files' opened opened' old new wrote wrote' status.OpenFault
+pub scenario_not_opened : (run : RunKind) (s : ScenarioData) (files files' : Option FilesState) (opened opened' : ℕ) (old new : Option (List ℕ)) (wrote wrote' : ℕ) → wrote' ≡ wrote → Rose opened opened' × NotOpened files files' s old new
+    → ScenarioEnds run s (files_and_sink files opened old wrote) (files_and_sink files' opened' new wrote') status.OpenFault
 scenario_not_opened run s files files' opened opened' old new wrote wrote' still h =
     record { ok = λ e. absurd (cc); write_fault = λ e. absurd (cc); no_memory = λ e. absurd (cc); open_fault = λ e. h; reads = λ e. absurd (cc); scenario = λ line reason e. absurd (cc); words = λ e. absurd (cc); calm_files = λ ne. absurd (ne refl); calm_sink = λ ne. still }

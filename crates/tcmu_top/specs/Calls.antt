@@ -29,6 +29,16 @@ outside left reads source_faults files files_faults written sink_faults = record
   sink_faults = sink_faults;
 }
 
+-- the part of it that a replay may change: the files and what the sink has, each with its count of faults
+pub record FilesAndSink : Type 0 where
+  pub files : Option FilesState
+  pub files_faults : ℕ
+  pub written : Option (List ℕ)
+  pub sink_faults : ℕ
+
+abbrev pub files_and_sink : Option FilesState → ℕ → Option (List ℕ) → ℕ → FilesAndSink
+files_and_sink files files_faults written sink_faults = record { files = files; files_faults = files_faults; written = written; sink_faults = sink_faults }
+
 -- A front of what the source had left was taken, and nothing else: at most 4,194,304 bytes and one piece of 4,096 more. Each read but the
 -- last gave a byte at least, of the first 4,194,304. So it is over every source, also one that gives a byte a read: no read is made behind
 -- one that found the end, nor behind one that made the text too long.

@@ -21,7 +21,7 @@ use Rattle.text_model.specs.declared.faults.Why.TheVariants as why
 use Rattle.text_model.specs.Journals.{Journaled, IsLegalEach, journaled_text}
 use Rattle.tcmu_top.specs.Opened.{OpenEach, file_names, a_fetch_fails, KeptFiles, NoneFailed, NextFailed, AsTheyWere}
 use Rattle.tcmu_top.specs.Loads.{LoadEnds}
-use Rattle.tcmu_top.specs.Calls.{Outside, TookFront, Calm}
+use Rattle.tcmu_top.specs.Calls.{Outside, TookFront, Calm, FilesAndSink}
 use Rattle.tcmu_top.specs.Playing.{AllButLast}
 use Rattle.tcmu_top.specs.InPart.{ReplaysEachInPart}
 use Rattle.tcmu_top.specs.declared.words.Task.{Task}
@@ -61,14 +61,14 @@ pub record ReplayedInPart (R : HandlerRelation) (ls : List DeviceLineData) (open
 -- ==== a scenario
 
 -- what came of a scenario: by the files before and after, and what the sink had and has
-abbrev pub Outcome : Type 1
-Outcome = Option FilesState → Option FilesState → ScenarioData → Option (List ℕ) → Option (List ℕ) → Type 0
+abbrev pub CameOf : Type 1
+CameOf = Option FilesState → Option FilesState → ScenarioData → Option (List ℕ) → Option (List ℕ) → Type 0
 
 -- What may come of a scenario in one kind of run: all was done; or it was stopped on the way, as the sink failed, or as memory was wanting.
-pub record Outcomes : Type 1 where
-  pub whole : Outcome
-  pub cut_short : Outcome
-  pub stopped : Outcome
+pub record RunKind : Type 1 where
+  pub whole : CameOf
+  pub cut_short : CameOf
+  pub stopped : CameOf
 
 -- the text is that of a replay of a scenario, on its devices as they open over these files
 pub record IsTextOf (files : Option FilesState) (s : ScenarioData) (text : List ℕ) : Type 0 where
@@ -102,7 +102,7 @@ pub record NotBegun (files files' : Option FilesState) (s : ScenarioData) (old n
   pub same : AsTheyWere NoneFailed s.devices files files'
 
 -- want of memory stopped it, before it began or on the way
-abbrev pub StoppedByMemory : Outcome → Outcome
+abbrev pub StoppedByMemory : CameOf → CameOf
 StoppedByMemory OnTheWay files files' s old new = NotBegun files files' s old new ⊎ OnTheWay files files' s old new
 
 -- A file could not be fetched: its fetch is the last that was made, and the first that failed. Nothing was written, and each file is as
@@ -113,7 +113,7 @@ pub record NotOpened (files files' : Option FilesState) (s : ScenarioData) (old 
   pub same : AsTheyWere NextFailed s.devices files files'
 
 -- in a replay
-abbrev pub replay : Outcomes
+abbrev pub replay : RunKind
 replay = record { whole = TextWritten; cut_short = CutShort; stopped = CutShort }
 
 -- ==== what the source had
@@ -126,7 +126,7 @@ pub record HadScenario (left left' : Option (List ℕ)) (s : ScenarioData) : Typ
   pub reads : scenario_of bytes ≡ Ok s
 
 -- all that the source had is a scenario, of which this holds between two moments: by the files, and by what the sink has
-abbrev pub Had : Outcome → Outside → Outside → Type 0
+abbrev pub Had : CameOf → Outside → Outside → Type 0
 Had So before after = (s : ScenarioData) × HadScenario before.left after.left s × So before.files after.files s before.written after.written
 
 -- the fault of bytes that are more than a scenario has
@@ -160,7 +160,7 @@ abbrev pub NothingDone : Outside → Outside → Type 0
 NothingDone before after = Untouched before.files after.files before.written after.written
 
 -- How such a run ends, and what it wrote: by the outside before and after it, and the status.
-pub record Ends (run : Outcomes) (before after : Outside) (ended : Status) : Type 0 where
+pub record Ends (run : RunKind) (before after : Outside) (ended : Status) : Type 0 where
   -- all was done of the scenario that the source had
   pub ok : ended ≡ status.Ok → Had run.whole before after
   -- the source failed, and nothing was written
@@ -183,32 +183,32 @@ pub record Ends (run : Outcomes) (before after : Outside) (ended : Status) : Typ
   pub calm_sink : Calm status.WriteFault ended before.sink_faults after.sink_faults
 
 -- the same, where the scenario is at hand
-pub record ScenarioEnds (run : Outcomes) (s : ScenarioData) (files files' : Option FilesState) (opened opened' : ℕ) (old new : Option (List ℕ)) (wrote wrote' : ℕ) (ended : Status) : Type 0 where
-  pub ok : ended ≡ status.Ok → run.whole files files' s old new
-  pub write_fault : ended ≡ status.WriteFault → Rose wrote wrote' × run.cut_short files files' s old new
-  pub no_memory : ended ≡ status.NoMemory → StoppedByMemory run.stopped files files' s old new
-  pub open_fault : ended ≡ status.OpenFault → Rose opened opened' × NotOpened files files' s old new
+pub record ScenarioEnds (run : RunKind) (s : ScenarioData) (before after : FilesAndSink) (ended : Status) : Type 0 where
+  pub ok : ended ≡ status.Ok → run.whole before.files after.files s before.written after.written
+  pub write_fault : ended ≡ status.WriteFault → Rose before.sink_faults after.sink_faults × run.cut_short before.files after.files s before.written after.written
+  pub no_memory : ended ≡ status.NoMemory → StoppedByMemory run.stopped before.files after.files s before.written after.written
+  pub open_fault : ended ≡ status.OpenFault → Rose before.files_faults after.files_faults × NotOpened before.files after.files s before.written after.written
   pub reads : ended ≢ status.ReadFault
   pub scenario : (line : ℕ) (reason : Why) → ended ≢ status.BadScenario line reason
   pub words : ended ≢ status.BadWords
-  pub calm_files : Calm status.OpenFault ended opened opened'
-  pub calm_sink : Calm status.WriteFault ended wrote wrote'
+  pub calm_files : Calm status.OpenFault ended before.files_faults after.files_faults
+  pub calm_sink : Calm status.WriteFault ended before.sink_faults after.sink_faults
 
 -- the bytes are a scenario of which this holds
 abbrev pub Spells : List ℕ → (ScenarioData → Type 0) → Type 0
 Spells bytes So = (s : ScenarioData) × (scenario_of bytes ≡ Ok s) × So s
 
 -- the same, where the bytes are at hand
-pub record BytesEnd (run : Outcomes) (bytes : List ℕ) (files files' : Option FilesState) (opened opened' : ℕ) (old new : Option (List ℕ)) (wrote wrote' : ℕ) (ended : Status) : Type 0 where
-  pub ok : ended ≡ status.Ok → Spells bytes (λ s. run.whole files files' s old new)
-  pub write_fault : ended ≡ status.WriteFault → Rose wrote wrote' × Spells bytes (λ s. run.cut_short files files' s old new)
-  pub no_memory : ended ≡ status.NoMemory → Untouched files files' old new ⊎ Spells bytes (λ s. StoppedByMemory run.stopped files files' s old new)
-  pub bad_scenario : (line : ℕ) (reason : Why) → ended ≡ status.BadScenario line reason → (scenario_of bytes ≡ Err (record { line = line; why = reason })) × Untouched files files' old new
-  pub open_fault : ended ≡ status.OpenFault → Rose opened opened' × Spells bytes (λ s. NotOpened files files' s old new)
+pub record BytesEnd (run : RunKind) (bytes : List ℕ) (before after : FilesAndSink) (ended : Status) : Type 0 where
+  pub ok : ended ≡ status.Ok → Spells bytes (λ s. run.whole before.files after.files s before.written after.written)
+  pub write_fault : ended ≡ status.WriteFault → Rose before.sink_faults after.sink_faults × Spells bytes (λ s. run.cut_short before.files after.files s before.written after.written)
+  pub no_memory : ended ≡ status.NoMemory → Untouched before.files after.files before.written after.written ⊎ Spells bytes (λ s. StoppedByMemory run.stopped before.files after.files s before.written after.written)
+  pub bad_scenario : (line : ℕ) (reason : Why) → ended ≡ status.BadScenario line reason → (scenario_of bytes ≡ Err (record { line = line; why = reason })) × Untouched before.files after.files before.written after.written
+  pub open_fault : ended ≡ status.OpenFault → Rose before.files_faults after.files_faults × Spells bytes (λ s. NotOpened before.files after.files s before.written after.written)
   pub words : ended ≢ status.BadWords
   pub reads : ended ≢ status.ReadFault
-  pub calm_files : Calm status.OpenFault ended opened opened'
-  pub calm_sink : Calm status.WriteFault ended wrote wrote'
+  pub calm_files : Calm status.OpenFault ended before.files_faults after.files_faults
+  pub calm_sink : Calm status.WriteFault ended before.sink_faults after.sink_faults
 
 -- ==== the words
 

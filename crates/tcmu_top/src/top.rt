@@ -7,7 +7,7 @@ ghost use Rattle.text_model.specs.ScenarioRules.{IsScenario, IsServed};
 ghost use Rattle.text_laws.specs.Replays.{OpenAs};
 ghost use Rattle.tcmu_top.specs.Opened.{AreOpen};
 ghost use Rattle.tcmu_top.specs.Playing.{states_of};
-ghost use Rattle.tcmu_top.specs.Calls.{outside};
+ghost use Rattle.tcmu_top.specs.Calls.{outside, files_and_sink};
 ghost use Rattle.tcmu_top.specs.Words.{task_of};
 ghost use Rattle.tcmu_top.specs.Top.{replay, ScenarioEnds, BytesEnd, Ends, TaskEnds, fault_text, Reported};
 
@@ -39,7 +39,10 @@ fn replay_opened<K: Sink, F: Files>(
     requires served { IsServed scenario.now }
     requires opened { OpenAs scenario.now.devices (states_of (λ d. d) set) }
     ensures ends { (entry : Option FilesState) (before after : ℕ) → after ≡ before → AreOpen entry (F.state files.old) scenario.now.devices (states_of (λ d. d) set)
-        → ScenarioEnds replay scenario.now entry (F.state files.new) before after (K.written out.old) (K.written out.new) (K.faults out.old) (K.faults out.new) result }
+        → ScenarioEnds replay scenario.now
+            (files_and_sink entry before (K.written out.old) (K.faults out.old))
+            (files_and_sink (F.state files.new) after (K.written out.new) (K.faults out.new))
+            result }
     ensures same { F.faults files.new ≡ F.faults files.old }
     ensures wrote { K.faults out.old ≤ K.faults out.new }
 {
@@ -61,7 +64,10 @@ fn replay_scenario<K: Sink, F: Files>(
 ) -> Status
     requires limits { IsScenario scenario.now }
     requires served { IsServed scenario.now }
-    ensures ends { ScenarioEnds replay scenario.now (F.state files.old) (F.state files.new) (F.faults files.old) (F.faults files.new) (K.written out.old) (K.written out.new) (K.faults out.old) (K.faults out.new) result }
+    ensures ends { ScenarioEnds replay scenario.now
+        (files_and_sink (F.state files.old) (F.faults files.old) (K.written out.old) (K.faults out.old))
+        (files_and_sink (F.state files.new) (F.faults files.new) (K.written out.new) (K.faults out.new))
+        result }
     ensures opened { F.faults files.old ≤ F.faults files.new }
     ensures wrote { K.faults out.old ≤ K.faults out.new }
 {
@@ -80,7 +86,10 @@ fn replay_bytes<K: Sink, F: Files>(
     out: &mut K,
     files: &mut F,
 ) -> Status
-    ensures ends { BytesEnd replay bytes.now (F.state files.old) (F.state files.new) (F.faults files.old) (F.faults files.new) (K.written out.old) (K.written out.new) (K.faults out.old) (K.faults out.new) result }
+    ensures ends { BytesEnd replay bytes.now
+        (files_and_sink (F.state files.old) (F.faults files.old) (K.written out.old) (K.faults out.old))
+        (files_and_sink (F.state files.new) (F.faults files.new) (K.written out.new) (K.faults out.new))
+        result }
     ensures opened { F.faults files.old ≤ F.faults files.new }
     ensures wrote { K.faults out.old ≤ K.faults out.new }
 {

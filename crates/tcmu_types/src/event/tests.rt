@@ -2,7 +2,6 @@
 use super::*;
 use crate::{Bytes, Cdb, Dispatch, Handle, Name, Reply, ScsiStatus};
 use std::fmt::Debug;
-use std::process::Abort;
 use std::test::Fail;
 
 fn look_alike<T: Debug>(alloc: Global, one: &T, other: &T) -> Result<bool, Fail> {
@@ -31,37 +30,62 @@ fn reply(alloc: Global) -> Result<Reply, Fail> {
     })
 }
 
-fn check_event(rt: &impl Abort, alloc: Global, event: Event) -> Result<(), Fail> {
-    let copy = event.try_clone(alloc)?;
-    assert!(rt; look_alike(alloc, &event, &copy)?);
-    Ok(())
+fn note(alloc: Global) -> Result<Event, Fail> {
+    let serials = serials(alloc)?;
+    Ok(Event::Tmr { kind: 1, serials })
 }
 
-fn check_answer(rt: &impl Abort, alloc: Global, answer: Answer) -> Result<(), Fail> {
+fn done(alloc: Global) -> Result<Answer, Fail> {
+    Ok(Answer::Handle(Handle::Done(reply(alloc)?)))
+}
+
+fn noted(alloc: Global) -> Result<Answer, Fail> {
+    let serials = serials(alloc)?;
+    Ok(Answer::Dispatch(Dispatch::Note { kind: 5, serials }))
+}
+
+/// Whether a copy of the event shows what the event shows.
+fn event_copied(alloc: Global, event: &Event) -> Result<bool, Fail> {
+    let copy = event.try_clone(alloc)?;
+    look_alike(alloc, event, &copy)
+}
+
+/// Whether a copy of the answer shows what the answer shows.
+fn answer_copied(alloc: Global, answer: &Answer) -> Result<bool, Fail> {
     let copy = answer.try_clone(alloc)?;
-    assert!(rt; look_alike(alloc, &answer, &copy)?);
-    Ok(())
+    look_alike(alloc, answer, &copy)
+}
+
+fn submit_copied(alloc: Global) -> Result<bool, Fail> {
+    event_copied(alloc, &submit(alloc)?)
+}
+
+fn note_copied(alloc: Global) -> Result<bool, Fail> {
+    event_copied(alloc, &note(alloc)?)
+}
+
+fn done_copied(alloc: Global) -> Result<bool, Fail> {
+    answer_copied(alloc, &done(alloc)?)
+}
+
+fn noted_copied(alloc: Global) -> Result<bool, Fail> {
+    answer_copied(alloc, &noted(alloc)?)
 }
 
 #[test]
 fn events_are_copied(rt: HostRuntime) -> Result<(), Fail> {
     let alloc = rt.alloc();
-    let serials = serials(alloc)?;
-    check_event(&rt, alloc, submit(alloc)?)?;
-    check_event(&rt, alloc, Event::Tmr { kind: 1, serials })?;
-    check_event(&rt, alloc, Event::Tick(9))
+    assert!(rt; submit_copied(alloc)?);
+    assert!(rt; note_copied(alloc)?);
+    assert!(rt; event_copied(alloc, &Event::Tick(9))?);
+    Ok(())
 }
 
 #[test]
 fn answers_are_copied(rt: HostRuntime) -> Result<(), Fail> {
     let alloc = rt.alloc();
-    let serials = serials(alloc)?;
-    let reply = reply(alloc)?;
-    check_answer(&rt, alloc, Answer::Handle(Handle::Done(reply)))?;
-    check_answer(
-        &rt,
-        alloc,
-        Answer::Dispatch(Dispatch::Note { kind: 5, serials }),
-    )?;
-    check_answer(&rt, alloc, Answer::Lost(4))
+    assert!(rt; done_copied(alloc)?);
+    assert!(rt; noted_copied(alloc)?);
+    assert!(rt; answer_copied(alloc, &Answer::Lost(4))?);
+    Ok(())
 }

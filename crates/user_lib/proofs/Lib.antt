@@ -1,0 +1,12 @@
+pub mod Keys
+pub mod Entries
+pub mod Going
+pub mod Placings
+pub mod Moved
+pub mod Kept
+pub mod Backs
+pub mod Opens
+pub mod Frames
+pub mod OnDevice
+pub mod Stays
+pub mod Reattached

@@ -1,0 +1,11 @@
+pub mod Given
+pub mod Carrying
+pub mod Books
+pub mod Views
+pub mod Told
+pub mod Answering
+pub mod Moving
+pub mod Users
+pub mod Frames
+pub mod OnDevice
+pub mod Stays
