@@ -9,7 +9,7 @@ use Rattle.tcmu_types.specs.declared.answer.Handle.TheVariants as handle
 use Rattle.tcmu_types.specs.declared.answer.Tmr.{Tmr}
 use Rattle.tcmu_types.specs.declared.answer.Tmr.TheVariants as tmr
 use Rattle.tcmu_model.specs.Device.{DeviceState, Device}
-use Rattle.tcmu_model.specs.Events.{after_submit, with_command, with_delayed, after_dispatch, after_enter, after_respond, after_publish, after_handle, after_clean, after_tick, after_block, after_reset, after_restart, after_tmr}
+use Rattle.tcmu_model.specs.Events.{after_submit, with_command, with_delayed, after_dispatch, after_enter, after_respond, after_publish, after_handle, after_clean, after_tick, after_block, after_reset, after_restart, with_note, after_tmr}
 use Rattle.tcmu_model.specs.Steps.{HandlerRelation, Makes, most_accepted}
 use Rattle.tcmu_model.proofs.Unnamed.{enter_kept, dispatch_kept, respond_kept, publish_kept, reset_kept, tmr_kept}
 use Rattle.tcmu_model.proofs.KeptByEvents.{KeptByEvents, made}
@@ -48,7 +48,7 @@ same : (d d' : DeviceState) → d'.accepted ≡ d.accepted → AcceptsUpTo 0 d d
 same d d' e = record { least = omega (arith, e); most = omega (arith, e) }
 
 accepts_kept : (d : DeviceState) → KeptByEvents (λ e a after. AcceptsUpTo (most_accepted e) d after) d
-unfolding after_handle after_clean after_tick after_block after_restart
+unfolding after_handle after_clean after_tick after_block after_restart with_command with_note
 accepts_kept d =
     record {
       submit = λ c a i q. after_submit_accepts d c a;

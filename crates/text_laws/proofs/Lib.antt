@@ -34,6 +34,7 @@ pub mod SameEntries
 pub mod OneReading
 pub mod Matching
 pub mod Settled
+pub mod Knowing
 pub mod InMemory
 pub mod Dumped
 pub mod Pictured

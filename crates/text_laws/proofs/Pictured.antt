@@ -8,9 +8,10 @@ use Rattle.tcmu_types.specs.Rules.{IsCommand, IsSettings, takes_payload, payload
 use Rattle.tcmu_types.proofs.Places.{get_drop}
 use Rattle.tcmu_model.specs.BlockLists.{Taken, list_of, held_by}
 use Rattle.tcmu_model.specs.Device.{Unfinished, DeviceState, has_serial}
-use Rattle.region_model.specs.Layout.{data_start, response_bytes}
-use Rattle.tcmu_types.specs.ByteFields.{le, put}
-use Rattle.tcmu_model.specs.Lengths.{blocks_of, block_size}
+use Rattle.tcmu_types.specs.declared.iovec.Iov.{Iov}
+use Rattle.region_model.specs.Layout.{iovs_bytes, cdb_place, command_length, command_head, ring_start, data_start, command_bytes, response_bytes}
+use Rattle.tcmu_types.specs.ByteFields.{le, put, zeros, padded}
+use Rattle.tcmu_model.specs.Lengths.{round_up, blocks_of, block_size}
 use Rattle.tcmu_types.specs.Lists.{first_of, Every}
 use Rattle.tcmu_model.specs.Owned.{ListsSound}
 use Rattle.region_model.specs.Picture.{place_of, payload_of, command_iovs, request_of, told_length, with_reply, with_answer, entry_of, answer_at, item_bytes, ids_named, shown_item, shown_items, shown_command, shown_mailbox, picture_of}
@@ -21,12 +22,12 @@ use Rattle.tcmu_model.proofs.DrainEnds.{rows_commands}
 use Rattle.tcmu_types.proofs.Everies.{every-front, every-back, every-weaker, every-mapped}
 use Rattle.tcmu_model.proofs.Indexed.{item_at}
 use Rattle.tcmu_types.proofs.Rises.{rise_within}
-use Rattle.tcmu_types.proofs.ByteFields.{length-le, lengths as writes, length-zeros, length-padded}
+use Rattle.tcmu_types.proofs.ByteFields.{length-le, length-zeros}
 use Rattle.text_laws.specs.Dumps.{IsItemValue, IsHeldValue, PicturesWhole, IsDumpValue}
-use Rattle.region_model.proofs.HeaderLengths.{length-command_head, length-entry_header}
+use Rattle.region_model.proofs.HeaderLengths.{length-command_head}
 use Rattle.text_laws.specs.Values.{IsNumber}
 use Rattle.text_laws.proofs.Devices.{blocks_few}
-use Rattle.region_model.proofs.PartLengths.{length-iovs, length-mailbox, length-note, length-pad, length-payload, length-request, length-response}
+use Rattle.region_model.proofs.PartLengths.{length-iovs, length-iovs_bytes, length-mailbox, length-note, length-pad, length-payload, length-response}
 
 -- ---- how many bytes are written
 
@@ -36,6 +37,21 @@ put_most xs at bytes = simp (length-append, length-take, length-drop) (omega ari
 
 mailbox_few : (d : DeviceState) → IsNumber (length (shown_mailbox d))
 mailbox_few d = let l : length (shown_mailbox d) ≡ 128 = length-mailbox _ in omega arith
+
+padded_most : (n : ℕ) (xs : List ℕ) → length (padded n xs) ≤ n + length xs
+unfolding padded
+padded_most n xs = omega (arith, length-append xs (zeros (n - length xs)), length-zeros (n - length xs))
+
+-- of a command, however many iovecs it names
+command_most : (at id slots : ℕ) (iovs : List Iov) (cdb : List ℕ) → length (command_bytes at id slots iovs cdb) ≤ cdb_place slots + 48 + 16 * length iovs + round_up (length cdb) + length cdb
+unfolding command_bytes
+command_most at id slots iovs cdb =
+    let h : List ℕ = command_head (command_length slots (length cdb)) id (length iovs) (ring_start + at + cdb_place slots) in
+    let front : length (h ++ iovs_bytes iovs) ≡ length h + length (iovs_bytes iovs) = length-append h (iovs_bytes iovs) in
+    let first : length h ≡ 48 = length-command_head (command_length slots (length cdb)) id (length iovs) (ring_start + at + cdb_place slots) in
+    let a = padded_most (cdb_place slots) (h ++ iovs_bytes iovs) in
+    let b = padded_most (round_up (length cdb)) cdb in
+    omega (arith, front, first, a, b, length-iovs_bytes iovs, length-append (padded (cdb_place slots) (h ++ iovs_bytes iovs)) (padded (round_up (length cdb)) cdb))
 
 -- an entry with an answer, or without one
 reply_most : (read_len : Bool) (id : ℕ) (entry cdb : List ℕ) (o : Option ReplyData) → length (with_reply read_len id entry cdb o) ≤ 4 * length entry + 200
@@ -66,9 +82,9 @@ item_few d lists i n (Cmd s c) sound owned behind found is =
     let iovs = command_iovs d.settings (list_of lists s) c in
     let few = length-iovs (data_start d.settings.ring) (block_size d.settings.pages) (list_of lists s) (payload_length c) in
     let slots = owned.spans i n s c behind found in
-    let entry = length-request (place_of d.ring i) 0 (blocks_of d.settings.pages c) iovs c.cdb (omega (arith, few, slots)) in
+    let entry = command_most (place_of d.ring i) 0 (blocks_of d.settings.pages c) iovs c.cdb in
     let whole = entry_most d 0 (request_of d.settings (list_of lists s) (place_of d.ring i) 0 c) (answer_at d i) in
-    omega (arith, entry, whole, is.kind.0, is.whole, sound.settings.ring_high)
+    omega (arith, few, slots, entry, whole, is.kind.0, is.whole, sound.settings.ring_high)
 item_few d lists i n (Tmr kind ss) sound owned behind found is =
     let ids : List ℕ = replicate (length ss) 0 in
     let many : length ids ≡ length ss = length-replicate {A = ℕ} (length ss) 0 in

@@ -1,8 +1,7 @@
 -- The text of a journal is a scenario, and the text of a replay of that scenario.
-use Rattle.std.proofs.Common.{◌≡◌, ⊎_elim, ℕ, suc, ◌+◌, ◌<◌, ◌≤◌, false, IsTrue, List, [], ◌∷◌, ◌++◌, length, All, slice_set, None, Ok, refl, sym, ap, subst, ◌∙◌, arith}
+use Rattle.std.proofs.Common.{◌≡◌, ⊎_elim, ℕ, suc, ◌<◌, ◌≤◌, false, IsTrue, List, [], ◌∷◌, ◌++◌, length, All, Ok, refl, sym, ap, subst, ◌∙◌, arith}
 use Rattle.std.specs.List.{flat_map, filter}
 use Rattle.std.proofs.lemmas.List.Elements.{All-head, All-tail, All-nil, All-cons}
-use Rattle.std.proofs.lemmas.List.{length-set}
 use Rattle.tcmu_types.specs.Naming.{is_name}
 use Rattle.tcmu_types.specs.Rules.{IsCommand}
 use Rattle.tcmu_types.specs.Data.{CommandData, DoneData, SettingsData}
@@ -13,24 +12,23 @@ use Rattle.tcmu_types.specs.declared.answer.Submit.TheVariants as submit
 use Rattle.tcmu_model.specs.MediumState.{MediumState}
 use Rattle.tcmu_model.specs.Device.{Device, opening}
 use Rattle.tcmu_model.specs.Steps.{HandlerRelation, Makes, Submits, Run}
-use Rattle.tcmu_model.specs.Drain.{drain_event}
 use Rattle.text_model.specs.ScenarioData.{DeviceLineData, LineData, ScenarioData}
 use Rattle.text_model.specs.ScenarioRules.{IsLine}
 use Rattle.text_model.specs.Scenario.{is_dump, scenario_limits, scenario_within, scenario_of}
 use Rattle.text_model.specs.Printed.{entries_in, printed_text, Picture}
-use Rattle.text_model.specs.Replay.{Plays, made, lines_of}
-use Rattle.text_model.specs.Several.{DrainsEach, ReplaysEach, ends_text, IsReplayOf}
+use Rattle.text_model.specs.Replay.{made, lines_of}
+use Rattle.text_model.specs.Several.{ends_text, IsReplayOf}
 use Rattle.text_model.specs.Text.{device_text}
 use Rattle.tcmu_model.specs.Journals.{Has, WasAccepted}
 use Rattle.tcmu_types.specs.Lists.{Every}
 use Rattle.tcmu_types.proofs.Everies.{every-weaker, every-mapped, every_at}
 use Rattle.tcmu_model.proofs.Journals.{run_senders, HasSender}
 use Rattle.tcmu_model.proofs.SoundEvents.{sound_opening}
-use Rattle.text_model.proofs.JournalSteps.{made_again, first_step, same_items}
+use Rattle.text_model.proofs.JournalSteps.{made_again}
 use Rattle.text_model.proofs.PrintedJournals.{undumped, text_undumped, legal_undumped, legal_entries, entries_printed, DumpNothing, replays_entries, replays_undumped, replays_alone}
 use Rattle.text_model.proofs.ScenarioLaws.{scenario_is}
 use Rattle.text_model.proofs.ServedLaws.{scenario_served}
-use Rattle.text_model.specs.Journals.{Journaled, is_of, RunLogs, IsLegalEach, entries_of}
+use Rattle.text_model.specs.Journals.{Journaled, is_of, RunLogs, entries_of}
 use Rattle.tcmu_types.proofs.Places.{get_within}
 use Rattle.text_laws.specs.Carried.{IsCarriedWhat}
 use Rattle.text_laws.specs.Devices.{IsSpelledDevice}

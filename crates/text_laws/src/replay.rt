@@ -2,7 +2,7 @@
 ghost use Rattle.text_laws.specs.Carried.{CarriedRead, SpelledRead};
 ghost use Rattle.text_laws.specs.Readings.{HasOneReading, HasOneReadingOfAny};
 ghost use Rattle.text_laws.specs.Replays.{IsReadBack, IsReplayedAgain, IsScenarioAgain};
-ghost use Rattle.text_laws.specs.Settled.{OneText};
+ghost use Rattle.text_laws.specs.Settled.{OneKnownText, KnownWithoutLoss};
 
 use handler_trait::Handler;
 
@@ -40,7 +40,9 @@ pub fn reading_law<H: Handler, K: Handler>()
     ensures any { HasOneReadingOfAny H.relation K.relation }
 {}
 
-/// A scenario whose devices are over media in memory, or in files whose stores list no failing call, has one text.
+/// Over media that tell their bytes and their failing calls the same lines have one text, as long as no request of one of their replays reads
+/// or compares what is lost. Over media in memory, and in files whose stores list no failing call, none ever does.
 pub fn one_text_law()
-    ensures { OneText }
+    ensures known { OneKnownText }
+    ensures lossless { KnownWithoutLoss }
 {}
