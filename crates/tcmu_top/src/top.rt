@@ -40,9 +40,9 @@ fn replay_opened<K: Sink, F: Files>(
     requires opened { OpenAs scenario.now.devices (states_of (λ d. d) set) }
     ensures ends { (entry : Option FilesState) (before after : ℕ) → after ≡ before → AreOpen entry (F.state files.old) scenario.now.devices (states_of (λ d. d) set)
         → ScenarioEnds replay scenario.now
-            (files_and_sink entry before (K.written out.old) (K.faults out.old))
-            (files_and_sink (F.state files.new) after (K.written out.new) (K.faults out.new))
-            result }
+        (files_and_sink entry before (K.written out.old) (K.faults out.old))
+        (files_and_sink (F.state files.new) after (K.written out.new) (K.faults out.new))
+        result }
     ensures same { F.faults files.new ≡ F.faults files.old }
     ensures wrote { K.faults out.old ≤ K.faults out.new }
 {

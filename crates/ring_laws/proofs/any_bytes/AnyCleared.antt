@@ -171,7 +171,6 @@ all_stop r tail t (x ∷ xs) id e n =
     Stops : TargetState → Type 0
     Stops z = z.broken ≡ Some id → StopsAt r id z
 
-
     stands : Stopped r t next x.kind → Stops (record t { broken = Some (response_in r t).id })
     stands s h =
         let q : (response_in r t).id ≡ id = same_some (response_in r t).id id h in

@@ -70,7 +70,6 @@ attach_counts r u h = go (user_mailbox r) h
     below : u.tail < u.ring
     below = (attached_sound r u h).0.tail.below
 
-
     opened : (m : Mailbox) → m.tail < m.cmdr_size → UserCounts (user_of r.pages m)
     opened m l =
         let start : m.tail + 0 ≡ m.tail = omega arith in

@@ -120,7 +120,6 @@ bits_more xs ys zs k f g i =
     eighth : (i : ℕ) → ring_start + 7 ≤ i → i % 8 ≡ 7 → (i - 7) % 8 ≡ 0
     eighth i a b = omega (arith, a, b)
 
-
     twice : (a b : ℕ) → a % 2 ≡ 0 → b % 2 ≡ 0 → a + 1 ≡ b → ⊥
     twice a b h k e = omega (arith, h, k, e)
 
