@@ -28,10 +28,10 @@ use Rattle.tcmu_model.specs.Owned.{ListsSound}
 use Rattle.tcmu_model.proofs.Facts.{placed_dispatched}
 use Rattle.tcmu_model.proofs.Fronts.{commands_more}
 use Rattle.tcmu_model.proofs.Indexed.{item_at}
-use Rattle.ring_laws.proofs.laying.LaidIds.{id_front, command_long}
-use Rattle.ring_laws.proofs.attaching.MailboxThere.{mailbox_of}
+use Rattle.ring_laws.proofs.laid.LaidIds.{id_front, command_long}
+use Rattle.ring_laws.proofs.attached.MailboxThere.{mailbox_of}
 use Rattle.ring_laws.proofs.PassedItems.{Within, item_within, item_there}
-use Rattle.ring_laws.proofs.placing.PlacedAnswers.{small_id}
+use Rattle.ring_laws.proofs.placed.PlacedAnswers.{small_id}
 use Rattle.region_model.specs.EntryWriting.{AreInside, IsRequest}
 use Rattle.region_model.proofs.EntriesThere.{request_there}
 use Rattle.region_model.proofs.Iovecs.{total_merged}

@@ -27,9 +27,9 @@ use Rattle.tcmu_model.proofs.Indexed.{item_at}
 use Rattle.tcmu_model.proofs.Places.{next_within as next_inside}
 use Rattle.tcmu_types.proofs.Places.{within, get_none}
 use Rattle.ring_laws.specs.Placed.{HoldsItems}
-use Rattle.ring_laws.proofs.cleaning.CleanedOne.{take-next, next-place}
+use Rattle.ring_laws.proofs.cleaned.CleanedOne.{take-next, next-place}
 use Rattle.ring_laws.proofs.SoundRing.{holds}
-use Rattle.ring_laws.proofs.attaching.MailboxThere.{mailbox_of, device_mailbox_there}
+use Rattle.ring_laws.proofs.attached.MailboxThere.{mailbox_of, device_mailbox_there}
 use Rattle.ring_laws.proofs.Places.{ends_within, used_is, lengths_more, get-dropped}
 use Rattle.region_model.proofs.EntriesThere.{IsThere, pad_there}
 use Rattle.tcmu_model.proofs.Laying.{lengths-append}

@@ -17,8 +17,8 @@ use Rattle.region_model.specs.UserSteps.{Placing, answered_region, is_open_job, 
 use Rattle.region_model.proofs.Areas.{length-overlaid, size-home}
 use Rattle.ring_laws.specs.Sizes.{IsSized}
 use Rattle.ring_laws.specs.UserKept.{HasRing, IsAnswered, OnlyAnswers, UserSound}
-use Rattle.ring_laws.proofs.any_region.AnyAnswers.{Answers, respond_keeps}
-use Rattle.ring_laws.proofs.placing.AnswerData.{returned-other}
+use Rattle.ring_laws.proofs.user_over_any_bytes.AnyAnswers.{Answers, respond_keeps}
+use Rattle.ring_laws.proofs.placed.AnswerData.{returned-other}
 use Rattle.shm_region.specs.Copies.{LeaveOut, ShareNone}
 use Rattle.user_lib.specs.Frames.{ChangesOnly, LeavesBlock, answered_jobs, front_jobs}
 use Rattle.user_lib.proofs.Placings.{payload_front, payload_pages, placed_first}

@@ -11,12 +11,12 @@ use Rattle.region_model.specs.UserNext.{Job, nexted}
 use Rattle.ring_laws.specs.Restarted.{region_restarted}
 use Rattle.ring_laws.specs.Sizes.{IsSized}
 use Rattle.ring_laws.specs.UserKept.{HasPages, HasRing, IsWholeJob}
-use Rattle.ring_laws.proofs.any_region.AnyAnswers.{Answers, OnlyBlocks, abandon_sound, publish_sizes, publish_sound, reattach_only, respond_keeps, respond_ring}
-use Rattle.ring_laws.proofs.any_region.AnyAttached.{attached_pages, attached_sound}
-use Rattle.ring_laws.proofs.restarting.RestartedKept.{SameFront, front_restarted}
-use Rattle.ring_laws.proofs.any_region.AnyCounts.{abandon_counts, attach_counts, next_counts, publish_counts, respond_counts}
-use Rattle.ring_laws.proofs.any_region.AnyNext.{Nexts, next_keeps, next_ring}
-use Rattle.ring_laws.proofs.any_region.AnyWhole.{attach_jobs, next_job, next_jobs, next_pages, publish_jobs, publish_pages, respond_jobs, respond_pages}
+use Rattle.ring_laws.proofs.user_over_any_bytes.AnyAnswers.{Answers, OnlyBlocks, abandon_sound, publish_sizes, publish_sound, reattach_only, respond_keeps, respond_ring}
+use Rattle.ring_laws.proofs.user_over_any_bytes.AnyAttached.{attached_pages, attached_sound}
+use Rattle.ring_laws.proofs.restarted.RestartedKept.{SameFront, front_restarted}
+use Rattle.ring_laws.proofs.user_over_any_bytes.AnyCounts.{abandon_counts, attach_counts, next_counts, publish_counts, respond_counts}
+use Rattle.ring_laws.proofs.user_over_any_bytes.AnyNext.{Nexts, next_keeps, next_ring}
+use Rattle.ring_laws.proofs.user_over_any_bytes.AnyWhole.{attach_jobs, next_job, next_jobs, next_pages, publish_jobs, publish_pages, respond_jobs, respond_pages}
 use Rattle.user_lib.specs.declared.next.Next.{Next}
 use Rattle.user_lib.specs.declared.next.UserFault.{UserFault}
 use Rattle.user_lib.specs.declared.next.UserFault.TheVariants as fault

@@ -25,17 +25,17 @@ use Rattle.ring_laws.specs.Attached.{attached_user}
 use Rattle.ring_laws.specs.Dispatched.{AnswersDispatch, CanDispatch, hand_dispatched}
 use Rattle.ring_laws.specs.Handed.{is_answered}
 use Rattle.ring_laws.specs.Restarted.{region_restarted, region_with_hand}
-use Rattle.ring_laws.proofs.attaching.AttachedUser.{attached_same}
-use Rattle.ring_laws.proofs.dispatching.DispatchAnswers.{answer_dispatched}
-use Rattle.ring_laws.proofs.dispatching.DispatchBlocks.{blocks_dispatched}
-use Rattle.ring_laws.proofs.dispatching.DispatchJobs.{jobs_dispatched}
-use Rattle.ring_laws.proofs.dispatching.DispatchKept.{ids_dispatched, notes_dispatched, pages_dispatched, ring_dispatched, side_dispatched, target_dispatched}
-use Rattle.ring_laws.proofs.resetting.EmptiedKept.{attached_reset, blocks_reset, ids_reset, jobs_reset, notes_reset, pages_reset, reattached_reset, ring_reset, side_reset, target_reset_keeps}
-use Rattle.ring_laws.proofs.in_hand.HandTells.{can_respond}
-use Rattle.ring_laws.proofs.dispatching.NextNothing.{next_nothing}
-use Rattle.ring_laws.proofs.responding.Responds.{answer_same, blocks_kept, ids_kept, jobs_kept, notes_kept, pages_kept, ring_kept, side_kept, target_kept}
-use Rattle.ring_laws.proofs.restarting.RestartedKept.{blocks_restarted, ids_restarted, jobs_restarted, notes_restarted, pages_restarted, ring_restarted, side_restarted, target_restarted}
-use Rattle.ring_laws.proofs.publishing.TailMoved.{blocks_published, ids_published, jobs_published, notes_published, pages_published, publish_same, ring_published, side_published, target_published}
+use Rattle.ring_laws.proofs.attached.AttachedUser.{attached_same}
+use Rattle.ring_laws.proofs.dispatched.DispatchAnswers.{answer_dispatched}
+use Rattle.ring_laws.proofs.dispatched.DispatchBlocks.{blocks_dispatched}
+use Rattle.ring_laws.proofs.dispatched.DispatchJobs.{jobs_dispatched}
+use Rattle.ring_laws.proofs.dispatched.DispatchKept.{ids_dispatched, notes_dispatched, pages_dispatched, ring_dispatched, side_dispatched, target_dispatched}
+use Rattle.ring_laws.proofs.emptied.EmptiedKept.{attached_reset, blocks_reset, ids_reset, jobs_reset, notes_reset, pages_reset, reattached_reset, ring_reset, side_reset, target_reset_keeps}
+use Rattle.ring_laws.proofs.jobs_in_hand.HandTells.{can_respond}
+use Rattle.ring_laws.proofs.dispatched.NextNothing.{next_nothing}
+use Rattle.ring_laws.proofs.responded.Responds.{answer_same, blocks_kept, ids_kept, jobs_kept, notes_kept, pages_kept, ring_kept, side_kept, target_kept}
+use Rattle.ring_laws.proofs.restarted.RestartedKept.{blocks_restarted, ids_restarted, jobs_restarted, notes_restarted, pages_restarted, ring_restarted, side_restarted, target_restarted}
+use Rattle.ring_laws.proofs.published.TailMoved.{blocks_published, ids_published, jobs_published, notes_published, pages_published, publish_same, ring_published, side_published, target_published}
 use Rattle.user_lib.specs.declared.next.Next.{Next}
 use Rattle.user_lib.specs.declared.next.UserFault.{UserFault}
 use Rattle.user_lib.specs.declared.next.UserFault.TheVariants as fault

@@ -14,7 +14,7 @@ use Rattle.region_model.specs.Regions.{RegionState, size_of}
 use Rattle.region_model.specs.Sides.{GivenJob, JobState, UserState}
 use Rattle.region_model.specs.UserSteps.{is_open_job, user_mailbox}
 use Rattle.region_model.specs.UserNext.{NextAnswer, Job, Note, Nothing, BadMailbox, BadEntry, Nexted, iovs_in, tmr_ids_in, with_passed, with_unknown, command_next, note_next, next_within, most_entries, nexted}
-use Rattle.ring_laws.proofs.any_region.AnyFaults.{by_mailbox, next_mailbox}
+use Rattle.ring_laws.proofs.user_over_any_bytes.AnyFaults.{by_mailbox, next_mailbox}
 
 last_open : (id : ℕ) (jobs : List GivenJob) → list_any (is_open_job id) (jobs ++ record { id = id; parked = None } ∷ []) ≡ true
 last_open id [] = let e : (id == id) ≡ true = eq-eqb id id refl in rw e refl

@@ -16,7 +16,7 @@ use Rattle.region_model.specs.Regions.{RegionState, size_of}
 use Rattle.region_model.specs.Sides.{GivenJob, Parked, UserState}
 use Rattle.region_model.specs.UserSteps.{Placing, is_open_job, placed_at, placed_front, placed_one, placing_by, user_mailbox, user_responded, with_jobs, with_parked}
 use Rattle.region_model.specs.UserNext.{BadEntry, BadMailbox, Nexted, Nothing, command_next, iovs_in, most_entries, next_within, nexted, note_next, tmr_ids_in, with_passed, with_unknown}
-use Rattle.ring_laws.proofs.any_region.AnyFaults.{by_mailbox, next_mailbox}
+use Rattle.ring_laws.proofs.user_over_any_bytes.AnyFaults.{by_mailbox, next_mailbox}
 use Rattle.user_lib.specs.declared.next.Next.{Next}
 use Rattle.user_lib.specs.declared.next.UserFault.{UserFault}
 use Rattle.user_lib.specs.declared.next.UserFault.TheVariants as fault

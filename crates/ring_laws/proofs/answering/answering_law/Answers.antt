@@ -1,4 +1,4 @@
-use Rattle.ring_laws.proofs.answering.TargetAnswers.{submit_same, enter_same, block_same}
+use Rattle.ring_laws.proofs.answers.TargetAnswers.{submit_same, enter_same, block_same}
 use Rattle.ring_laws.proofs.answering.answering_law.Goals as goal
 
 pub returns : goal.returns

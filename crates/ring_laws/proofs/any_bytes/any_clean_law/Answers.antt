@@ -1,7 +1,7 @@
-use Rattle.ring_laws.proofs.any_bytes.AnyCleans.{clean_logs}
-use Rattle.ring_laws.proofs.any_bytes.AnyStops.{kept_id, bad_tail, to_tail, stops}
-use Rattle.ring_laws.proofs.any_bytes.AnyCleared.{clean_front}
-use Rattle.ring_laws.proofs.any_bytes.AnyKeptId.{id_stays}
+use Rattle.ring_laws.proofs.target_over_any_bytes.AnyCleans.{clean_logs}
+use Rattle.ring_laws.proofs.target_over_any_bytes.AnyStops.{kept_id, bad_tail, to_tail, stops}
+use Rattle.ring_laws.proofs.target_over_any_bytes.AnyCleared.{clean_front}
+use Rattle.ring_laws.proofs.target_over_any_bytes.AnyKeptId.{id_stays}
 use Rattle.ring_laws.proofs.any_bytes.any_clean_law.Goals as goal
 
 pub returns : goal.returns

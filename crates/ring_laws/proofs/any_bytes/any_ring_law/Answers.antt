@@ -1,4 +1,4 @@
-use Rattle.ring_laws.proofs.any_bytes.AnyRing.{ring_of_opening, ring_called, laid_within, front_called}
+use Rattle.ring_laws.proofs.target_over_any_bytes.AnyRing.{ring_of_opening, ring_called, laid_within, front_called}
 use Rattle.ring_laws.proofs.any_bytes.any_ring_law.Goals as goal
 
 pub returns : goal.returns

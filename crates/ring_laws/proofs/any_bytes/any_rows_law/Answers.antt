@@ -1,4 +1,4 @@
-use Rattle.ring_laws.proofs.any_bytes.AnyRows.{rows_of_opening, rows_called, rows_few, rows_few_of_all}
+use Rattle.ring_laws.proofs.target_over_any_bytes.AnyRows.{rows_of_opening, rows_called, rows_few, rows_few_of_all}
 use Rattle.ring_laws.proofs.any_bytes.any_rows_law.Goals as goal
 
 pub returns : goal.returns

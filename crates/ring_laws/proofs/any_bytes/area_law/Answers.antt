@@ -1,7 +1,7 @@
 use Rattle.region_model.specs.Regions.{opening_region}
 use Rattle.region_model.specs.TargetSteps.{opening_target}
-use Rattle.ring_laws.proofs.any_bytes.AnyAreas.{in_opening, called_on, same_pages}
-use Rattle.ring_laws.proofs.any_bytes.AnyRing.{front_of_opening}
+use Rattle.ring_laws.proofs.target_over_any_bytes.AnyAreas.{in_opening, called_on, same_pages}
+use Rattle.ring_laws.proofs.target_over_any_bytes.AnyRing.{front_of_opening}
 use Rattle.ring_laws.proofs.any_bytes.area_law.Goals as goal
 
 pub returns : goal.returns

@@ -1,4 +1,4 @@
-use Rattle.ring_laws.proofs.any_bytes.AnyCommands.{of_opening, rows_of_opening}
+use Rattle.ring_laws.proofs.target_over_any_bytes.AnyCommands.{of_opening, rows_of_opening}
 use Rattle.ring_laws.proofs.any_bytes.commands_law.Goals as goal
 
 pub returns : goal.returns

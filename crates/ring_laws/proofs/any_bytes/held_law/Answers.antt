@@ -1,5 +1,5 @@
-use Rattle.ring_laws.proofs.any_bytes.AnyCalls.{sound_from_opening}
-use Rattle.ring_laws.proofs.any_bytes.AnySettings.{blocks_below}
+use Rattle.ring_laws.proofs.target_over_any_bytes.AnyCalls.{sound_from_opening}
+use Rattle.ring_laws.proofs.target_over_any_bytes.AnySettings.{blocks_below}
 use Rattle.ring_laws.proofs.any_bytes.held_law.Goals as goal
 
 pub returns : goal.returns

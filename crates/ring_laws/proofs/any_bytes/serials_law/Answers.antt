@@ -1,5 +1,5 @@
-use Rattle.ring_laws.proofs.any_bytes.AnyCalls.{sound_from_opening}
-use Rattle.ring_laws.proofs.any_bytes.AnySerials.{logged_once, logged_accepted, expired_logged}
+use Rattle.ring_laws.proofs.target_over_any_bytes.AnyCalls.{sound_from_opening}
+use Rattle.ring_laws.proofs.target_over_any_bytes.AnySerials.{logged_once, logged_accepted, expired_logged}
 use Rattle.ring_laws.proofs.any_bytes.serials_law.Goals as goal
 
 pub returns : goal.returns

@@ -1,6 +1,6 @@
-use Rattle.ring_laws.proofs.any_region.AnyAnswers.{publish_sound, publish_sizes, publish_only, publish_blocks}
-use Rattle.ring_laws.proofs.any_region.AnyCounts.{publish_counts}
-use Rattle.ring_laws.proofs.any_region.AnyWhole.{publish_jobs, publish_pages}
+use Rattle.ring_laws.proofs.user_over_any_bytes.AnyAnswers.{publish_sound, publish_sizes, publish_only, publish_blocks}
+use Rattle.ring_laws.proofs.user_over_any_bytes.AnyCounts.{publish_counts}
+use Rattle.ring_laws.proofs.user_over_any_bytes.AnyWhole.{publish_jobs, publish_pages}
 use Rattle.ring_laws.proofs.any_region.any_publish_law.Goals as goal
 
 pub returns : goal.returns

@@ -1,6 +1,6 @@
-use Rattle.ring_laws.proofs.any_region.AnyAnswers.{respond_keeps, respond_sizes, respond_ring}
-use Rattle.ring_laws.proofs.any_region.AnyCounts.{respond_counts, respond_once, respond_uses}
-use Rattle.ring_laws.proofs.any_region.AnyWhole.{respond_jobs, respond_pages, respond_sized}
+use Rattle.ring_laws.proofs.user_over_any_bytes.AnyAnswers.{respond_keeps, respond_sizes, respond_ring}
+use Rattle.ring_laws.proofs.user_over_any_bytes.AnyCounts.{respond_counts, respond_once, respond_uses}
+use Rattle.ring_laws.proofs.user_over_any_bytes.AnyWhole.{respond_jobs, respond_pages, respond_sized}
 use Rattle.ring_laws.proofs.any_region.any_respond_law.Goals as goal
 
 pub returns : goal.returns

@@ -1,6 +1,6 @@
-use Rattle.ring_laws.proofs.any_region.AnyAttached.{attached_sound, attached_pages}
-use Rattle.ring_laws.proofs.any_region.AnyCounts.{attach_counts}
-use Rattle.ring_laws.proofs.any_region.AnyWhole.{attach_jobs}
+use Rattle.ring_laws.proofs.user_over_any_bytes.AnyAttached.{attached_sound, attached_pages}
+use Rattle.ring_laws.proofs.user_over_any_bytes.AnyCounts.{attach_counts}
+use Rattle.ring_laws.proofs.user_over_any_bytes.AnyWhole.{attach_jobs}
 use Rattle.ring_laws.proofs.any_region.attach_law.Goals as goal
 
 pub returns : goal.returns

@@ -1,9 +1,9 @@
-use Rattle.ring_laws.proofs.any_region.AnyNext.{next_keeps, next_sizes, next_ring}
-use Rattle.ring_laws.proofs.any_region.AnyFaults.{next_faults, next_mailbox, next_entry}
-use Rattle.ring_laws.proofs.any_region.AnyJobs.{next_inside}
-use Rattle.ring_laws.proofs.any_region.AnyHeads.{next_nothing}
-use Rattle.ring_laws.proofs.any_region.AnyCounts.{next_counts}
-use Rattle.ring_laws.proofs.any_region.AnyWhole.{next_job, next_jobs, next_pages}
+use Rattle.ring_laws.proofs.user_over_any_bytes.AnyNext.{next_keeps, next_sizes, next_ring}
+use Rattle.ring_laws.proofs.user_over_any_bytes.AnyFaults.{next_faults, next_mailbox, next_entry}
+use Rattle.ring_laws.proofs.user_over_any_bytes.AnyJobs.{next_inside}
+use Rattle.ring_laws.proofs.user_over_any_bytes.AnyHeads.{next_nothing}
+use Rattle.ring_laws.proofs.user_over_any_bytes.AnyCounts.{next_counts}
+use Rattle.ring_laws.proofs.user_over_any_bytes.AnyWhole.{next_job, next_jobs, next_pages}
 use Rattle.ring_laws.proofs.any_region.next_law.Goals as goal
 
 pub returns : goal.returns

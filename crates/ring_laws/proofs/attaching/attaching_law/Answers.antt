@@ -1,5 +1,5 @@
-use Rattle.ring_laws.proofs.attaching.AttachedUser.{attached_same, reattached_same}
-use Rattle.ring_laws.proofs.attaching.MailboxThere.{device_mailbox_there}
+use Rattle.ring_laws.proofs.attached.AttachedUser.{attached_same, reattached_same}
+use Rattle.ring_laws.proofs.attached.MailboxThere.{device_mailbox_there}
 use Rattle.ring_laws.proofs.attaching.attaching_law.Goals as goal
 
 pub returns : goal.returns

@@ -1,7 +1,7 @@
-use Rattle.ring_laws.proofs.cleaning.CleanedAll.{answer_cleaned}
-use Rattle.ring_laws.proofs.cleaning.CleanedRecords.{target_cleaned_keeps, side_cleaned, pages_cleaned}
-use Rattle.ring_laws.proofs.cleaning.CleanedRing.{ring_cleaned, ids_cleaned, notes_cleaned}
-use Rattle.ring_laws.proofs.cleaning.CleanedJobs.{blocks_cleaned, jobs_cleaned}
+use Rattle.ring_laws.proofs.cleaned.CleanedAll.{answer_cleaned}
+use Rattle.ring_laws.proofs.cleaned.CleanedRecords.{target_cleaned_keeps, side_cleaned, pages_cleaned}
+use Rattle.ring_laws.proofs.cleaned.CleanedRing.{ring_cleaned, ids_cleaned, notes_cleaned}
+use Rattle.ring_laws.proofs.cleaned.CleanedJobs.{blocks_cleaned, jobs_cleaned}
 use Rattle.tcmu_model.proofs.ListsCleaned.{lists_cleaned}
 use Rattle.ring_laws.proofs.cleaning.clean_law.Goals as goal
 

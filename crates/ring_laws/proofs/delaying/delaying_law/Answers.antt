@@ -1,4 +1,4 @@
-use Rattle.ring_laws.proofs.delaying.DelayedKept.{ring_delayed, ids_delayed, notes_delayed, blocks_delayed, jobs_delayed, target_delayed, side_delayed, pages_delayed, region_delayed}
+use Rattle.ring_laws.proofs.delayed.DelayedKept.{ring_delayed, ids_delayed, notes_delayed, blocks_delayed, jobs_delayed, target_delayed, side_delayed, pages_delayed, region_delayed}
 use Rattle.tcmu_model.proofs.HoldersKept.{lists_delayed}
 use Rattle.ring_laws.proofs.delaying.delaying_law.Goals as goal
 

@@ -1,9 +1,9 @@
-use Rattle.ring_laws.proofs.dispatching.DispatchAnswers.{answer_dispatched}
-use Rattle.ring_laws.proofs.dispatching.DispatchBlocks.{blocks_dispatched}
-use Rattle.ring_laws.proofs.dispatching.DispatchJobs.{jobs_dispatched}
-use Rattle.ring_laws.proofs.dispatching.DispatchKept.{ring_dispatched, ids_dispatched, notes_dispatched, target_dispatched, side_dispatched, pages_dispatched}
+use Rattle.ring_laws.proofs.dispatched.DispatchAnswers.{answer_dispatched}
+use Rattle.ring_laws.proofs.dispatched.DispatchBlocks.{blocks_dispatched}
+use Rattle.ring_laws.proofs.dispatched.DispatchJobs.{jobs_dispatched}
+use Rattle.ring_laws.proofs.dispatched.DispatchKept.{ring_dispatched, ids_dispatched, notes_dispatched, target_dispatched, side_dispatched, pages_dispatched}
 use Rattle.tcmu_model.proofs.HoldersKept.{lists_dispatched}
-use Rattle.ring_laws.proofs.dispatching.NextNothing.{next_nothing}
+use Rattle.ring_laws.proofs.dispatched.NextNothing.{next_nothing}
 use Rattle.ring_laws.proofs.dispatching.dispatch_law.Goals as goal
 
 pub returns : goal.returns

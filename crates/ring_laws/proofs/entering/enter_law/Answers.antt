@@ -1,4 +1,4 @@
-use Rattle.ring_laws.proofs.entering.Entered.{serial_entered, ring_entered, ids_entered, notes_entered, blocks_entered, jobs_entered, target_entered_keeps, side_entered, pages_entered, sized_entered}
+use Rattle.ring_laws.proofs.entered.Entered.{serial_entered, ring_entered, ids_entered, notes_entered, blocks_entered, jobs_entered, target_entered_keeps, side_entered, pages_entered, sized_entered}
 use Rattle.tcmu_model.proofs.ListsLaid.{lists_entered}
 use Rattle.ring_laws.proofs.entering.enter_law.Goals as goal
 

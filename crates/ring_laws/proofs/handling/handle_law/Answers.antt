@@ -1,5 +1,5 @@
-use Rattle.ring_laws.proofs.handling.HandledJobs.{jobs_handled}
-use Rattle.ring_laws.proofs.handling.HandledKept.{ring_handled, ids_handled, notes_handled, blocks_handled, target_handled, side_handled, pages_handled}
+use Rattle.ring_laws.proofs.handled.HandledJobs.{jobs_handled}
+use Rattle.ring_laws.proofs.handled.HandledKept.{ring_handled, ids_handled, notes_handled, blocks_handled, target_handled, side_handled, pages_handled}
 use Rattle.tcmu_model.proofs.HoldersKept.{lists_handled}
 use Rattle.ring_laws.proofs.handling.handle_law.Goals as goal
 

@@ -1,5 +1,5 @@
-use Rattle.ring_laws.proofs.in_hand.HandRises.{hand_rises}
-use Rattle.ring_laws.proofs.in_hand.HandTells.{answered_handled, asked_data, asked_out, can_respond, job_asked, not_handled}
+use Rattle.ring_laws.proofs.jobs_in_hand.HandRises.{hand_rises}
+use Rattle.ring_laws.proofs.jobs_in_hand.HandTells.{answered_handled, asked_data, asked_out, can_respond, job_asked, not_handled}
 use Rattle.tcmu_model.proofs.SentNone.{sent_none}
 use Rattle.ring_laws.proofs.in_hand.hand_law.Goals as goal
 

@@ -1,4 +1,4 @@
-use Rattle.ring_laws.proofs.noting.Noted.{tmr_same, ring_noted, ids_noted, notes_noted, blocks_noted, jobs_noted, target_noted_keeps, side_noted, pages_noted, sized_noted, unnoted_same}
+use Rattle.ring_laws.proofs.notes.Noted.{tmr_same, ring_noted, ids_noted, notes_noted, blocks_noted, jobs_noted, target_noted_keeps, side_noted, pages_noted, sized_noted, unnoted_same}
 use Rattle.tcmu_model.proofs.ListsRun.{lists_noted}
 use Rattle.ring_laws.proofs.noting.tmr_law.Goals as goal
 

@@ -1,5 +1,5 @@
-use Rattle.ring_laws.proofs.opening.AttachedOpening.{attached_opening}
-use Rattle.ring_laws.proofs.opening.Opened.{represents_opening}
+use Rattle.ring_laws.proofs.opened.AttachedOpening.{attached_opening}
+use Rattle.ring_laws.proofs.opened.Opened.{represents_opening}
 use Rattle.tcmu_model.proofs.ListsKept.{lists_sound_opening}
 use Rattle.ring_laws.proofs.opening.opening_law.Goals as goal
 

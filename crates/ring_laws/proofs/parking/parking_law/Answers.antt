@@ -1,5 +1,5 @@
-use Rattle.ring_laws.proofs.parking.ParkedJobs.{jobs_parked}
-use Rattle.ring_laws.proofs.parking.ParkedKept.{ring_parked, ids_parked, notes_parked, blocks_parked, target_parked, side_parked, can_answer_parked, can_fill_parked, found_parked}
+use Rattle.ring_laws.proofs.parked.ParkedJobs.{jobs_parked}
+use Rattle.ring_laws.proofs.parked.ParkedKept.{ring_parked, ids_parked, notes_parked, blocks_parked, target_parked, side_parked, can_answer_parked, can_fill_parked, found_parked}
 use Rattle.tcmu_model.specs.declared.state.CommandState.TheVariants.{Handled, Parked}
 use Rattle.tcmu_model.proofs.HoldersKept.{lists_turned}
 use Rattle.ring_laws.proofs.parking.parking_law.Goals as goal

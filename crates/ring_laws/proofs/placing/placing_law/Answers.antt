@@ -1,6 +1,6 @@
-use Rattle.ring_laws.proofs.placing.Numbered.{can_answer}
-use Rattle.ring_laws.proofs.placing.PlacedAnswers.{notes_placed, ring_placed, ids_placed, target_placed, user_placed, offsets_placed, can_placed}
-use Rattle.ring_laws.proofs.placing.AnswerBlocks.{blocks_placed, can_fill, fill_placed}
+use Rattle.ring_laws.proofs.placed.Numbered.{can_answer}
+use Rattle.ring_laws.proofs.placed.PlacedAnswers.{notes_placed, ring_placed, ids_placed, target_placed, user_placed, offsets_placed, can_placed}
+use Rattle.ring_laws.proofs.placed.AnswerBlocks.{blocks_placed, can_fill, fill_placed}
 use Rattle.ring_laws.proofs.placing.placing_law.Goals as goal
 
 pub returns : goal.returns

@@ -1,4 +1,4 @@
-use Rattle.ring_laws.proofs.publishing.TailMoved.{publish_same, ring_published, ids_published, notes_published, blocks_published, jobs_published, target_published, side_published, pages_published}
+use Rattle.ring_laws.proofs.published.TailMoved.{publish_same, ring_published, ids_published, notes_published, blocks_published, jobs_published, target_published, side_published, pages_published}
 use Rattle.tcmu_model.proofs.HoldersKept.{lists_published}
 use Rattle.ring_laws.proofs.publishing.publishing_law.Goals as goal
 

@@ -1,4 +1,4 @@
-use Rattle.ring_laws.proofs.resetting.EmptiedKept.{answer_reset, logged_reset, ring_reset, ids_reset, notes_reset, blocks_reset, jobs_reset, hand_reset, target_reset_keeps, side_reset, attached_reset, reattached_reset, lists_reset, kept_reset, pages_reset}
+use Rattle.ring_laws.proofs.emptied.EmptiedKept.{answer_reset, logged_reset, ring_reset, ids_reset, notes_reset, blocks_reset, jobs_reset, hand_reset, target_reset_keeps, side_reset, attached_reset, reattached_reset, lists_reset, kept_reset, pages_reset}
 use Rattle.tcmu_model.proofs.ResetMade.{not_blocked_same, handlers_out_same}
 use Rattle.ring_laws.proofs.resetting.reset_law.Goals as goal
 

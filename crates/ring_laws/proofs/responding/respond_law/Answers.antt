@@ -1,6 +1,6 @@
-use Rattle.ring_laws.proofs.responding.Responds.{answer_same, blocks_kept, ids_kept, jobs_kept, notes_kept, pages_kept, ring_kept, side_kept, target_kept}
+use Rattle.ring_laws.proofs.responded.Responds.{answer_same, blocks_kept, ids_kept, jobs_kept, notes_kept, pages_kept, ring_kept, side_kept, target_kept}
 use Rattle.tcmu_model.proofs.HoldersKept.{lists_responded}
-use Rattle.ring_laws.proofs.responding.RespondsWhole.{job_open, job_whole}
+use Rattle.ring_laws.proofs.responded.RespondsWhole.{job_open, job_whole}
 use Rattle.ring_laws.proofs.responding.respond_law.Goals as goal
 
 pub returns : goal.returns

@@ -1,6 +1,6 @@
-use Rattle.ring_laws.proofs.restarting.RestartedAnswer.{answer_restarted}
-use Rattle.ring_laws.proofs.restarting.RestartedKept.{ring_restarted, ids_restarted, notes_restarted, blocks_restarted, jobs_restarted, target_restarted, side_restarted, pages_restarted}
-use Rattle.ring_laws.proofs.sizes.Sized.{sized_restarted}
+use Rattle.ring_laws.proofs.restarted.RestartedAnswer.{answer_restarted}
+use Rattle.ring_laws.proofs.restarted.RestartedKept.{ring_restarted, ids_restarted, notes_restarted, blocks_restarted, jobs_restarted, target_restarted, side_restarted, pages_restarted}
+use Rattle.ring_laws.proofs.sized.Sized.{sized_restarted}
 use Rattle.tcmu_model.proofs.HoldersKept.{lists_restarted}
 use Rattle.ring_laws.proofs.restarting.restart_law.Goals as goal
 

@@ -1,4 +1,4 @@
-use Rattle.ring_laws.proofs.showing.PictureShown.{payload_lengths, payloads_home, picture_items, picture_mailbox}
+use Rattle.ring_laws.proofs.shown.PictureShown.{payload_lengths, payloads_home, picture_items, picture_mailbox}
 use Rattle.ring_laws.proofs.showing.picture_law.Goals as goal
 
 pub returns : goal.returns

@@ -1,4 +1,4 @@
-use Rattle.ring_laws.proofs.sizes.Sized.{sized_opening, sized_nexted, sized_responded, sized_back, sized_abandoned, sized_published, sized_cleaned, sized_reset}
+use Rattle.ring_laws.proofs.sized.Sized.{sized_opening, sized_nexted, sized_responded, sized_back, sized_abandoned, sized_published, sized_cleaned, sized_reset}
 use Rattle.ring_laws.proofs.sizes.sizes_law.Goals as goal
 
 pub returns : goal.returns

@@ -1,4 +1,4 @@
-use Rattle.ring_laws.proofs.submitting.Submitted.{ring_submitted, ids_submitted, notes_submitted, blocks_submitted, jobs_submitted, target_submitted_keeps, side_submitted, pages_submitted, sized_submitted}
+use Rattle.ring_laws.proofs.submitted.Submitted.{ring_submitted, ids_submitted, notes_submitted, blocks_submitted, jobs_submitted, target_submitted_keeps, side_submitted, pages_submitted, sized_submitted}
 use Rattle.tcmu_model.proofs.ListsLaid.{lists_submitted}
 use Rattle.ring_laws.proofs.submitting.submit_law.Goals as goal
 

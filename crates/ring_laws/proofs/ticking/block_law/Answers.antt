@@ -1,4 +1,4 @@
-use Rattle.ring_laws.proofs.ticking.Ticked.{ring_blocked, ids_blocked, notes_blocked, blocks_blocked, jobs_blocked, target_blocked_keeps, side_blocked, pages_blocked}
+use Rattle.ring_laws.proofs.ticked.Ticked.{ring_blocked, ids_blocked, notes_blocked, blocks_blocked, jobs_blocked, target_blocked_keeps, side_blocked, pages_blocked}
 use Rattle.tcmu_model.proofs.HoldersKept.{lists_blocked}
 use Rattle.ring_laws.proofs.ticking.block_law.Goals as goal
 

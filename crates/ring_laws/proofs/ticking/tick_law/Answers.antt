@@ -1,4 +1,4 @@
-use Rattle.ring_laws.proofs.ticking.Ticked.{tick_same, ring_ticked, ids_ticked, notes_ticked, blocks_ticked, jobs_ticked, target_ticked_keeps, side_ticked, pages_ticked}
+use Rattle.ring_laws.proofs.ticked.Ticked.{tick_same, ring_ticked, ids_ticked, notes_ticked, blocks_ticked, jobs_ticked, target_ticked_keeps, side_ticked, pages_ticked}
 use Rattle.tcmu_model.proofs.HoldersKept.{lists_ticked}
 use Rattle.ring_laws.proofs.ticking.tick_law.Goals as goal
 

@@ -1,6 +1,6 @@
 use Rattle.std.proofs.Common.{◌≡◌, length, sym, ap, ◌∙◌, subst}
 use Rattle.region_model.specs.Regions.{HaveSize, RegionState, size_of}
-use Rattle.ring_laws.proofs.placing.AnswerData.{length-scattered, sizes-scattered}
+use Rattle.ring_laws.proofs.placed.AnswerData.{length-scattered, sizes-scattered}
 use Rattle.user_lib.specs.Carrying.{carried_of}
 use Rattle.user_lib.proofs.Entries.{lies_in_region}
 use Rattle.user_lib.proofs.Placings.{inside_front, inside_pages}

@@ -2,7 +2,7 @@ use Rattle.std.proofs.Common.{◌≡◌, ℕ, ◌+◌, ◌%◌, ◌∷◌, List,
 use Rattle.tcmu_types.specs.Lists.{Every}
 use Rattle.region_model.specs.Sides.{Recorded}
 use Rattle.ring_laws.specs.RingKept.{IsPlace}
-use Rattle.ring_laws.proofs.any_region.AnyNext.{next_place}
+use Rattle.ring_laws.proofs.user_over_any_bytes.AnyNext.{next_place}
 use Rattle.user_lib.proofs.books.UserBooks.move_item.Goals as goal
 
 pub invariant_of-self : goal.invariant_of-self

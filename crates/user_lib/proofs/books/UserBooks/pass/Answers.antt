@@ -3,7 +3,7 @@ use Rattle.region_model.specs.Sides.{Recorded}
 use Rattle.tcmu_types.specs.Lists.{Every}
 use Rattle.tcmu_types.proofs.Everies.{every-append}
 use Rattle.ring_laws.specs.RingKept.{IsPlace}
-use Rattle.ring_laws.proofs.any_region.AnyNext.{next_place}
+use Rattle.ring_laws.proofs.user_over_any_bytes.AnyNext.{next_place}
 use Rattle.user_lib.proofs.books.UserBooks.pass.Goals as goal
 
 pub invariant_of-self-2 : goal.invariant_of-self-2

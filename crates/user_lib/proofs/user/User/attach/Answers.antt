@@ -1,4 +1,4 @@
-use Rattle.ring_laws.proofs.any_region.AnyAttached.{attached_pages, attached_sound}
+use Rattle.ring_laws.proofs.user_over_any_bytes.AnyAttached.{attached_pages, attached_sound}
 use Rattle.user_lib.proofs.Kept.{attached_fresh, attached_kept}
 use Rattle.user_lib.proofs.OnDevice.{attaches, attaches_none}
 use Rattle.user_lib.proofs.user.User.attach.Goals as goal

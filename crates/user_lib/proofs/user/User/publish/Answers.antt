@@ -2,7 +2,7 @@ use Rattle.std.proofs.Common.{◌≡◌, length, sym, ap, ◌∙◌, subst}
 use Rattle.region_model.specs.Regions.{RegionState}
 use Rattle.region_model.specs.Sides.{UserState}
 use Rattle.region_model.specs.UserSteps.{region_published, user_publish_answer, user_published}
-use Rattle.ring_laws.proofs.any_region.AnyAnswers.{publish_sizes}
+use Rattle.ring_laws.proofs.user_over_any_bytes.AnyAnswers.{publish_sizes}
 use Rattle.user_lib.specs.Users.{IsUser}
 use Rattle.user_lib.proofs.Kept.{pages_stays, published_kept, published_stays, ring_stays}
 use Rattle.user_lib.proofs.OnDevice.{publishes}

@@ -2,7 +2,7 @@ use Rattle.std.proofs.Common.{◌≡◌, length, refl, sym, ap, ◌∙◌, subst
 use Rattle.region_model.specs.Regions.{RegionState}
 use Rattle.region_model.specs.Sides.{Parked, UserState}
 use Rattle.region_model.specs.UserSteps.{Placing, user_respond_answer, user_responded}
-use Rattle.ring_laws.proofs.any_region.AnyAnswers.{respond_sizes}
+use Rattle.ring_laws.proofs.user_over_any_bytes.AnyAnswers.{respond_sizes}
 use Rattle.user_lib.specs.Frames.{ChangesOnly}
 use Rattle.user_lib.specs.Stays.{OthersStayOpen, StaysAttached}
 use Rattle.user_lib.specs.Users.{IsUser}
