@@ -1,4 +1,4 @@
--- Over files whose stores list no failing call a scenario has one text.
+-- Over files whose stores tell which calls fail a scenario that has a known text has no other, and where they list none every text is known.
 use Rattle.std.proofs.Common.{◌≡◌, inl, inr, ℕ, suc, ◌*◌, ◌/◌, Bool, true, false, ◌||◌, List, [], ◌∷◌, length, slice_get, bytes_eq, Option, Some, None, IfSome, is_some, ⊎_elim, refl, sym, ap, ◌∙◌, subst, arith}
 use Rattle.std.specs.List.{list_any, filter}
 use Rattle.std.specs.Option.{option_map}
@@ -13,8 +13,10 @@ use Rattle.scsi_model.proofs.Cleared.{hidden, get_cleared}
 use Rattle.scsi_model.proofs.FileRuns.{runs_show_file}
 use Rattle.tcmu_model.specs.Device.{Device, opening}
 use Rattle.text_model.specs.Config.{ConfigData, MediumData, InMemory, InFile}
-use Rattle.text_model.specs.ScenarioData.{DeviceLineData}
+use Rattle.text_model.specs.ScenarioData.{DeviceLineData, ScenarioData}
 use Rattle.scsi_model.specs.Scsi.{Serves}
+use Rattle.scsi_model.specs.ReadsLost.{ServesKnown}
+use Rattle.scsi_model.proofs.Holding.{holds_one}
 use Rattle.text_model.specs.Several.{IsReplayOf, ReplaysEach}
 use Rattle.text_model.specs.Journals.{Journaled, is_of, IsLegalEach}
 use Rattle.text_model.specs.Replay.{Plays}
@@ -26,10 +28,12 @@ use Rattle.tcmu_types.specs.Numbers.{is_among}
 use Rattle.tcmu_types.proofs.Everies.{every_at}
 use Rattle.tcmu_types.proofs.Readings.{same_some, same_bytes}
 use Rattle.tcmu_types.proofs.Places.{get_within, same_list}
-use Rattle.block_engine.specs.Determined.{LosesNothing}
-use Rattle.text_laws.proofs.Settled.{one_replay, one_text}
+use Rattle.block_engine.specs.Determined.{IsTold, LosesNothing}
+use Rattle.text_laws.proofs.Knowing.{known_without_loss}
+use Rattle.text_laws.proofs.Settled.{one_replay, one_known_text}
 use Rattle.tcmu_top.specs.Opened.{OpensFile, OpensKind, Opens, OpenEach, EachFile, after_fetches, file_names, name_in, is_named, IsLeftOf, Holds, SameFiles, Kept, KeptFiles}
-use Rattle.tcmu_top.specs.Laws.{ListsNone, ListNone, HasOneTextOverFiles, LeavesTheSameFiles}
+use Rattle.tcmu_top.specs.Top.{IsTextOf}
+use Rattle.tcmu_top.specs.Laws.{TellsFails, TellFails, IsKnown, HasOneKnownText, SamePlaceBut, SameFilesBut, LeavesTheKnownFiles, ListsNone, ListNone, AreKnown, LeavesTheSameFiles}
 use Rattle.tcmu_top.proofs.Completions.{devices_stay}
 use Rattle.tcmu_top.proofs.FileRuns.{device_runs}
 use Rattle.tcmu_top.proofs.GivenBack.{open_at, content_same}
@@ -75,11 +79,8 @@ lose_nothing f (l ∷ ls) [] none h = absurd h
 lose_nothing f (l ∷ ls) (d ∷ ds) none h =
     (subst (λ (x : Device). LosesNothing x.medium) (sym h.0.2) (loses_nothing f l.config.kind l.config h.0.0 none.0 h.0.1), lose_nothing f ls ds none.1 h.1)
 
-pub has_one_text_over_files : HasOneTextOverFiles
-has_one_text_over_files f bytes t u s read none is it =
-    let same = one_opening f s.devices it.opened is.opened it.opens is.opens in
-    let other = subst (λ (x : List Device). IsReplayOf Serves picture_of s.devices x s.lines u) same it.replay in
-    (one_text picture_of s.devices s.lines is.opened t u (lose_nothing f s.devices is.opened none is.opens) is.replay other).text
+pub are_known : AreKnown
+are_known f s t none is = known_without_loss picture_of s.devices s.lines is.opened t (lose_nothing f s.devices is.opened none is.opens) is.replay
 
 -- ---- the files behind a replay
 
@@ -194,3 +195,72 @@ leaves_the_same_files f g h bytes t u s read none is it p q =
     let kept = subst (λ (x : List Device). KeptFiles s.devices x (Some f) (Some g)) one.1 p in
     same_files s.devices it.replay.ends f g h (devices_stay (Some f) bytes u s read it).ends one.2
     (show_files f s.devices it.opened it.replay.ends (entries_in it.replay.printed) it.opens (legal_entries Serves picture_of it.opened it.replay.printed it.replay.ends it.replay.legal)) kept q
+
+-- ---- where calls of the stores fail, and nothing lost is read
+
+is_told : (f : FilesState) (kind : MediumData) (c : ConfigData) (m : MediumState) → TellsFails f kind → OpensKind kind (Some f) c m → IsTold m
+is_told f (InMemory blocks) c m tells h = subst IsTold (sym h) (record { own = refl; store = refl; bytes = refl })
+is_told f (InFile name) c m tells h =
+    let bytes = ap (λ (s : StoreState). is_some s.bytes) h.told.2 in
+    let fails = ap (λ (s : StoreState). is_some s.calls.fails) h.told.2 ∙ tells h.told.0 h.told.1 in
+    subst IsTold (sym h.medium) (record { own = refl; store = fails; bytes = bytes })
+
+all_told : (f : FilesState) (ls : List DeviceLineData) (ds : List Device) → TellFails f ls → OpenEach (Some f) ls ds → Every (λ d. IsTold d.medium) ds
+all_told f [] [] tell h = tt
+all_told f [] (d ∷ ds) tell h = absurd h
+all_told f (l ∷ ls) [] tell h = absurd h
+all_told f (l ∷ ls) (d ∷ ds) tell h =
+    (subst (λ (x : Device). IsTold x.medium) (sym h.0.2) (is_told f l.config.kind l.config h.0.0 tell.0 h.0.1), all_told f ls ds tell.1 h.1)
+
+-- two replays have one text and one end, where a known one has the text of the first
+record IsAlike (s : ScenarioData) (ds es : List Device) (t u : List ℕ) (is : IsReplayOf Serves picture_of s.devices ds s.lines t) (it : IsReplayOf Serves picture_of s.devices es s.lines u) : Type 0 where
+  text : t ≡ u
+  ends : is.ends ≡ it.ends
+
+alike : (s : ScenarioData) (ds es : List Device) (t u : List ℕ) → Every (λ d. IsTold d.medium) ds → ds ≡ es → IsReplayOf ServesKnown picture_of s.devices ds s.lines t
+    → (is : IsReplayOf Serves picture_of s.devices ds s.lines t) → (it : IsReplayOf Serves picture_of s.devices es s.lines u) → IsAlike s ds es t u is it
+alike s ds es t u told same known is =
+    subst (λ (x : List Device). (it : IsReplayOf Serves picture_of s.devices x s.lines u) → IsAlike s ds x t u is it) same (λ it.
+    let mine = one_known_text picture_of s.devices s.lines ds t t told known is in
+    let other = one_known_text picture_of s.devices s.lines ds t u told known it in
+    record { text = other.text; ends = sym mine.ends ∙ other.ends })
+
+texts_alike : (f : FilesState) (t u : List ℕ) (s : ScenarioData) → TellFails f s.devices → (is : IsTextOf (Some f) s t) → IsKnown (Some f) s t is → (it : IsTextOf (Some f) s u)
+    → IsAlike s is.opened it.opened t u is.replay it.replay
+texts_alike f t u s tell is known it =
+    alike s is.opened it.opened t u (all_told f s.devices is.opened tell is.opens) (one_opening f s.devices is.opened it.opened is.opens it.opens) known is.replay it.replay
+
+pub has_one_known_text : HasOneKnownText
+has_one_known_text f s t u tell is known it = (texts_alike f t u s tell is known it).text
+
+-- what stands where a medium over a file left it is determined but for what is lost
+same_place_but : (m : MediumState) (p q : Place) → ShowsFile m → Holds m p → Holds m q → SamePlaceBut m.below.lost p q
+same_place_but m p q shows h k = (
+  h.0,
+  k.0,
+  h.1,
+  k.1,
+  record { bytes = holds_one m h.0.bytes k.0.bytes shows h.2.bytes k.2.bytes; calls = k.2.calls ∙ sym h.2.calls; syncs = k.2.syncs ∙ sym h.2.syncs },
+)
+
+same_files_but : (ls : List DeviceLineData) (ends : List Device) (f g h : FilesState) → ShowFiles ls ends → KeptFiles ls ends (Some f) (Some g) → KeptFiles ls ends (Some f) (Some h)
+    → SameFilesBut ls ends g h
+same_files_but ls ends f g h shows p q =
+    let count = (after_fetches (file_names ls) f).fetches in
+    let first : Kept ls ends count f g = subst (λ (x : FilesState). Kept ls ends count f x) (sym (same_some g p.0 p.1)) p.2 in
+    let other : Kept ls ends count f h = subst (λ (x : FilesState). Kept ls ends count f x) (sym (same_some h q.0 q.1)) q.2 in
+    record {
+      named = λ at l name e kind d found.
+          same_place_but d.medium (g.places name) (h.places name) (shows at l name e kind d found) (first.named at l name e kind d found) (other.named at l name e kind d found);
+      others = λ name e. other.others name e ∙ sym (first.others name e);
+      fails = other.fails ∙ sym first.fails;
+      fetches = other.fetches ∙ sym first.fetches;
+    }
+
+pub leaves_the_known_files : LeavesTheKnownFiles
+leaves_the_known_files f g h s t u tell is known it p q =
+    let ends = (texts_alike f t u s tell is known it).ends in
+    let kept = subst (λ (x : List Device). KeptFiles s.devices x (Some f) (Some h)) (sym ends) q in
+    let shows =
+    show_files f s.devices is.opened is.replay.ends (entries_in is.replay.printed) is.opens (legal_entries Serves picture_of is.opened is.replay.printed is.replay.ends is.replay.legal) in
+    (ends, same_files_but s.devices is.replay.ends f g h shows p kept)

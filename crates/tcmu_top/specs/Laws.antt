@@ -1,28 +1,32 @@
 -- Laws of what a replay and a load write: the texts over media in memory and over files, the completions of a journal, and the line of a load.
-use Rattle.std.specs.Prelude.{◌≡◌, ℕ, ◌+◌, ◌<◌, Bool, true, false, List, [], ◌∷◌, ◌++◌, length, map, Option, Some, Ok, slice_get}
+use Rattle.std.specs.Prelude.{◌≡◌, ℕ, ◌+◌, ◌<◌, Bool, true, false, List, [], ◌∷◌, ◌++◌, length, map, Option, Some, is_some, Ok, slice_get}
 use Rattle.std.specs.List.{filter, flat_map, count_by}
 use Rattle.tcmu_types.specs.Data.{CommandData, ReplyData, DoneData}
 use Rattle.tcmu_types.specs.Events.{AnswerData}
 use Rattle.tcmu_types.specs.Events as ev
 use Rattle.tcmu_types.specs.declared.answer.Submit.TheVariants as submit
 use Rattle.tcmu_types.specs.declared.answer.Handle.TheVariants as handle
-use Rattle.tcmu_model.specs.MediumState.{MediumState}
+use Rattle.tcmu_model.specs.MediumState.{Span, MediumState}
 use Rattle.tcmu_model.specs.Steps.{HandlerRelation}
+use Rattle.scsi_model.specs.ReadsLost.{ServesKnown}
+use Rattle.scsi_model.specs.Runs.{SameBut}
 use Rattle.scsi_model.specs.Scsi.{Serves}
-use Rattle.edge.specs.Stores.{Content, at_home, FilesState}
+use Rattle.edge.specs.Stores.{Content, Place, at_home, FilesState}
 use Rattle.load_run.specs.Loading.{IsLoadText}
 use Rattle.tcmu_model.specs.Device.{Device}
 use Rattle.text_model.specs.Config.{MediumData, InMemory, InFile}
 use Rattle.text_model.specs.Printed.{entries_in}
 use Rattle.text_model.specs.ScenarioData.{DeviceLineData, ScenarioData}
 use Rattle.text_model.specs.Scenario.{scenario_of}
+use Rattle.text_model.specs.Several.{IsReplayOf}
+use Rattle.region_model.specs.Picture.{picture_of}
 use Rattle.tcmu_model.specs.Sound.{open_count, times_logged, times_open}
 use Rattle.tcmu_model.specs.Journals.{WasAccepted, IsExplained, IsExplainedAt, WasAsked}
 use Rattle.text_model.specs.Journals.{Journaled, is_of, entries_of}
 use Rattle.tcmu_types.specs.Numbers.{Differ}
 use Rattle.tcmu_types.specs.Lists.{Every}
 use Rattle.text_laws.specs.InMemory as memory
-use Rattle.tcmu_top.specs.Opened.{SameFiles, KeptFiles}
+use Rattle.tcmu_top.specs.Opened.{EachFile, SameOthers, SameFiles, KeptFiles}
 use Rattle.tcmu_top.specs.Top.{IsTextOf}
 
 -- ==== texts over media in memory
@@ -40,6 +44,52 @@ TextsAgree =
     (files : Option FilesState) (s : ScenarioData) (text : List ℕ) → LieInMemory s.devices
     → (IsTextOf files s text → memory.IsTextInMemory s text) × (memory.IsTextInMemory s text → IsTextOf files s text)
 
+-- ==== texts over files whose stores tell which calls fail
+
+-- where the file of a device line stands, its store tells which of its calls fail
+abbrev pub TellsFails : FilesState → MediumData → Type 0
+TellsFails f (InMemory blocks) = Unit {0}
+TellsFails f (InFile name) = (content : Content) → f.places name ≡ at_home content → is_some content.calls.fails ≡ true
+
+abbrev pub TellFails : FilesState → List DeviceLineData → Type 0
+TellFails f ls = Every (λ l. TellsFails f l.config.kind) ls
+
+-- A text is known: it is that of a replay on these devices none of whose requests reads or compares a byte that is lost.
+abbrev pub IsKnown : (files : Option FilesState) (s : ScenarioData) (text : List ℕ) → IsTextOf files s text → Type 0
+IsKnown files s text is = IsReplayOf ServesKnown picture_of s.devices is.opened s.lines text
+
+-- Over such files a scenario that has a known text has no other, whichever calls fail: of the stores, and of those that its device lines list.
+abbrev pub HasOneKnownText : Type 0
+HasOneKnownText =
+    (f : FilesState) (s : ScenarioData) (t u : List ℕ)
+    → TellFails f s.devices → (is : IsTextOf (Some f) s t) → IsKnown (Some f) s t is → IsTextOf (Some f) s u → t ≡ u
+
+-- two contents with the same calls and syncs, whose bytes are the same outside of a range
+pub record SameContentBut (lost : Span) (a b : Content) : Type 0 where
+  pub bytes : SameBut lost a.bytes b.bytes
+  pub calls : b.calls ≡ a.calls
+  pub syncs : b.syncs ≡ a.syncs
+
+-- such contents stand at two places
+abbrev pub SamePlaceBut : Span → Place → Place → Type 0
+SamePlaceBut lost p q = (a b : Content) × (p ≡ at_home a) × (q ≡ at_home b) × SameContentBut lost a b
+
+-- The file of each device line is the same outside of the range that its device's medium has lost at the end, and each other file is the same.
+-- As many fetches were made.
+pub record SameFilesBut (ls : List DeviceLineData) (ends : List Device) (f f' : FilesState) : Type 0 where
+  pub named : EachFile ls (λ at name. (d : Device) → slice_get ends at ≡ Some d → SamePlaceBut d.medium.below.lost (f.places name) (f'.places name))
+  pub others : SameOthers ls f f'
+  pub fails : f'.fails ≡ f.fails
+  pub fetches : f'.fetches ≡ f.fetches
+
+-- And all its replays end alike, and leave the same files outside of what is lost at the end.
+abbrev pub LeavesTheKnownFiles : Type 0
+LeavesTheKnownFiles =
+    (f g h : FilesState) (s : ScenarioData) (t u : List ℕ)
+    → TellFails f s.devices → (is : IsTextOf (Some f) s t) → IsKnown (Some f) s t is → (it : IsTextOf (Some f) s u)
+    → KeptFiles s.devices is.replay.ends (Some f) (Some g) → KeptFiles s.devices it.replay.ends (Some f) (Some h)
+    → (is.replay.ends ≡ it.replay.ends) × SameFilesBut s.devices is.replay.ends g h
+
 -- ==== texts over files whose stores list no failing call
 
 -- where the file of a device line stands, its store lists none
@@ -50,11 +100,9 @@ ListsNone f (InFile name) = (content : Content) → f.places name ≡ at_home co
 abbrev pub ListNone : FilesState → List DeviceLineData → Type 0
 ListNone f ls = Every (λ l. ListsNone f l.config.kind) ls
 
--- Over such files a scenario has one text, whichever calls of their own its device lines list.
-abbrev pub HasOneTextOverFiles : Type 0
-HasOneTextOverFiles =
-    (f : FilesState) (bytes t u : List ℕ) (s : ScenarioData)
-    → scenario_of bytes ≡ Ok s → ListNone f s.devices → IsTextOf (Some f) s t → IsTextOf (Some f) s u → t ≡ u
+-- Over such files every text of a scenario is known, whichever calls of their own its device lines list.
+abbrev pub AreKnown : Type 0
+AreKnown = (f : FilesState) (s : ScenarioData) (t : List ℕ) → ListNone f s.devices → (is : IsTextOf (Some f) s t) → IsKnown (Some f) s t is
 
 -- And all its replays leave the same files.
 abbrev pub LeavesTheSameFiles : Type 0

@@ -1,6 +1,6 @@
 //! The laws of texts: what holds of the text of every scenario over media in memory and over files, of the completions in the journal of every
 //! scenario, and of the line of every load.
-ghost use Rattle.tcmu_top.specs.Laws.{TextsAgree, HasOneJournal, HasOneTextOverFiles, LeavesTheSameFiles, CommandsComplete, DevicesStay, HasOneLine};
+ghost use Rattle.tcmu_top.specs.Laws.{TextsAgree, HasOneJournal, HasOneKnownText, LeavesTheKnownFiles, AreKnown, LeavesTheSameFiles, CommandsComplete, DevicesStay, HasOneLine};
 ghost use Rattle.text_laws.specs.InMemory.{LawOfReplay, LawOfJournals, HasOneText};
 
 /// The law of replay. The text of a replay without dumps is a scenario where it has at most 4,194,304 bytes and the replay has at
@@ -27,12 +27,15 @@ pub fn memory_law()
     ensures { TextsAgree }
 {}
 
-/// Over files that tell, where the store of no device line's file lists a failing call, the text of a scenario's replay is a function of
-/// the scenario's bytes and of the files, and so is what the files hold behind it: nothing of such a file is ever lost. A device line may
-/// be protected, or list failing calls of its own.
+/// Over files that tell, whose stores tell which of their calls fail, the text of a scenario's replay is a function of the scenario and of the
+/// files, as long as no request of one replay reads or compares what failed calls have lost. So is what the files hold behind it, outside of
+/// the ranges that are lost then. Where no store of a device line's file lists a failing call, no request ever does, and the whole files are. A
+/// device line may be protected, or list failing calls of its own.
 pub fn files_law()
-    ensures text { HasOneTextOverFiles }
-    ensures files { LeavesTheSameFiles }
+    ensures text { HasOneKnownText }
+    ensures files { LeavesTheKnownFiles }
+    ensures lossless_text { AreKnown }
+    ensures lossless_files { LeavesTheSameFiles }
 {}
 
 /// In the journal of a replay, whatever the files, each command that a device accepted completes once, or is open as the end line
