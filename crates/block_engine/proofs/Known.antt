@@ -9,4 +9,4 @@ one_known_reply name m r first second one other told known any =
 
 pub knows_without_loss : KnowsWithoutLoss
 knows_without_loss name m r reply after k served =
-    ((reads_nothing_lost m r k.lost, served), (one_reply_without_loss name m r reply reply after after k served served).2)
+    ((reads_nothing_lost m r k.lossless.lost, served), (one_reply_without_loss name m r reply reply after after k served served).2)

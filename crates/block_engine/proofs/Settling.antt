@@ -1,6 +1,6 @@
 -- What each part of a request's meaning settles: it has an outcome; under a premise it has only one; and it leaves the medium behind a run
 -- of calls.
-use Rattle.std.proofs.Common.{◌∙◌, ◌≡◌, ◌⊎◌, inl, inr, ℕ, zero, ◌+◌, ◌*◌, ◌%◌, ◌<◌, ◌≤◌, ◌==◌, min, Bool, true, false, List, [], ◌∷◌, length, take, drop, sym, ap, subst, refl, arith, Option, Some, None, IfSome, is_some, MatchOption, Result, Ok, Err, MatchResult, nat_eq, nat_lt, not, if◌then◌else◌, ⊎_elim}
+use Rattle.std.proofs.Common.{◌∙◌, ◌≡◌, ◌⊎◌, inl, inr, ℕ, ◌+◌, ◌*◌, ◌%◌, ◌<◌, ◌≤◌, ◌==◌, min, Bool, true, false, List, [], ◌∷◌, length, take, drop, sym, ap, subst, refl, arith, Option, Some, None, IfSome, is_some, MatchOption, Result, Ok, Err, MatchResult, nat_eq, nat_lt, not, if◌then◌else◌, ⊎_elim, replicate}
 use Rattle.std.specs.Bool.{MatchBool}
 use Rattle.std.specs.List.{list_all, list_any}
 use Rattle.std.proofs.lemmas.List.{length-take, length-drop, length-replicate}
@@ -9,7 +9,7 @@ use Rattle.std.proofs.lemmas.Bool.{cases_Bool, and_parts, or_parts, eqb-true}
 use Rattle.tcmu_types.specs.Data.{SenseData, ReplyData}
 use Rattle.tcmu_types.specs.Rules.{IsReply}
 use Rattle.tcmu_model.specs.MediumState.{Span, memory, file, MediumState}
-use Rattle.scsi_model.specs.Medium.{span_of, lies_in, Reads, Writes, Fills, Syncs, zeros, empty_span, memory_state}
+use Rattle.scsi_model.specs.Medium.{span_of, lies_in, Reads, Writes, Fills, Syncs, empty_span, memory_state}
 use Rattle.scsi_model.specs.Runs.{read, write, fill, sync, IsRun, clean}
 use Rattle.scsi_model.specs.ReadsLost.{span_behind, span_looked_at, span_asked_for, overlap}
 use Rattle.scsi_model.proofs.Running.{run_none, run_then, runs_keep}
@@ -38,16 +38,16 @@ tells_after m a r t = let s = runs_keep m a r in record { own = ap is_some s.own
 unmaps_one_sure : (e : Extent) (m : MediumState) → IsSure m (UnmapsOne e m)
 unmaps_one_sure e m = by (e.count == 0)
   where
-    by : (c : Bool) → IsSure m (λ failed after. MatchBool c ((failed ≡ false) × (after ≡ m)) (Fills (512 * e.lba) (zeros 512) e.count m failed after))
+    by : (c : Bool) → IsSure m (λ failed after. MatchBool c ((failed ≡ false) × (after ≡ m)) (Fills (512 * e.lba) (replicate 512 0) e.count m failed after))
     by true = record { some = (false, m, (refl, refl)); one = λ f g a b t x y. (x.0 ∙ sym y.0, x.1 ∙ sym y.1) }
-    by false = let s = fills_sure (512 * e.lba) (zeros 512) e.count m in record { some = s.some; one = s.one }
+    by false = let s = fills_sure (512 * e.lba) (replicate 512 0) e.count m in record { some = s.some; one = s.one }
 
 unmaps_one_runs : (e : Extent) (m : MediumState) (f : Bool) (a : MediumState) → e.lba + e.count ≤ m.blocks → UnmapsOne e m f a → IsRun m a
 unmaps_one_runs e m f a fits x = by (e.count == 0) x
   where
-    by : (c : Bool) → MatchBool c ((f ≡ false) × (a ≡ m)) (Fills (512 * e.lba) (zeros 512) e.count m f a) → IsRun m a
+    by : (c : Bool) → MatchBool c ((f ≡ false) × (a ≡ m)) (Fills (512 * e.lba) (replicate 512 0) e.count m f a) → IsRun m a
     by true x = subst (IsRun m) (sym x.1) (run_none m)
-    by false x = call_runs (fill (512 * e.lba) (zeros 512) e.count) m f a (omega (arith, fits), omega arith, length-replicate {A = ℕ} 512 0) x
+    by false x = call_runs (fill (512 * e.lba) (replicate 512 0) e.count) m f a (omega (arith, fits), omega arith, length-replicate {A = ℕ} 512 0) x
 
 -- one descriptor, and those behind it
 unmaps_more : (e : Extent) (rest : List Extent) (m : MediumState) → e.lba + e.count ≤ m.blocks → ((k : MediumState) → k.blocks ≡ m.blocks → IsSure k (Unmaps rest k)) → IsSure m (Unmaps (e ∷ rest) m)
@@ -444,14 +444,14 @@ one_reply_in_memory name blocks bytes calls r first second one other x y =
 
 pub one_reply_without_loss : OneReplyWithoutLoss
 one_reply_without_loss name m r first second one other k x y =
-    let same = one_reply name m r first second one other k.told (reads_nothing_lost m r k.lost) x y in
-    let stays = runs_stay_lossless m one (request_runs name m r first one x) (record { place = k.place; lost = k.lost }) in
-    (same.0, same.1, record { told = stays_told name m r first one k.told x; place = stays.place; lost = stays.lost })
+    let same = one_reply name m r first second one other k.told (reads_nothing_lost m r k.lossless.lost) x y in
+    let stays = runs_stay_lossless m one (request_runs name m r first one x) k.lossless in
+    (same.0, same.1, record { told = stays_told name m r first one k.told x; lossless = stays })
 
 pub stays_in_memory : StaysInMemory
 stays_in_memory name m r first second one other k x y =
-    let all = one_reply_without_loss name m r first second one other (record { told = k.told; place = inl k.layer; lost = k.lost }) x y in
-    (all.0, all.1, record { told = all.2.told; layer = in_memory one all.2.place (runs_keep m one (request_runs name m r first one x)).layer; lost = all.2.lost })
+    let all = one_reply_without_loss name m r first second one other (record { told = k.told; lossless = record { place = inl k.layer; lost = k.lost } }) x y in
+    (all.0, all.1, record { told = all.2.told; layer = in_memory one all.2.lossless.place (runs_keep m one (request_runs name m r first one x)).layer; lost = all.2.lossless.lost })
   where
     in_memory : (a : MediumState) → (a.below.layer ≡ memory) ⊎ ((a.below.layer ≡ file) × (a.below.store.calls.fails ≡ Some [])) → clean a.below.layer ≡ clean m.below.layer → a.below.layer ≡ memory
     in_memory a (inl e) same = e

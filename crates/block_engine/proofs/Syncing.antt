@@ -4,7 +4,6 @@ use Rattle.tcmu_types.specs.Data.{SenseData, ReplyData}
 use Rattle.tcmu_model.specs.MediumState.{MediumState}
 use Rattle.scsi_model.specs.Medium.{Syncs}
 use Rattle.scsi_model.specs.Runs.{IsSynced}
-use Rattle.scsi_model.specs.Decoding.{decoded}
 use Rattle.scsi_model.specs.Senses.{write_error}
 use Rattle.scsi_model.specs.Scsi.{Answers, Calls, first_failed, range_checks, good, refused, ServesOp}
 use Rattle.scsi_model.specs.declared.op.Op.{Op}

@@ -1,5 +1,5 @@
 -- Bytes that are read: there are some as a medium tells them, and no others where none of them is lost.
-use Rattle.std.proofs.Common.{◌∙◌, ◌≡◌, ℕ, zero, suc, ◌+◌, ◌<◌, ◌≤◌, Bool, true, false, List, [], ◌∷◌, length, sym, ap, refl, arith, Option, Some, None, IfSome, is_some, slice_index, ⊎_elim}
+use Rattle.std.proofs.Common.{◌∙◌, ◌≡◌, ℕ, zero, suc, ◌+◌, ◌<◌, ◌≤◌, true, false, List, [], ◌∷◌, length, sym, ap, refl, arith, Option, Some, None, IfSome, is_some, slice_index, ⊎_elim}
 use Rattle.std.proofs.lemmas.Bool.{cases_lt}
 use Rattle.std.proofs.lemmas.Option.{slice_get_past}
 use Rattle.tcmu_types.proofs.Places.{same_list, get_from_index}

@@ -1,9 +1,9 @@
 -- Block descriptors, one after the other.
-use Rattle.std.proofs.Common.{◌≡◌, ◌≢◌, ℕ, zero, suc, ◌+◌, ◌-◌, ◌*◌, ◌<◌, ◌==◌, Bool, false, List, [], ◌∷◌, ◌++◌, ap, sym, subst, ◌∙◌, arith, append_assoc}
+use Rattle.std.proofs.Common.{◌≡◌, ◌≢◌, ℕ, zero, suc, ◌+◌, ◌-◌, ◌*◌, ◌<◌, ◌==◌, Bool, false, List, [], ◌∷◌, ◌++◌, ap, sym, subst, ◌∙◌, arith, append_assoc, replicate}
 use Rattle.byteorder.specs.Endian.{big_from}
 use Rattle.scsi_model.specs.declared.op.Extent.{Extent}
 use Rattle.tcmu_model.specs.MediumState.{MediumState}
-use Rattle.scsi_model.specs.Medium.{Fills, zeros}
+use Rattle.scsi_model.specs.Medium.{Fills}
 use Rattle.scsi_model.specs.Scsi.{extents_from, UnmapsOne, Unmaps}
 
 abbrev pub extent_at : ℕ → List ℕ → Extent
@@ -30,10 +30,10 @@ extents_pushed k n lba count list new all bytes h a b p e = rw p (rw a (rw b (ex
 
 -- a range that has blocks is filled
 pub unmaps_filled : (e : Extent) (count : ℕ) (m after : MediumState) (failed : Bool) → e.count ≢ 0 → count ≡ e.count
-    → Fills (512 * e.lba) (zeros 512) count m failed after → UnmapsOne e m failed after
+    → Fills (512 * e.lba) (replicate 512 0) count m failed after → UnmapsOne e m failed after
 unmaps_filled e count m after failed h c fills =
     let some : (e.count == 0) ≡ false = grind (arith, h) in
-    let here : Fills (512 * e.lba) (zeros 512) e.count m failed after = subst (λ k. Fills (512 * e.lba) (zeros 512) k m failed after) c fills in
+    let here : Fills (512 * e.lba) (replicate 512 0) e.count m failed after = subst (λ k. Fills (512 * e.lba) (replicate 512 0) k m failed after) c fills in
     rw some here
 
 -- what is known of the rest of a list, and goes on for all of it

@@ -1,10 +1,10 @@
 -- What is determined: by a request, and the medium before it.
-use Rattle.std.specs.Prelude.{◌≡◌, ◌⊎◌, ℕ, ◌≤◌, length, true, false, List, [], Some, is_some}
+use Rattle.std.specs.Prelude.{◌≡◌, ◌⊎◌, ℕ, ◌≤◌, length, true, false, List, is_some}
 use Rattle.tcmu_types.specs.Data.{ReplyData}
 use Rattle.tcmu_types.specs.Rules.{IsReply}
-use Rattle.tcmu_model.specs.MediumState.{MediumState, memory, file}
+use Rattle.tcmu_model.specs.MediumState.{MediumState, memory}
 use Rattle.scsi_model.specs.Medium.{empty_span, memory_state}
-use Rattle.scsi_model.specs.Runs.{IsRun}
+use Rattle.scsi_model.specs.Runs.{IsRun, IsLossless}
 use Rattle.scsi_model.specs.ReadsLost.{reads_lost, ServesKnown}
 use Rattle.tcmu_model.specs.Steps.{Asked}
 use Rattle.scsi_model.specs.Scsi.{Serves}
@@ -59,8 +59,7 @@ StaysInMemory =
 -- whose store lists no failing call; which of its own calls fail may be listed.
 pub record LosesNothing (m : MediumState) : Type 0 where
   pub told : IsTold m
-  pub place : (m.below.layer ≡ memory) ⊎ ((m.below.layer ≡ file) × (m.below.store.calls.fails ≡ Some []))
-  pub lost : m.below.lost ≡ empty_span
+  pub lossless : IsLossless m
 
 -- a request of such a medium has one reply, and leaves one medium, which is such a medium again
 abbrev pub OneReplyWithoutLoss : Type 0

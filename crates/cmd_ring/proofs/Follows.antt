@@ -2,7 +2,8 @@
 use Rattle.std.proofs.Common.{◌≡◌, ℕ, ◌-◌, ◌%◌, ◌≤◌, Bool, true, false, cond, eqb, ltb, List, [], ◌∷◌, ◌++◌, length, take, drop, refl, subst, arith, length-append, suc, zero}
 use Rattle.tcmu_model.specs.RingState.{RingState, Item, lengths, pads, empty_ring, with_item}
 use Rattle.tcmu_model.specs.RingState as ring
-use Rattle.cmd_ring.specs.Places.{RingPlaces, IsRingSize, opened, places_of}
+use Rattle.cmd_ring.specs.Places.{RingPlaces, opened, places_of}
+use Rattle.tcmu_types.specs.Rules.{IsRingSize}
 use Rattle.cmd_ring.specs.Calls.{RingCall, Lay, Clear, Reset, ring_after, places_after, IsAllowed, AllAllowed, IsMet, Follows}
 use Rattle.cmd_ring.proofs.Rest.{size-words, rest-words}
 use Rattle.cmd_ring.proofs.Laid.{laying, clearing, lengths-cleared}

@@ -3,7 +3,8 @@ use Rattle.std.proofs.Common.{◌≡◌, ℕ, ◌+◌, ◌-◌, ◌%◌, ◌≤�
 use Rattle.std.proofs.Math.Nat.{mod-add-mod, mod-mod_of_dvd}
 use Rattle.std.proofs.lemmas.Nat.Gcd.{dvd_of_mod-eq-zero}
 use Rattle.std.proofs.lemmas.Bool.{leb-true}
-use Rattle.cmd_ring.specs.Places.{RingPlaces, IsRing, IsRingSize, IsItemLength, pad, fits, placed}
+use Rattle.cmd_ring.specs.Places.{RingPlaces, IsRing, IsItemLength, pad, fits, placed}
+use Rattle.tcmu_types.specs.Rules.{IsRingSize}
 
 -- the ring is made of words of 8 bytes
 pub size-words : (size : ℕ) → IsRingSize size → size % 8 ≡ 0

@@ -1,6 +1,7 @@
 -- What the target keeps of its command ring: the size and three places, in bytes. The bytes from `cleaned` on are in use, `used` of
 -- them, round the ring's end; the next item begins at the head, behind them.
 use Rattle.std.specs.Prelude.{◌≡◌, ℕ, ◌+◌, ◌-◌, ◌*◌, ◌%◌, ◌≤◌, ◌<◌, ◌==◌, nat_lt, nat_le, Bool, take, Some, None, if◌then◌else◌}
+use Rattle.tcmu_types.specs.Rules.{IsRingSize}
 use Rattle.cmd_ring.specs.declared.ring.Room.{Room}
 use Rattle.cmd_ring.specs.declared.ring.Room.TheVariants.{Fits, FitsAfterPad, Lacks}
 use Rattle.cmd_ring.specs.declared.ring.Place.{Place}
@@ -12,12 +13,6 @@ pub record RingPlaces : Type 0 where
   pub head : ℕ
   pub cleaned : ℕ
   pub used : ℕ
-
--- the sizes that a ring can have: whole pages, up to 4 MiB
-pub record IsRingSize (size : ℕ) : Type 0 where
-  pub least : 4096 ≤ size
-  pub most : size ≤ 4194304
-  pub pages : size % 4096 ≡ 0
 
 -- the lengths that an item can have: whole words of 8 bytes, up to half the ring
 pub record IsItemLength (size n : ℕ) : Type 0 where

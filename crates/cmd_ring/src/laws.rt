@@ -2,7 +2,8 @@
 ghost use Rattle.std.specs.Prelude.{◌≡◌, ℕ, ◌+◌, ◌≤◌, List, length};
 ghost use Rattle.tcmu_model.specs.RingState.{RingState, Item, empty_ring, with_item};
 ghost use Rattle.tcmu_model.specs.RingState as ring;
-ghost use Rattle.cmd_ring.specs.Places.{IsRingSize, free, pad, need, fits, opened, placed, advanced, places_of};
+ghost use Rattle.cmd_ring.specs.Places.{free, pad, need, fits, opened, placed, advanced, places_of};
+ghost use Rattle.tcmu_types.specs.Rules.{IsRingSize};
 ghost use Rattle.cmd_ring.specs.Calls.{RingCall, AllAllowed, Follows, oldest};
 
 /// The numbers of a `Ring` are those of the ring's state, for every list of calls behind `new` in which each item is laid where

@@ -1,6 +1,7 @@
 //! The ring's places.
 ghost use Rattle.std.specs.Prelude.{◌≡◌, ◌+◌, ◌%◌, ◌≤◌, IsTrue, IfSome};
-ghost use Rattle.cmd_ring.specs.Places.{IsRing, IsRingSize, IsItemLength, free, pad, fits, room_of, opened, place_of, placed, advanced};
+ghost use Rattle.cmd_ring.specs.Places.{IsRing, IsItemLength, free, pad, fits, room_of, opened, place_of, placed, advanced};
+ghost use Rattle.tcmu_types.specs.Rules.{IsRingSize};
 
 use std::marker::Model;
 

@@ -126,14 +126,7 @@ fn numbers_of(alloc: Global, at: u8, high: u64, text: &[u8]) -> Result<Option<Ve
 fn is_rising(numbers: &[u64]) -> bool
     ensures { result ≡ is_rising numbers.now }
 {
-    let mut i = 1;
-    while i < numbers.len() {
-        if numbers[i - 1] >= numbers[i] {
-            return false;
-        }
-        i += 1;
-    }
-    true
+    numbers.is_sorted_by(|before, next| *before < *next)
 }
 
 /// 1 to 64 rising numbers from 1 to `high`, with such a byte between them; None where the text is none.

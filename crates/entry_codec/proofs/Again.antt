@@ -6,7 +6,8 @@ use Rattle.tcmu_types.specs.Data.{ReplyData}
 use Rattle.tcmu_types.specs.declared.iovec.Iov.{Iov}
 use Rattle.tcmu_model.specs.Lengths.{tmr_length}
 use Rattle.region_model.specs.Layout.{entry_header, command_bytes, command_length, pad_bytes, tmr_bytes, ids_bytes, answer_bytes, with_response, sense_buffer}
-use Rattle.tcmu_types.specs.ByteFields.{le, put, zeros, padded, field}
+use Rattle.tcmu_types.specs.ByteFields.{le, put, padded, field}
+use Rattle.tcmu_types.specs.Overwriting.{zeros}
 use Rattle.region_model.specs.EntryReading.{iov_at, tmr_id_at, response_at, limit_of, entry_read}
 use Rattle.region_model.specs.EntryWriting.{IsRequest}
 use Rattle.region_model.specs.UserNext.{iovs_in}

@@ -3,7 +3,8 @@ use Rattle.std.proofs.Common.{◌≡◌, ℕ, ◌+◌, ◌-◌, ◌*◌, ◌≤�
 use Rattle.tcmu_types.specs.declared.iovec.Iov.{Iov}
 use Rattle.tcmu_model.specs.Lengths.{round_up, tmr_length}
 use Rattle.region_model.specs.Layout.{entry_header, command_head, command_bytes, command_length, cdb_place, tmr_bytes, iovs_bytes, ids_bytes}
-use Rattle.tcmu_types.specs.ByteFields.{le, put, zeros, padded}
+use Rattle.tcmu_types.specs.ByteFields.{le, put, padded}
+use Rattle.tcmu_types.specs.Overwriting.{zeros}
 use Rattle.tcmu_types.proofs.ByteFields.{lengths, then_put, padded-is, length-padded}
 use Rattle.region_model.proofs.HeaderLengths.{length-entry_header, length-command_head}
 use Rattle.region_model.proofs.PartLengths.{length-iovs_bytes, length-ids_bytes}

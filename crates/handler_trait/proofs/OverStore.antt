@@ -1,10 +1,9 @@
 -- What a call of a store leaves of it, as it stands below a medium.
-use Rattle.std.proofs.Common.{◌≡◌, ℕ, ◌+◌, ◌/◌, ◌%◌, ◌≤◌, Bool, List, length, ap, refl, Option, Some, None, IfSome, Result, Ok, Err, OnOk, OnErr, is_err}
+use Rattle.std.proofs.Common.{◌≡◌, ℕ, ◌+◌, ◌/◌, ◌%◌, ◌≤◌, Bool, List, length, ap, refl, Option, Some, None, IfSome, Result, Ok, Err, OnOk, OnErr, is_err, replicate}
 use Rattle.std.specs.Option.{option_map}
 use Rattle.tcmu_types.specs.Numbered.{ComesOut, one_more, next_call}
 use Rattle.tcmu_types.specs.Overwriting.{overwritten}
 use Rattle.scsi_model.specs.Base.{without_blocks, with_blocks, stored, spoiled, AsksStore, SyncsStore, WritesStore}
-use Rattle.scsi_model.specs.Medium.{zeros}
 use Rattle.scsi_model.specs.Base.{zeroed}
 use Rattle.scsi_model.proofs.Cleared.{cleared_put, cleared_spoiled}
 use Rattle.edge.specs.Stores.{StoreState, Puts, Spoils}
@@ -26,7 +25,7 @@ same_put at n piece free None a b long fits = refl
 same_put at n piece free (Some xs) a b long fits = ap (λ (ys : List ℕ). Some ys) (cleared_put at piece free xs a b (rw long fits))
 
 same_spoiled : (at n k : ℕ) (junk free : List ℕ) (old : Option (List ℕ)) → at % 512 ≡ 0 → k % 512 ≡ 0 → length junk ≡ k → IfSome old (λ xs. length xs ≡ n) → at + k ≤ n
-    → option_map (zeroed (with_blocks (at / 512) (k / 512) free)) (option_map (overwritten at junk) old) ≡ option_map (overwritten at (zeros k)) (option_map (zeroed free) old)
+    → option_map (zeroed (with_blocks (at / 512) (k / 512) free)) (option_map (overwritten at junk) old) ≡ option_map (overwritten at (replicate k 0)) (option_map (zeroed free) old)
 same_spoiled at n k junk free None a b l long fits = refl
 same_spoiled at n k junk free (Some xs) a b l long fits = ap (λ (ys : List ℕ). Some ys) (cleared_spoiled at k junk free xs a b l (rw long fits))
 

@@ -1,6 +1,7 @@
 //! Data blocks as values.
 ghost use Rattle.std.specs.Prelude.{◌≡◌, ℕ, ◌+◌, ◌-◌, ◌≤◌, ◌<◌, min, [], ◌∷◌, ◌++◌, List, length, take, IfOk, OnOk, IsSome, option_to_list, ◌↔◌};
-ghost use Rattle.tcmu_types.specs.ByteFields.{zeros, put};
+ghost use Rattle.tcmu_types.specs.ByteFields.{put};
+ghost use Rattle.tcmu_types.specs.Overwriting.{zeros};
 ghost use Rattle.region_model.specs.Iovecs.{scattered, gathered, room_of};
 
 use std::alloc::Global;
@@ -9,7 +10,7 @@ use tcmu_types::NoMemory;
 use tcmu_types::little_endian::put_bytes;
 
 /// Makes bytes zero.
-#[tactic(auto, unfolding(tcmu_types::specs::ByteFields::zeros))]
+#[tactic(auto, unfolding(tcmu_types::specs::Overwriting::zeros))]
 fn clear_bytes(bytes: &mut [u8], count: usize)
     requires { count ≡ length bytes.old }
     ensures { bytes.new ≡ zeros count }
@@ -36,7 +37,7 @@ impl Block {
     ghost use Rattle.iovec_scatter.specs.Lends.{LendsBytes};
 
     /// A block of `len` bytes, all zero.
-    #[tactic(auto, unfolding(tcmu_types::specs::ByteFields::zeros))]
+    #[tactic(auto, unfolding(tcmu_types::specs::Overwriting::zeros))]
     pub fn zeros(alloc: Global, len: usize) -> Result<Block, NoMemory>
         ensures { IfOk result (λ b. b ≡ zeros len) }
     {

@@ -127,9 +127,7 @@ device_is =
       };
       config_name = refl;
       settings = record {
-        ring_low = omega arith;
-        ring_high = omega arith;
-        ring_pages = refl;
+        ring = record { least = omega arith; most = omega arith; pages = refl };
         blocks_low = omega arith;
         pages_low = omega arith;
         pages_high = omega arith;

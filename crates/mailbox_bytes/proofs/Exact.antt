@@ -9,7 +9,8 @@ use Rattle.region_model.proofs.RingSizes.{is_ring_sized}
 use Rattle.region_model.specs.declared.mailbox.Mailbox.{Mailbox}
 use Rattle.region_model.specs.declared.mailbox.MailboxFault.{MailboxFault}
 use Rattle.region_model.specs.declared.mailbox.MailboxFault.TheVariants.{Short, Version, Offset, Size, Unaligned, OutOfRing}
-use Rattle.region_model.specs.MailboxReading.{mailbox_in, mailbox_read, judged, is_ring_size, IsRingSize, HeadElseTail, BreaksMailbox, mailbox_rank, IsFirstMailboxFault, ReadsMailbox, IsMailbox}
+use Rattle.region_model.specs.MailboxReading.{mailbox_in, mailbox_read, judged, is_ring_size, HeadElseTail, BreaksMailbox, mailbox_rank, IsFirstMailboxFault, ReadsMailbox, IsMailbox}
+use Rattle.tcmu_types.specs.Rules.{IsRingSize}
 
 -- a rule that is kept, where it stands before place n, is not the one broken
 pub kept : (k n : ℕ) → (k < n → ⊥) → n ≤ k

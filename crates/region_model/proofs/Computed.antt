@@ -1,7 +1,8 @@
 -- The definitions give what the worked examples say.
 use Rattle.std.proofs.Common.{refl}
 use Rattle.region_model.specs.Layout.{mailbox_bytes, entry_header, pad_bytes, command_head, command_bytes, tmr_bytes, answer_bytes}
-use Rattle.tcmu_types.specs.ByteFields.{le, field, zeros, padded, put}
+use Rattle.tcmu_types.specs.ByteFields.{le, field, padded, put}
+use Rattle.tcmu_types.specs.Overwriting.{zeros}
 use Rattle.region_model.specs.Iovecs.{merged, iovs_along}
 use Rattle.region_model.specs.EntryReading.{response_at, tmr_id_at, iov_at, first_outside, cdb_at, command_read, tmr_read, limit_of, least_of, kind_read, sized_read, entry_read}
 use Rattle.region_model.specs.MailboxReading.{mailbox_in, judged, mailbox_read}

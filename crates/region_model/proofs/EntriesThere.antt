@@ -8,7 +8,8 @@ use Rattle.tcmu_types.specs.Rules.{group_length, IsCdb}
 use Rattle.tcmu_types.specs.declared.iovec.Iov.{Iov}
 use Rattle.tcmu_model.specs.Lengths.{round_up, tmr_length}
 use Rattle.region_model.specs.Layout.{entry_header, command_head, command_bytes, command_length, cdb_place, pad_bytes, tmr_bytes, iovs_bytes, ids_bytes}
-use Rattle.tcmu_types.specs.ByteFields.{le, zeros, padded, field}
+use Rattle.tcmu_types.specs.ByteFields.{le, padded, field}
+use Rattle.tcmu_types.specs.Overwriting.{zeros}
 use Rattle.region_model.specs.EntryReading.{iov_at, tmr_id_at, lies_inside, first_outside, cdb_at, command_read, tmr_read, limit_of, least_of, kind_read, sized_read, entry_read}
 use Rattle.region_model.specs.declared.mailbox.Mailbox.{Mailbox}
 use Rattle.region_model.specs.declared.entry.EntryRef.TheVariants.{Pad, Cmd, Tmr}

@@ -11,7 +11,8 @@ use Rattle.tcmu_model.specs.Device.{Unfinished}
 use Rattle.tcmu_model.specs.Lengths.{tmr_length, round_up}
 use Rattle.tcmu_model.specs.Sound.{ReplyFits}
 use Rattle.region_model.specs.Layout.{entry_header, command_head, command_bytes, command_length, cdb_place, ring_start, mailbox_bytes, device_mailbox, data_start, pad_bytes, iovs_bytes, ids_bytes, tmr_bytes, sense_buffer, answer_bytes, response_bytes}
-use Rattle.tcmu_types.specs.ByteFields.{le, field, zeros, padded}
+use Rattle.tcmu_types.specs.ByteFields.{le, field, padded}
+use Rattle.tcmu_types.specs.Overwriting.{zeros}
 use Rattle.region_model.specs.MailboxReading.{mailbox_in, Fits}
 use Rattle.region_model.specs.Iovecs.{piece, merged, iovs_along}
 use Rattle.region_model.specs.Picture.{data_in, is_placed, payload_of}

@@ -1,6 +1,6 @@
 -- The data blocks of a command in a region's area: what stands along them, and bytes written along them.
 use Rattle.std.specs.Prelude.{◌≡◌, ℕ, List, [], ◌∷◌, ◌++◌, length, take, drop, slice_get, slice_set, Option, Some, None}
-use Rattle.tcmu_types.specs.ByteFields.{zeros}
+use Rattle.tcmu_types.specs.Overwriting.{zeros}
 use Rattle.region_model.specs.Regions.{home}
 
 -- the bytes of a block; one that is lent, or not there, reads as zeros

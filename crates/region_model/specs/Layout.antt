@@ -9,7 +9,8 @@ use Rattle.tcmu_types.specs.declared.settings.Flags.{Flags}
 use Rattle.tcmu_types.specs.declared.iovec.Iov.{Iov}
 use Rattle.tcmu_model.specs.Lengths.{round_up, tmr_length}
 use Rattle.region_model.specs.declared.mailbox.Mailbox.{Mailbox}
-use Rattle.tcmu_types.specs.ByteFields.{le, padded, put, zeros}
+use Rattle.tcmu_types.specs.ByteFields.{le, padded, put}
+use Rattle.tcmu_types.specs.Overwriting.{zeros}
 
 -- ==== numbers and bytes
 

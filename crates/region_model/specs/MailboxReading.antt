@@ -1,5 +1,6 @@
 -- What bytes read as a mailbox say, and what may be wrong with them.
 use Rattle.std.specs.Prelude.{◌≡◌, ◌≢◌, ◌⊎◌, ℕ, ◌%◌, ◌^◌, ◌&&◌, ◌≤◌, ◌<◌, ◌==◌, not, nat_lt, nat_le, Bool, List, length, Result, Ok, Err, MatchResult, if◌then◌else◌}
+use Rattle.tcmu_types.specs.Rules.{IsRingSize}
 use Rattle.region_model.specs.Layout.{mailbox_bytes, ring_start, head_place, tail_place}
 use Rattle.tcmu_types.specs.ByteFields.{field, put}
 use Rattle.region_model.specs.declared.mailbox.Mailbox.{Mailbox}
@@ -39,12 +40,6 @@ unfoldable pub mailbox_read : List ℕ → Result Mailbox MailboxFault
 mailbox_read xs = if nat_lt (length xs) 128 then Err (Short (length xs)) else judged (mailbox_in xs)
 
 -- ==== each fault in words
-
--- a ring's sizes are the multiples of 4096 from 4096 to 4,194,304
-pub record IsRingSize (n : ℕ) : Type 0 where
-  pub least : 4096 ≤ n
-  pub most : n ≤ 4194304
-  pub pages : n % 4096 ≡ 0
 
 -- n is the head and breaks the rule; or the head keeps it, and n is the tail and breaks it
 abbrev pub HeadElseTail : (ℕ → Type 0) → Mailbox → ℕ → Type 0

@@ -14,7 +14,8 @@ use Rattle.tcmu_model.specs.RingState.{RingState, Item, Laid, Pad, Cmd, Tmr, len
 use Rattle.tcmu_model.specs.Device.{Unfinished, DeviceState, has_serial}
 use Rattle.tcmu_model.specs.BlockLists.{Taken, list_of}
 use Rattle.region_model.specs.Layout.{data_start, device_mailbox, mailbox_bytes, pad_bytes, command_bytes, tmr_bytes, response_bytes}
-use Rattle.tcmu_types.specs.ByteFields.{le, put, zeros}
+use Rattle.tcmu_types.specs.ByteFields.{le, put}
+use Rattle.tcmu_types.specs.Overwriting.{zeros}
 use Rattle.region_model.specs.Iovecs.{iovs_along}
 
 -- ==== places

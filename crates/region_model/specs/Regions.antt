@@ -1,10 +1,12 @@
 -- A region: the bytes before its data area, and the blocks of the area, of which some are lent.
-use Rattle.std.specs.Prelude.{◌≡◌, ◌≢◌, ℕ, zero, suc, ◌+◌, ◌-◌, ◌/◌, ◌%◌, ◌^◌, ◌<◌, ◌≤◌, ◌==◌, ◌&&◌, nat_le, nat_lt, Bool, true, false, List, [], ◌∷◌, ◌++◌, length, take, drop, replicate, slice_get, slice_set, Option, Some, None, unwrap_or, option_map}
+use Rattle.std.specs.Prelude.{◌≡◌, ◌≢◌, ℕ, ◌+◌, ◌-◌, ◌/◌, ◌%◌, ◌^◌, ◌<◌, ◌≤◌, ◌==◌, ◌&&◌, nat_le, nat_lt, Bool, true, false, List, [], ◌∷◌, ◌++◌, length, take, drop, replicate, slice_get, slice_set, Option, Some, None, unwrap_or, option_map}
+use Rattle.std.specs.List.{range_with_len}
 use Rattle.tcmu_types.specs.Data.{SettingsData}
 use Rattle.tcmu_types.specs.declared.iovec.Iov.{Iov}
 use Rattle.tcmu_model.specs.Lengths.{block_size}
 use Rattle.region_model.specs.Layout.{data_start, mailbox_bytes, device_mailbox}
-use Rattle.tcmu_types.specs.ByteFields.{put, zeros, padded}
+use Rattle.tcmu_types.specs.ByteFields.{put, padded}
+use Rattle.tcmu_types.specs.Overwriting.{zeros}
 
 -- the bytes before the data area; its blocks, of which one that is lent is None; and the pages of 4096 bytes of a block
 pub record RegionState : Type 0 where
@@ -89,11 +91,6 @@ fitted old new = take (length old) (new ++ drop (length new) old)
 
 -- ==== lending
 
--- k numbers from n on
-abbrev pub numbers_from : ℕ → ℕ → List ℕ
-numbers_from n zero = []
-numbers_from n (suc k) = n ∷ numbers_from (n + 1) k
-
 -- the blocks that an iovec touches, where it begins at a block's start; the area begins at byte `start`
 abbrev pub first_block : ℕ → ℕ → Iov → ℕ
 first_block start size iov = (iov.base - start) / size
@@ -103,7 +100,7 @@ block_count size iov = (iov.len + (size - 1)) / size
 
 abbrev pub numbers_of : ℕ → ℕ → List Iov → List ℕ
 numbers_of start size [] = []
-numbers_of start size (iov ∷ iovs) = numbers_from (first_block start size iov) (block_count size iov) ++ numbers_of start size iovs
+numbers_of start size (iov ∷ iovs) = range_with_len (first_block start size iov) (block_count size iov) ++ numbers_of start size iovs
 
 -- an iovec begins at a block's start, and has a byte
 abbrev pub starts_block : ℕ → ℕ → Iov → Bool

@@ -15,7 +15,8 @@ use Rattle.tcmu_model.specs.Events.{is_in_hand}
 use Rattle.tcmu_types.specs.Numbers.{is_among, Differ}
 use Rattle.tcmu_model.specs.BlockLists.{Taken, list_of, held_by}
 use Rattle.region_model.specs.Layout.{ring_start, data_start}
-use Rattle.tcmu_types.specs.ByteFields.{field, zeros}
+use Rattle.tcmu_types.specs.ByteFields.{field}
+use Rattle.tcmu_types.specs.Overwriting.{zeros}
 use Rattle.region_model.specs.Iovecs.{gathered}
 use Rattle.region_model.specs.Regions.{RegionState, HaveSize}
 use Rattle.region_model.specs.Pending.{PendingData}

@@ -1,5 +1,6 @@
 -- Worked examples: what the definitions give for a dump, and for a command on its whole way through a region.
 use Rattle.std.specs.Prelude.{◌≡◌, ℕ, suc, zero, true, false, List, [], ◌∷◌, ◌++◌, map, replicate, Some, None, Ok, Err, Result}
+use Rattle.tcmu_types.specs.Overwriting.{zeros}
 use Rattle.tcmu_types.specs.Data.{CommandData, ReplyData, SettingsData}
 use Rattle.tcmu_types.specs.declared.dump.ItemKind.TheVariants as kind
 use Rattle.region_model.specs.declared.mailbox.MailboxFault.{MailboxFault}
@@ -15,12 +16,9 @@ use Rattle.region_model.specs.UserNext.{NextAnswer, Job, Note, Nothing, BadMailb
 
 -- ==== dumps
 
-unfoldable pub times_zero : ℕ → List ℕ
-times_zero n = replicate n 0
-
 -- a device as it opens shows its mailbox alone
 abbrev pub ShowsMailbox : Type 0
-ShowsMailbox = picture_of (opening_state dev) [] ≡ record { mailbox = 2 ∷ 0 ∷ 1 ∷ 0 ∷ 0x80 ∷ 0 ∷ 0 ∷ 0 ∷ 0 ∷ 0x10 ∷ times_zero 118; items = []; held = [] }
+ShowsMailbox = picture_of (opening_state dev) [] ≡ record { mailbox = 2 ∷ 0 ∷ 1 ∷ 0 ∷ 0x80 ∷ 0 ∷ 0 ∷ 0 ∷ 0 ∷ 0x10 ∷ zeros 118; items = []; held = [] }
 
 -- READ(10) that asks for 40 logical blocks
 unfoldable pub read_forty : CommandData
@@ -36,12 +34,12 @@ abbrev pub ShowsPadding : Type 0
 ShowsPadding =
     picture_of (after (after_reads 28) (submits read_forty)) (record { serial = 29; blocks = 0 ∷ 1 ∷ 2 ∷ 3 ∷ 4 ∷ [] } ∷ [])
     ≡ record {
-      mailbox = (2 ∷ 0 ∷ 1 ∷ 0 ∷ 0x80 ∷ 0 ∷ 0 ∷ 0 ∷ 0 ∷ 0x10 ∷ 0 ∷ 0 ∷ 0x90 ∷ times_zero 51) ++ (0xc0 ∷ 0x0f ∷ times_zero 62);
+      mailbox = (2 ∷ 0 ∷ 1 ∷ 0 ∷ 0x80 ∷ 0 ∷ 0 ∷ 0 ∷ 0 ∷ 0x10 ∷ 0 ∷ 0 ∷ 0x90 ∷ zeros 51) ++ (0xc0 ∷ 0x0f ∷ zeros 62);
       items =
-          record { at = 4032; kind = kind.Pad; bytes = 0x40 ∷ times_zero 63 }
-          ∷ record { at = 0; kind = kind.Cmd; bytes = (0x91 ∷ times_zero 7) ++ (1 ∷ times_zero 16) ++ (1 ∷ times_zero 23) ++ (0x20 ∷ times_zero 7) ++ (0x50 ∷ times_zero 70) ++ (0x28 ∷ times_zero 7) ++ (0x28 ∷ times_zero 7) }
+          record { at = 4032; kind = kind.Pad; bytes = 0x40 ∷ zeros 63 }
+          ∷ record { at = 0; kind = kind.Cmd; bytes = (0x91 ∷ zeros 7) ++ (1 ∷ zeros 16) ++ (1 ∷ zeros 23) ++ (0x20 ∷ zeros 7) ++ (0x50 ∷ zeros 70) ++ (0x28 ∷ zeros 7) ++ (0x28 ∷ zeros 7) }
           ∷ [];
-      held = record { serial = 29; blocks = 0 ∷ 1 ∷ 2 ∷ 3 ∷ 4 ∷ []; payload = times_zero 20480 } ∷ [];
+      held = record { serial = 29; blocks = 0 ∷ 1 ∷ 2 ∷ 3 ∷ 4 ∷ []; payload = zeros 20480 } ∷ [];
     }
 
 -- READ(10) of 16 logical blocks
@@ -53,11 +51,11 @@ abbrev pub ShowsTwoPages : Type 0
 ShowsTwoPages =
     picture_of (after (opening_state (record dev { pages = 2 })) (submits read_sixteen)) (record { serial = 1; blocks = 0 ∷ [] } ∷ [])
     ≡ record {
-      mailbox = (2 ∷ 0 ∷ 1 ∷ 0 ∷ 0x80 ∷ 0 ∷ 0 ∷ 0 ∷ 0 ∷ 0x10 ∷ 0 ∷ 0 ∷ 0x80 ∷ times_zero 115);
+      mailbox = (2 ∷ 0 ∷ 1 ∷ 0 ∷ 0x80 ∷ 0 ∷ 0 ∷ 0 ∷ 0 ∷ 0x10 ∷ 0 ∷ 0 ∷ 0x80 ∷ zeros 115);
       items =
-          record { at = 0; kind = kind.Cmd; bytes = (0x81 ∷ times_zero 7) ++ (1 ∷ times_zero 15) ++ (0xf0 ∷ times_zero 24) ++ (0x20 ∷ times_zero 7) ++ (0x20 ∷ times_zero 54) ++ (0x28 ∷ times_zero 7) ++ (0x10 ∷ times_zero 7) }
+          record { at = 0; kind = kind.Cmd; bytes = (0x81 ∷ zeros 7) ++ (1 ∷ zeros 15) ++ (0xf0 ∷ zeros 24) ++ (0x20 ∷ zeros 7) ++ (0x20 ∷ zeros 54) ++ (0x28 ∷ zeros 7) ++ (0x10 ∷ zeros 7) }
           ∷ [];
-      held = record { serial = 1; blocks = 0 ∷ []; payload = times_zero 8192 } ∷ [];
+      held = record { serial = 1; blocks = 0 ∷ []; payload = zeros 8192 } ∷ [];
     }
 
 -- ==== a command on its way
@@ -75,7 +73,7 @@ laid_region s = region_laid (used_region s) (opening_target s) inquiry 1
 
 -- the blocks of a command that reads are cleared when it is laid
 abbrev pub Clears : Type 0
-Clears = (laid_region dev).blocks ≡ Some (times_zero 4096) ∷ []
+Clears = (laid_region dev).blocks ≡ Some (zeros 4096) ∷ []
 
 unfoldable pub job_of : NextAnswer → JobState
 job_of (Job job) = job

@@ -19,7 +19,8 @@ use Rattle.tcmu_model.specs.Device.{Delayed}
 use Rattle.tcmu_model.specs.Events.{later, has_left, departure, ending}
 use Rattle.tcmu_model.specs.BlockLists.{least_free}
 use Rattle.region_model.specs.Layout.{ring_start, head_place, pad_bytes, tmr_bytes}
-use Rattle.tcmu_types.specs.ByteFields.{le, put, zeros}
+use Rattle.tcmu_types.specs.ByteFields.{le, put}
+use Rattle.tcmu_types.specs.Overwriting.{zeros}
 use Rattle.region_model.specs.Regions.{RegionState, size_of, grown_to}
 use Rattle.region_model.specs.Pending.{PendingData}
 use Rattle.region_model.specs.Areas.{written_along}

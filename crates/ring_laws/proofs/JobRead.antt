@@ -158,7 +158,7 @@ request_read r items rows d lists i n s c sound owned stands ids pages l g all =
     let area : ℕ = size_of r * length r.blocks in
     let ins0 : Every (Inside (4096 + d.settings.ring) (4096 + d.settings.ring + block_size d.settings.pages * length r.blocks)) iovs =
     inside_along (4096 + d.settings.ring) (block_size d.settings.pages) (4096 + d.settings.ring + block_size d.settings.pages * length r.blocks) (list_of lists s) (payload_length c)
-    (blocks_inside (block_size d.settings.pages) d.settings.ring d.settings.blocks d.settings.pages r.blocks (list_of lists s) refl sound.settings.area sound.settings.ring_high sound.settings.pages_high all) in
+    (blocks_inside (block_size d.settings.pages) d.settings.ring d.settings.blocks d.settings.pages r.blocks (list_of lists s) refl sound.settings.area sound.settings.ring.most sound.settings.pages_high all) in
     let ins1 : Every (Inside (4096 + d.settings.ring) (4096 + d.settings.ring + area)) iovs = subst (λ z. Every (Inside (4096 + d.settings.ring) (4096 + d.settings.ring + z * length r.blocks)) iovs) sz ins0 in
     let ins : AreInside (4096 + d.ring.size) (4096 + d.ring.size + area) iovs =
     subst (λ z. AreInside (4096 + z) (4096 + z + area) iovs) (sym rs) (all_told (4096 + d.settings.ring) (4096 + d.settings.ring + area) iovs ins1) in

@@ -6,7 +6,8 @@ use Rattle.tcmu_types.specs.declared.settings.Flags.{Flags}
 use Rattle.tcmu_model.specs.Lengths.{round_up}
 use Rattle.tcmu_model.specs.RingState.{head}
 use Rattle.region_model.specs.Layout.{ring_start, head_place, mailbox_bytes, device_mailbox, entry_header, iovs_bytes, command_head, cdb_place, command_length, command_bytes}
-use Rattle.tcmu_types.specs.ByteFields.{le, field, put, zeros, padded}
+use Rattle.tcmu_types.specs.ByteFields.{le, field, put, padded}
+use Rattle.tcmu_types.specs.Overwriting.{zeros}
 use Rattle.region_model.specs.Picture.{tail}
 use Rattle.tcmu_types.specs.declared.iovec.Iov.{Iov}
 use Rattle.tcmu_types.proofs.ByteFields.{lengths as writes, length-le, field-in, field-front}

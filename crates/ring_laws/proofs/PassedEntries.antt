@@ -13,7 +13,8 @@ use Rattle.region_model.specs.declared.entry.EntryFault.{EntryFault}
 use Rattle.region_model.specs.declared.entry.EntryFault.TheVariants as fault
 use Rattle.region_model.specs.Layout.{data_start, ring_start}
 use Rattle.tcmu_types.specs.ByteFields.{field}
-use Rattle.region_model.specs.MailboxReading.{mailbox_in, is_ring_size, judged, mailbox_read, IsRingSize}
+use Rattle.region_model.specs.MailboxReading.{mailbox_in, is_ring_size, judged, mailbox_read}
+use Rattle.tcmu_types.specs.Rules.{IsRingSize}
 use Rattle.region_model.specs.EntryReading.{op_at, len_at, id_at, iov_cnt_at, bidi_cnt_at, dif_cnt_at, cdb_off_at, kind_at, id_cnt_at, iov_at, lies_inside, first_outside, cdb_at, where_outside, with_cdb, command_read, tmr_read, limit_of, least_of, kind_read, sized_read, entry_read}
 use Rattle.region_model.specs.Regions.{RegionState}
 use Rattle.region_model.specs.UserNext.{iovs_in}

@@ -75,7 +75,7 @@ item_within d i x sound c g =
     let low : 8 ≤ x.len = hold.some i x g in
     let wh : p % r.size + x.len ≤ r.size = hold.whole i x g in
     let size : r.size ≡ d.settings.ring = sound.ring.size in
-    let high : d.settings.ring ≤ 4194304 = sound.settings.ring_high in
+    let high : d.settings.ring ≤ 4194304 = sound.settings.ring.most in
     record {
       away = apart_from_head r.size p x.len l (omega arith) (omega arith) ends (omega arith);
       limit =

@@ -10,8 +10,8 @@ use Rattle.tcmu_model.proofs.Laying.{aligned}
 pub holds : (d : DeviceState) → IsSound d → HoldsItems d.ring
 holds d h =
     let size : d.ring.size ≡ d.settings.ring = h.ring.size in
-    let low : 4096 ≤ d.settings.ring = h.settings.ring_low in
-    let pages : d.settings.ring % 4096 ≡ 0 = h.settings.ring_pages in
+    let low : 4096 ≤ d.settings.ring = h.settings.ring.least in
+    let pages : d.settings.ring % 4096 ≡ 0 = h.settings.ring.pages in
     let even : d.settings.ring % 8 ≡ 0 = omega arith in
     record {
       size = omega arith;

@@ -1,6 +1,7 @@
 -- The picture of a device, as it is read from its region along the target's record of the items.
 use Rattle.std.specs.Prelude.{ℕ, ◌+◌, ◌*◌, ◌%◌, List, [], ◌∷◌}
-use Rattle.tcmu_types.specs.ByteFields.{field, le, put, zeros}
+use Rattle.tcmu_types.specs.ByteFields.{field, le, put}
+use Rattle.tcmu_types.specs.Overwriting.{zeros}
 use Rattle.tcmu_types.specs.Dumps.{ItemData}
 use Rattle.tcmu_types.specs.declared.dump.ItemKind.{ItemKind}
 use Rattle.tcmu_types.specs.declared.dump.ItemKind.TheVariants as kind

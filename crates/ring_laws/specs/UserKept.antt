@@ -2,7 +2,7 @@
 use Rattle.std.specs.Prelude.{◌≡◌, ◌≢◌, ◌⊎◌, ℕ, ◌+◌, ◌-◌, ◌%◌, ◌≤◌, ◌<◌, List, drop, length, slice_get, Option, Some}
 use Rattle.std.specs.List.{count_by, sum_by}
 use Rattle.region_model.specs.Layout.{ring_start, data_start, tail_place}
-use Rattle.region_model.specs.MailboxReading.{IsRingSize}
+use Rattle.tcmu_types.specs.Rules.{IsRingSize}
 use Rattle.region_model.specs.EntryReading.{op_at}
 use Rattle.tcmu_model.specs.Lengths.{block_size}
 use Rattle.region_model.specs.Regions.{HaveSize, RegionState, numbers_of}

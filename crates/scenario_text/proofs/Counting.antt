@@ -6,10 +6,11 @@ use Rattle.std.proofs.lemmas.List.Sums.{sum_by_push}
 use Rattle.std.proofs.lemmas.Bool.{cond-true, cond-false, ltb-false, eqb-true, eqb-false, eq-eqb, ne_eqb, or_parts}
 use Rattle.tcmu_types.specs.Data.{CommandData}
 use Rattle.text_model.specs.ScenarioData.{ScenarioData, DeviceLineData, LineData, command_of}
-use Rattle.text_model.specs.Scenario.{with_name, with_initiator, initiators, initiators_from, is_dump, is_event, bytes_in, bytes_out, small_at, breaks_dump, breaks_many, with_line}
+use Rattle.text_model.specs.Scenario.{with_name, with_initiator, initiators, is_dump, is_event, bytes_in, bytes_out, small_at, breaks_dump, breaks_many, with_line}
 use Rattle.text_model.specs.declared.faults.Why.TheVariants as why
 use Rattle.text_model.specs.declared.limits.Limits.{Limits}
-use Rattle.scenario_text.specs.Counts.{Counted, noted, dump_by, many_by, one_if}
+use Rattle.scenario_text.specs.Counts.{Counted, noted, dump_by, many_by}
+use Rattle.tcmu_types.specs.Numbers.{bit}
 use Rattle.text_model.proofs.ScenarioLaws.{initiators_push}
 
 -- by the command of the line, if it has one
@@ -43,46 +44,46 @@ noted_length all l = go (command_of l)
     go None = refl
     go (Some c) = length-set all l.device (with_name (get_or all l.device []) c.init)
 
-dumps_push : (ls : List LineData) (l : LineData) → count_by is_dump (ls ++ l ∷ []) ≡ count_by is_dump ls + one_if (is_dump l)
+dumps_push : (ls : List LineData) (l : LineData) → count_by is_dump (ls ++ l ∷ []) ≡ count_by is_dump ls + bit (is_dump l)
 dumps_push ls l = sum_by_push (λ x. cond (is_dump x) 1 0) ls l
 
-events_push : (ls : List LineData) (l : LineData) → count_by is_event (ls ++ l ∷ []) ≡ count_by is_event ls + one_if (is_event l)
+events_push : (ls : List LineData) (l : LineData) → count_by is_event (ls ++ l ∷ []) ≡ count_by is_event ls + bit (is_event l)
 events_push ls l = sum_by_push (λ x. cond (is_event x) 1 0) ls l
 
 -- ---- the rules, by the counts
 
 dump_is : (s : ScenarioData) (l : LineData) (all : List (List (List ℕ))) (dumps events ins outs : ℕ) → Counted s.devices s.lines all dumps events ins outs
-    → breaks_dump s l ≡ dump_by s.devices (dumps + one_if (is_dump l)) l
+    → breaks_dump s l ≡ dump_by s.devices (dumps + bit (is_dump l)) l
 unfolding breaks_dump
-dump_is s l all dumps events ins outs k = ap (λ n. is_dump l && (nat_lt 16 n || not (small_at s.devices l.device))) (dumps_push s.lines l ∙ ap (λ n. n + one_if (is_dump l)) (sym k.dumps_are))
+dump_is s l all dumps events ins outs k = ap (λ n. is_dump l && (nat_lt 16 n || not (small_at s.devices l.device))) (dumps_push s.lines l ∙ ap (λ n. n + bit (is_dump l)) (sym k.dumps_are))
 
 many_is : (limits : Limits) (s : ScenarioData) (l : LineData) (all : List (List (List ℕ))) (dumps events ins outs : ℕ) → Counted s.devices s.lines all dumps events ins outs → l.device < length s.devices
-    → breaks_many limits (s.lines ++ l ∷ []) l.device ≡ many_by limits (get_or (noted all l) l.device []) (length s.lines + 1) (events + one_if (is_event l)) (ins + bytes_in l) (outs + bytes_out l)
+    → breaks_many limits (s.lines ++ l ∷ []) l.device ≡ many_by limits (get_or (noted all l) l.device []) (length s.lines + 1) (events + bit (is_event l)) (ins + bytes_in l) (outs + bytes_out l)
 unfolding breaks_many
 many_is limits s l all dumps events ins outs k lt =
     let a : initiators l.device (s.lines ++ l ∷ []) ≡ get_or (noted all l) l.device [] = initiators_push l.device [] s.lines l ∙ ap (λ ns. with_initiator l.device ns l) (sym (k.names_are l.device)) ∙ sym (noted_at all l l.device (omega (arith, k.names_of_all, lt))) in
     let b : length (s.lines ++ l ∷ []) ≡ length s.lines + 1 = length-append s.lines (l ∷ []) in
-    let e : count_by is_event (s.lines ++ l ∷ []) ≡ events + one_if (is_event l) = events_push s.lines l ∙ ap (λ n. n + one_if (is_event l)) (sym k.events_are) in
+    let e : count_by is_event (s.lines ++ l ∷ []) ≡ events + bit (is_event l) = events_push s.lines l ∙ ap (λ n. n + bit (is_event l)) (sym k.events_are) in
     let c : sum_by bytes_in (s.lines ++ l ∷ []) ≡ ins + bytes_in l = sum_by_push bytes_in s.lines l ∙ ap (λ n. n + bytes_in l) (sym k.ins_are) in
     let d : sum_by bytes_out (s.lines ++ l ∷ []) ≡ outs + bytes_out l = sum_by_push bytes_out s.lines l ∙ ap (λ n. n + bytes_out l) (sym k.outs_are) in
     rw (a, b, e, c, d) refl
 
 -- a line that breaks no rule is counted
 pub counted_more : (limits : Limits) (s : ScenarioData) (l : LineData) (all : List (List (List ℕ))) (dumps events ins outs : ℕ) → Counted s.devices s.lines all dumps events ins outs → l.device < length s.devices → length s.lines + 1 < 4294967296
-    → dump_by s.devices (dumps + one_if (is_dump l)) l ≡ false → many_by limits (get_or (noted all l) l.device []) (length s.lines + 1) (events + one_if (is_event l)) (ins + bytes_in l) (outs + bytes_out l) ≡ false
-    → Counted s.devices (s.lines ++ l ∷ []) (noted all l) (dumps + one_if (is_dump l)) (events + one_if (is_event l)) (ins + bytes_in l) (outs + bytes_out l)
+    → dump_by s.devices (dumps + bit (is_dump l)) l ≡ false → many_by limits (get_or (noted all l) l.device []) (length s.lines + 1) (events + bit (is_event l)) (ins + bytes_in l) (outs + bytes_out l) ≡ false
+    → Counted s.devices (s.lines ++ l ∷ []) (noted all l) (dumps + bit (is_dump l)) (events + bit (is_event l)) (ins + bytes_in l) (outs + bytes_out l)
 counted_more limits s l all dumps events ins outs k lt most no_dump few =
     let names : Bool = nat_lt 16 (length (get_or (noted all l) l.device [])) in
     let many : Bool = nat_lt limits.lines (length s.lines + 1) in
-    let more : Bool = nat_lt limits.events (events + one_if (is_event l)) in
+    let more : Bool = nat_lt limits.events (events + bit (is_event l)) in
     let h1 : ((names || many || more || nat_lt 67108864 (ins + bytes_in l)) ≡ false) × (nat_lt 67108864 (outs + bytes_out l) ≡ false) = or_parts _ _ few in
     let h2 : ((names || many || more) ≡ false) × (nat_lt 67108864 (ins + bytes_in l) ≡ false) = or_parts _ _ h1.0 in
     let longer : length (s.lines ++ l ∷ []) ≡ length s.lines + 1 = length-append s.lines (l ∷ []) in
     record {
       names_are = λ d. noted_at all l d (omega (arith, k.names_of_all, lt)) ∙ ap (λ ns. with_initiator d ns l) (k.names_are d) ∙ sym (initiators_push d [] s.lines l);
       names_of_all = noted_length all l ∙ k.names_of_all;
-      dumps_are = ap (λ n. n + one_if (is_dump l)) k.dumps_are ∙ sym (dumps_push s.lines l);
-      events_are = ap (λ n. n + one_if (is_event l)) k.events_are ∙ sym (events_push s.lines l);
+      dumps_are = ap (λ n. n + bit (is_dump l)) k.dumps_are ∙ sym (dumps_push s.lines l);
+      events_are = ap (λ n. n + bit (is_event l)) k.events_are ∙ sym (events_push s.lines l);
       ins_are = ap (λ n. n + bytes_in l) k.ins_are ∙ sym (sum_by_push bytes_in s.lines l);
       outs_are = ap (λ n. n + bytes_out l) k.outs_are ∙ sym (sum_by_push bytes_out s.lines l);
       few_devices = k.few_devices;
@@ -93,11 +94,11 @@ counted_more limits s l all dumps events ins outs k lt most no_dump few =
       few_out = ltb-false _ _ h1.1;
     }
   where
-    at_most : (b : Bool) → one_if b ≤ 1
+    at_most : (b : Bool) → bit b ≤ 1
     at_most true = omega arith
     at_most false = omega arith
 
-    few_dumps : (b c : Bool) → (b && (nat_lt 16 (dumps + one_if b) || c)) ≡ false → dumps + one_if b ≤ 16
+    few_dumps : (b c : Bool) → (b && (nat_lt 16 (dumps + bit b) || c)) ≡ false → dumps + bit b ≤ 16
     few_dumps true c e = ltb-false _ _ (or_parts _ _ e).0
     few_dumps false c e = omega (arith, k.few_dumps)
 
@@ -143,25 +144,25 @@ taken limits s l e f = cond-false _ _ _ e ∙ cond-false _ _ _ f
 -- ---- what the tests of the code say
 
 pub dump_found : (s w : ScenarioData) (l : LineData) (all : List (List (List ℕ))) (ds : List DeviceLineData) (dumps events ins outs n : ℕ) (b t : Bool) → w ≡ s → Counted w.devices w.lines all dumps events ins outs
-    → ds ≡ w.devices → n ≡ one_if t → t ≡ is_dump l → b ≡ dump_by ds (dumps + n) l → (breaks_dump s l ≡ b) × (dump_by w.devices (dumps + one_if (is_dump l)) l ≡ b)
+    → ds ≡ w.devices → n ≡ bit t → t ≡ is_dump l → b ≡ dump_by ds (dumps + n) l → (breaks_dump s l ≡ b) × (dump_by w.devices (dumps + bit (is_dump l)) l ≡ b)
 dump_found s w l all ds dumps events ins outs n b t v k d o i e =
-    let found : dump_by w.devices (dumps + one_if (is_dump l)) l ≡ b = rw (← d, ← (o ∙ ap one_if i)) (sym e) in
+    let found : dump_by w.devices (dumps + bit (is_dump l)) l ≡ b = rw (← d, ← (o ∙ ap bit i)) (sym e) in
     (ap (λ x. breaks_dump x l) (sym v) ∙ dump_is w l all dumps events ins outs k ∙ found, found)
 
 -- what the code finds of the limits on many: the names of the line's device, how many lines, events and bytes
 pub record Found (l : LineData) (all : List (List (List ℕ))) (lines events ins outs : ℕ) (names : List (List ℕ)) (many more sent asked : ℕ) : Type 0 where
   pub names_are : names ≡ get_or (noted all l) l.device []
   pub lines_are : many ≡ lines + 1
-  pub events_are : more ≡ events + one_if (is_event l)
+  pub events_are : more ≡ events + bit (is_event l)
   pub ins_are : sent ≡ ins + bytes_in l
   pub outs_are : asked ≡ outs + bytes_out l
 
 pub many_found : (limits : Limits) (s w : ScenarioData) (l : LineData) (all : List (List (List ℕ))) (dumps events ins outs : ℕ) (names : List (List ℕ)) (many more sent asked : ℕ) (b : Bool) → w ≡ s → Counted w.devices w.lines all dumps events ins outs
     → l.device < length s.devices → Found l all (length w.lines) events ins outs names many more sent asked → b ≡ many_by limits names many more sent asked
-    → (breaks_many limits (s.lines ++ l ∷ []) l.device ≡ b) × (many_by limits (get_or (noted all l) l.device []) (length w.lines + 1) (events + one_if (is_event l)) (ins + bytes_in l) (outs + bytes_out l) ≡ b)
+    → (breaks_many limits (s.lines ++ l ∷ []) l.device ≡ b) × (many_by limits (get_or (noted all l) l.device []) (length w.lines + 1) (events + bit (is_event l)) (ins + bytes_in l) (outs + bytes_out l) ≡ b)
 many_found limits s w l all dumps events ins outs names many more sent asked b v k lt f e =
     let there : l.device < length w.devices = rw v lt in
-    let found : many_by limits (get_or (noted all l) l.device []) (length w.lines + 1) (events + one_if (is_event l)) (ins + bytes_in l) (outs + bytes_out l) ≡ b =
+    let found : many_by limits (get_or (noted all l) l.device []) (length w.lines + 1) (events + bit (is_event l)) (ins + bytes_in l) (outs + bytes_out l) ≡ b =
     rw (← f.names_are, ← f.lines_are, ← f.events_are, ← f.ins_are, ← f.outs_are) (sym e) in
     (ap (λ x. breaks_many limits (x.lines ++ l ∷ []) l.device) (sym v) ∙ many_is limits w l all dumps events ins outs k there ∙ found, found)
 

@@ -49,6 +49,3 @@ dump_by ds dumps l = is_dump l && (nat_lt 16 dumps || not (small_at ds l.device)
 abbrev pub many_by : Limits → List (List ℕ) → ℕ → ℕ → ℕ → ℕ → Bool
 many_by limits names lines events ins outs =
     nat_lt 16 (length names) || nat_lt limits.lines lines || nat_lt limits.events events || nat_lt 67108864 ins || nat_lt 67108864 outs
-
-abbrev pub one_if : Bool → ℕ
-one_if b = if b then 1 else 0

@@ -82,6 +82,9 @@ fn with_text(alloc: Global, limits: &Limits, so_far: SoFar, text: &[u8]) -> Resu
     ensures { LineGives (λ x. x) result (with_text limits.now so_far text.now) }
 {
     let text = before_hash(text);
+    if text.is_empty() {
+        return Ok(so_far);
+    }
     if !all_allowed(text) {
         return Err(LineFault::Bad(Why::Byte));
     }

@@ -4,7 +4,8 @@ ghost use Rattle.std.specs.List.{list_any};
 ghost use Rattle.text_model.specs.Said.{has_name, device_at, same_file};
 ghost use Rattle.text_model.specs.Scenario.{with_line, with_device, nothing_yet};
 ghost use Rattle.device_config.specs.Views.{medium_data};
-ghost use Rattle.scenario_text.specs.Counts.{dump_by, many_by, one_if, IsNewName};
+ghost use Rattle.scenario_text.specs.Counts.{dump_by, many_by, IsNewName};
+ghost use Rattle.tcmu_types.specs.Numbers.{bit};
 ghost use Rattle.scenario_text.specs.Giving.{LineGives};
 
 use crate::counts::{bytes_in, bytes_out, is_dump, is_event, names_at, note_initiator};
@@ -68,8 +69,8 @@ fn breaks_many(
         || 67_108_864 < outs
 }
 
-fn one_if(b: bool) -> u32
-    ensures value { result ≡ one_if b }
+fn bit(b: bool) -> u32
+    ensures value { result ≡ bit b }
     ensures most { result ≤ 1 }
 {
     if b { 1 } else { 0 }
@@ -142,12 +143,12 @@ impl SoFar {
             bytes_in: ins,
             bytes_out: outs,
         } = self;
-        let dumps = dumps + one_if(is_dump(&line));
+        let dumps = dumps + bit(is_dump(&line));
         if breaks_dump(devices.as_slice(), dumps, &line) {
             return Err(LineFault::Bad(Why::Dump));
         }
         note_initiator(&mut initiators, &line)?;
-        let events = events + one_if(is_event(&line)) as u64;
+        let events = events + bit(is_event(&line)) as u64;
         let ins = ins + bytes_in(&line);
         let outs = outs + bytes_out(&line);
         let senders = names_at(&initiators, line.device);

@@ -1,5 +1,6 @@
 -- Bytes with zeros in some of their logical blocks.
-use Rattle.std.proofs.Common.{◌∙◌, ◌≡◌, ℕ, zero, suc, ◌+◌, ◌-◌, ◌/◌, ◌%◌, ◌<◌, ◌≤◌, ◌==◌, Bool, true, false, ◌&&◌, ◌||◌, nat_lt, nat_le, List, [], ◌∷◌, length, sym, ap, refl, arith, Option, Some, None, slice_get, if◌then◌else◌, ⊎_elim}
+use Rattle.std.proofs.Common.{◌∙◌, ◌≡◌, ℕ, zero, suc, ◌+◌, ◌-◌, ◌/◌, ◌%◌, ◌<◌, ◌≤◌, ◌==◌, Bool, true, false, ◌&&◌, ◌||◌, nat_lt, nat_le, List, [], ◌∷◌, length, sym, ap, refl, arith, Option, Some, None, slice_get, if◌then◌else◌, ⊎_elim, replicate}
+use Rattle.std.specs.List.{range_with_len}
 use Rattle.std.proofs.lemmas.Bool.{cases_Bool}
 use Rattle.std.proofs.lemmas.List.{length-replicate}
 use Rattle.tcmu_types.specs.Overwriting.{overwritten}
@@ -7,12 +8,11 @@ use Rattle.tcmu_types.specs.Numbers.{is_among}
 use Rattle.tcmu_types.proofs.Places.{same_list, get_within}
 use Rattle.tcmu_types.proofs.Overwriting.{within, get_overwritten}
 use Rattle.tcmu_types.proofs.Rises.{among-append, among-filter}
-use Rattle.scsi_model.specs.Medium.{zeros}
-use Rattle.scsi_model.specs.Base.{blocks_from, without_blocks, with_blocks, zeroed_from, zeroed}
+use Rattle.scsi_model.specs.Base.{without_blocks, with_blocks, zeroed_from, zeroed}
 
 -- ==== blocks by their numbers
 
-among_from : (first n b : ℕ) → is_among (blocks_from first n) b ≡ within first (first + n) b
+among_from : (first n b : ℕ) → is_among (range_with_len first n) b ≡ within first (first + n) b
 among_from first zero b = grind arith
 among_from first (suc n) b =
     ⊎_elim
@@ -26,7 +26,7 @@ among_without first n b blocks = among-filter (λ k. nat_lt k first || nat_le (f
 
 pub among_with : (first n b : ℕ) (blocks : List ℕ) → is_among (with_blocks first n blocks) b ≡ (within first (first + n) b || is_among blocks b)
 among_with first n b blocks =
-    among-append (blocks_from first n) (without_blocks first n blocks) b
+    among-append (range_with_len first n) (without_blocks first n blocks) b
     ∙ ap (λ t. t || is_among (without_blocks first n blocks) b) (among_from first n b)
     ∙ ap (λ t. within first (first + n) b || t) (among_without first n b blocks)
     ∙ ⊎_elim
@@ -119,20 +119,20 @@ cleared_put at piece blocks xs a b h =
     (cases_Bool (within at (at + n) i))
     ∙ sym (get_overwritten at piece (zeroed blocks xs) k i))
 
-get_zero : (n i : ℕ) → i < n → slice_get (zeros n) i ≡ Some 0
+get_zero : (n i : ℕ) → i < n → slice_get (replicate {A = ℕ} n 0) i ≡ Some 0
 get_zero zero i h = absurd (omega arith)
 get_zero (suc n) zero h = refl
 get_zero (suc n) (suc i) h = get_zero n i (omega arith)
 
 pub cleared_spoiled : (at n : ℕ) (junk blocks xs : List ℕ) → at % 512 ≡ 0 → n % 512 ≡ 0 → length junk ≡ n → at + n ≤ length xs
-    → zeroed (with_blocks (at / 512) (n / 512) blocks) (overwritten at junk xs) ≡ overwritten at (zeros n) (zeroed blocks xs)
+    → zeroed (with_blocks (at / 512) (n / 512) blocks) (overwritten at junk xs) ≡ overwritten at (replicate {A = ℕ} n 0) (zeroed blocks xs)
 cleared_spoiled at n junk blocks xs a b l h =
     let f = at / 512 in
     let m = n / 512 in
     let all = with_blocks f m blocks in
     let z = length-replicate {A = ℕ} n 0 in
     let k : at + length junk ≤ length xs = rw l h in
-    let k' : at + length (zeros n) ≤ length (zeroed blocks xs) = rw z (rw (length_cleared blocks xs) h) in
+    let k' : at + length (replicate {A = ℕ} n 0) ≤ length (zeroed blocks xs) = rw z (rw (length_cleared blocks xs) h) in
     same_list _ _ (λ i.
     get_cleared all (overwritten at junk xs) i
     ∙ ap (hidden (is_among all (i / 512))) (get_overwritten at junk xs k i)
@@ -145,5 +145,5 @@ cleared_spoiled at n junk blocks xs a b l h =
     rw (e, block_inside at n i a b e, some.1) (sym (get_zero n (i - at) here)))
     (λ (e : within at (at + n) i ≡ false). rw (e, block_outside at n i a b e) (sym (get_cleared blocks xs i)))
     (cases_Bool (within at (at + n) i))
-    ∙ ap (λ t. if within at (at + t) i then slice_get (zeros n) (i - at) else slice_get (zeroed blocks xs) i) (sym z)
-    ∙ sym (get_overwritten at (zeros n) (zeroed blocks xs) k' i))
+    ∙ ap (λ t. if within at (at + t) i then slice_get (replicate {A = ℕ} n 0) (i - at) else slice_get (zeroed blocks xs) i) (sym z)
+    ∙ sym (get_overwritten at (replicate {A = ℕ} n 0) (zeroed blocks xs) k' i))

@@ -1,5 +1,5 @@
 -- What the store of a file holds behind calls of the medium over it.
-use Rattle.std.proofs.Common.{◌∙◌, ◌≡◌, inl, inr, ℕ, zero, suc, ◌+◌, ◌-◌, ◌*◌, ◌/◌, ◌%◌, ◌≤◌, Bool, true, false, ◌||◌, nat_lt, nat_le, List, [], ◌∷◌, ◌++◌, length, take, drop, sym, ap, subst, refl, arith, Option, Some, None, IfSome, is_some, slice_get, if◌then◌else◌, ⊎_elim, append-nil, add-zero}
+use Rattle.std.proofs.Common.{◌∙◌, ◌≡◌, inl, inr, ℕ, zero, suc, ◌+◌, ◌-◌, ◌*◌, ◌/◌, ◌%◌, ◌≤◌, Bool, true, false, ◌||◌, nat_lt, nat_le, List, [], ◌∷◌, ◌++◌, length, take, drop, sym, ap, subst, refl, arith, Option, Some, None, IfSome, is_some, slice_get, if◌then◌else◌, ⊎_elim, append-nil, add-zero, replicate}
 use Rattle.std.specs.Bool.{MatchBool}
 use Rattle.std.specs.Option.{option_map}
 use Rattle.std.proofs.lemmas.Bool.{cases_Bool}
@@ -11,7 +11,7 @@ use Rattle.tcmu_types.proofs.Overwriting.{within, get_overwritten, length_overwr
 use Rattle.tcmu_model.specs.MediumState.{Span, Layer, file, Base, Below, MediumState}
 use Rattle.scsi_model.specs.Calls.{Call}
 use Rattle.scsi_model.specs.Base.{stored, spoiled, AsksStore, SyncsStore, WritesStore, FillsStore}
-use Rattle.scsi_model.specs.Medium.{zeros, lies_in, blanked, repeated, with_piece, with_lost, OnStore, ReadsBelow, WritesBelow, FillsBelow, SyncsBelow, MakesCall, counted}
+use Rattle.scsi_model.specs.Medium.{lies_in, blanked, repeated, with_piece, with_lost, OnStore, ReadsBelow, WritesBelow, FillsBelow, SyncsBelow, MakesCall, counted}
 use Rattle.scsi_model.specs.Runs.{MediumCall, read, write, fill, sync, LiesWithin, CallMakes, MadeCall, Runs, touches, SameAt, ShowsFile, RunsShowFile, RunsLeave}
 use Rattle.scsi_model.proofs.Cleared.{among_with, among_without, block_inside, block_outside}
 use Rattle.scsi_model.proofs.LostRange.{Lies, SameOutside, kept_lost, more_lost, narrowed_seen, widened_seen, lies_narrowed, lies_widened, put_blanked, spoil_blanked}
@@ -64,13 +64,13 @@ stored_put at piece s a b = record {
 
 spoiled_only : (at n : ℕ) (s : Base) → at % 512 ≡ 0 → n % 512 ≡ 0 → IfSome s.bytes (λ xs. at + n ≤ length xs) → Only at n s (spoiled at n s)
 spoiled_only at n s a b fits = record {
-  bytes = subst (λ k. SameOutside at k s.bytes (option_map (overwritten at (zeros n)) s.bytes)) z
-      (overwritten_outside at (zeros n) s.bytes (rw z fits));
+  bytes = subst (λ k. SameOutside at k s.bytes (option_map (overwritten at (replicate {A = ℕ} n 0)) s.bytes)) z
+      (overwritten_outside at (replicate {A = ℕ} n 0) s.bytes (rw z fits));
   size = refl;
   free = λ i e. among_with (at / 512) (n / 512) (i / 512) s.free ∙ rw (block_outside at n i a b e) refl;
 }
   where
-    z : length (zeros n) ≡ n
+    z : length (replicate {A = ℕ} n 0) ≡ n
     z = length-replicate {A = ℕ} n 0
 
 put_only : (at : ℕ) (piece : List ℕ) (s t : Base) → IfSome s.bytes (λ xs. at + length piece ≤ length xs) → Put at piece s t → Only at (length piece) s t

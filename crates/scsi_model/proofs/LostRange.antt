@@ -1,5 +1,5 @@
 -- What a range of lost bytes hides, and how it changes.
-use Rattle.std.proofs.Common.{◌∙◌, ◌≡◌, ◌⊎◌, ℕ, ◌+◌, ◌-◌, ◌≤◌, ◌<◌, Bool, true, false, ◌&&◌, nat_lt, nat_le, min, max, List, length, sym, ap, subst, arith, Option, Some, None, inl, inr, IfSome, is_some, refl, ⊎_elim, slice_get, if◌then◌else◌}
+use Rattle.std.proofs.Common.{◌∙◌, ◌≡◌, ◌⊎◌, ℕ, ◌+◌, ◌-◌, ◌≤◌, ◌<◌, Bool, true, false, ◌&&◌, nat_lt, nat_le, min, max, List, length, sym, ap, subst, arith, Option, Some, None, inl, inr, IfSome, is_some, refl, ⊎_elim, slice_get, if◌then◌else◌, replicate}
 use Rattle.std.specs.Option.{option_map, option_and_then}
 use Rattle.std.proofs.lemmas.Bool.{cases_Bool, cases_lt}
 use Rattle.std.proofs.lemmas.List.{length-replicate}
@@ -7,7 +7,7 @@ use Rattle.tcmu_types.specs.Overwriting.{overwritten}
 use Rattle.tcmu_types.proofs.Places.{same_list}
 use Rattle.tcmu_types.proofs.Overwriting.{within, get_overwritten, put_in, put_before, put_behind, length_overwritten, inside, before, behind}
 use Rattle.tcmu_model.specs.MediumState.{Span}
-use Rattle.scsi_model.specs.Medium.{blanked, zeros, narrowed, widened, span_of, empty_span}
+use Rattle.scsi_model.specs.Medium.{blanked, narrowed, widened, span_of, empty_span}
 
 -- the lost range behind a success and behind a failure over n bytes from a place on
 abbrev pub kept_lost : Span → ℕ → ℕ → Span
@@ -21,13 +21,13 @@ pub record Lies (lost : Span) (n : ℕ) : Type 0 where
   pub ordered : lost.start ≤ lost.end
   pub ends : lost.end ≤ n
 
-blanked_length : (lost : Span) → lost.start ≤ lost.end → lost.start + length (zeros (lost.end - lost.start)) ≡ lost.end
-blanked_length lost h = ap (λ n. lost.start + n) (length-replicate (lost.end - lost.start) 0) ∙ omega (arith, h)
+blanked_length : (lost : Span) → lost.start ≤ lost.end → lost.start + length (replicate {A = ℕ} (lost.end - lost.start) 0) ≡ lost.end
+blanked_length lost h = ap (λ n. lost.start + n) (length-replicate {A = ℕ} (lost.end - lost.start) 0) ∙ omega (arith, h)
 
 -- outside of the range the bytes are seen
 pub seen : (lost : Span) (xs : List ℕ) → Lies lost (length xs) → (i : ℕ) → within lost.start lost.end i ≡ false → slice_get (blanked lost xs) i ≡ slice_get xs i
 seen lost xs l i out =
-    let z = zeros (lost.end - lost.start) in
+    let z = replicate {A = ℕ} (lost.end - lost.start) 0 in
     let e = blanked_length lost l.ordered in
     let h : lost.start + length z ≤ length xs = rw e (l.ends) in
     let place = get_overwritten lost.start z xs h i in
@@ -42,7 +42,7 @@ seen lost xs l i out =
 pub same_blanked : (lost : Span) (xs ys : List ℕ) → Lies lost (length xs) → length ys ≡ length xs
     → ((i : ℕ) → within lost.start lost.end i ≡ false → slice_get xs i ≡ slice_get ys i) → blanked lost xs ≡ blanked lost ys
 same_blanked lost xs ys l n agree =
-    let z = zeros (lost.end - lost.start) in
+    let z = replicate {A = ℕ} (lost.end - lost.start) 0 in
     let e = blanked_length lost l.ordered in
     let h : lost.start + length z ≤ length xs = rw e (l.ends) in
     let k : lost.start + length z ≤ length ys = rw e (rw n (l.ends)) in
@@ -123,7 +123,7 @@ put_blanked at n lost piece (Some xs) new long l fits p =
     let after = kept_lost lost at (length piece) in
     let lx : Lies lost (length xs) = lies_same lost n (length xs) long l in
     let fx : at + length piece ≤ length xs = rw long fits in
-    let z = zeros (lost.end - lost.start) in
+    let z = replicate {A = ℕ} (lost.end - lost.start) 0 in
     let hl : length (blanked lost xs) ≡ length xs = length_overwritten lost.start z xs (rw (blanked_length lost l.ordered) lx.ends) in
     let fh : at + length piece ≤ length (blanked lost xs) = rw hl fx in
     let ly : length (overwritten at piece xs) ≡ length xs = length_overwritten at piece xs fx in
@@ -157,7 +157,7 @@ spoil_blanked at k n lost (Some xs) None long l fits s = absurd (let t : false �
 spoil_blanked at k n lost (Some xs) (Some ys) long l fits s =
     let after = more_lost lost at k in
     let lx : Lies lost (length xs) = lies_same lost n (length xs) long l in
-    let z = zeros (lost.end - lost.start) in
+    let z = replicate {A = ℕ} (lost.end - lost.start) 0 in
     let hl : length (blanked lost xs) ≡ length xs = length_overwritten lost.start z xs (rw (blanked_length lost l.ordered) lx.ends) in
     let ly : length ys ≡ n = s.long n long in
     let agree : (i : ℕ) → within after.start after.end i ≡ false → slice_get ys i ≡ slice_get (blanked lost xs) i =

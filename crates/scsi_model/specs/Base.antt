@@ -1,6 +1,6 @@
 -- What the store below a medium holds, and what calls leave of it.
 use Rattle.std.specs.Prelude.{◌≡◌, ℕ, zero, suc, ◌+◌, ◌/◌, ◌||◌, nat_lt, nat_le, List, [], ◌∷◌, ◌++◌, length, replicate, Option, Some, if◌then◌else◌}
-use Rattle.std.specs.List.{filter}
+use Rattle.std.specs.List.{filter, range_with_len}
 use Rattle.std.specs.Option.{option_map}
 use Rattle.tcmu_types.specs.Overwriting.{overwritten}
 use Rattle.tcmu_types.specs.Numbered.{Numbered, ComesOut, one_more, next_call}
@@ -10,18 +10,13 @@ use Rattle.scsi_model.specs.Calls.{Call, unchanged, Does, Leaves, Then}
 
 -- ==== logical blocks by their numbers
 
--- n blocks from one on
-abbrev pub blocks_from : ℕ → ℕ → List ℕ
-blocks_from first zero = []
-blocks_from first (suc n) = first ∷ blocks_from (first + 1) n
-
 -- these without n blocks from one on
 abbrev pub without_blocks : ℕ → ℕ → List ℕ → List ℕ
 without_blocks first n blocks = filter (λ b. nat_lt b first || nat_le (first + n) b) blocks
 
 -- these and n blocks from one on
 abbrev pub with_blocks : ℕ → ℕ → List ℕ → List ℕ
-with_blocks first n blocks = blocks_from first n ++ without_blocks first n blocks
+with_blocks first n blocks = range_with_len first n ++ without_blocks first n blocks
 
 -- ==== bytes
 

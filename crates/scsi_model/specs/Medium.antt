@@ -35,9 +35,6 @@ narrowed lost s = if covers s lost then empty_span else lost
 
 -- ==== bytes
 
-abbrev pub zeros : ℕ → List ℕ
-zeros n = replicate n 0
-
 -- so many copies of a block
 abbrev pub repeated : ℕ → List ℕ → List ℕ
 repeated zero block = []
@@ -45,7 +42,7 @@ repeated (suc n) block = block ++ repeated n block
 
 -- these bytes, with zeros where they are lost
 abbrev pub blanked : Span → List ℕ → List ℕ
-blanked lost bytes = overwritten lost.start (zeros (lost.end - lost.start)) bytes
+blanked lost bytes = overwritten lost.start (replicate (lost.end - lost.start) 0) bytes
 
 -- ==== what a call leaves below
 
@@ -200,7 +197,7 @@ in_memory bytes = record { bytes = Some bytes; lost = empty_span; layer = memory
 
 -- so many logical blocks of zeros in memory
 abbrev pub memory_below : ℕ → Below
-memory_below blocks = in_memory (zeros (512 * blocks))
+memory_below blocks = in_memory (replicate (512 * blocks) 0)
 
 -- a file as its store tells it
 abbrev pub file_below : ℕ → Option (List ℕ) → Numbered → ℕ → Below

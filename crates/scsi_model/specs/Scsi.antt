@@ -1,6 +1,6 @@
 -- What a request means: its reply, and the medium after it. The checks stand in their order: the operation code, the fields, the
 -- length of the data sent, the parameter list, the protected bit, the range, and then the medium (SPC-4, SBC-3).
-use Rattle.std.specs.Prelude.{◌≡◌, ℕ, zero, suc, ◌+◌, ◌-◌, ◌*◌, ◌/◌, min, Bool, true, false, not, ◌||◌, ◌==◌, nat_lt, nat_eq, List, [], ◌∷◌, length, take, drop, Option, Some, None, MatchOption, MatchResult, if◌then◌else◌}
+use Rattle.std.specs.Prelude.{◌≡◌, ℕ, zero, suc, ◌+◌, ◌-◌, ◌*◌, ◌/◌, min, Bool, true, false, not, ◌||◌, ◌==◌, nat_lt, nat_eq, List, [], ◌∷◌, length, take, drop, Option, Some, None, MatchOption, MatchResult, if◌then◌else◌, replicate}
 use Rattle.std.specs.Bool.{MatchBool}
 use Rattle.std.specs.List.{sum_by, list_any}
 use Rattle.std.specs.Cmp.Lexicographic.{pointwise}
@@ -8,7 +8,7 @@ use Rattle.byteorder.specs.Endian.{big_from}
 use Rattle.tcmu_types.specs.Data.{SenseData, ReplyData}
 use Rattle.tcmu_types.specs.SenseBytes.{fixed_sense}
 use Rattle.tcmu_model.specs.MediumState.{MediumState}
-use Rattle.scsi_model.specs.Medium.{Reads, Writes, Fills, Syncs, zeros}
+use Rattle.scsi_model.specs.Medium.{Reads, Writes, Fills, Syncs}
 use Rattle.tcmu_model.specs.Steps.{Asked}
 use Rattle.scsi_model.specs.Senses.{no_additional_sense_information, unrecovered_read_error, write_error, parameter_list_length_error, invalid_command_operation_code, logical_block_address_out_of_range, invalid_field_in_cdb, invalid_field_in_parameter_list, write_protected, miscompare_during_verify_operation}
 use Rattle.scsi_model.specs.Decoding.{decoded}
@@ -138,7 +138,7 @@ extents_of sent = extents_from 8 ((length sent - 8) / 16) sent
 
 -- one fill with zeros, where the range has blocks
 abbrev pub UnmapsOne : Extent → MediumState → Bool → MediumState → Type 0
-UnmapsOne e m failed after = MatchBool (e.count == 0) ((failed ≡ false) × (after ≡ m)) (Fills (512 * e.lba) (zeros 512) e.count m failed after)
+UnmapsOne e m failed after = MatchBool (e.count == 0) ((failed ≡ false) × (after ≡ m)) (Fills (512 * e.lba) (replicate 512 0) e.count m failed after)
 
 -- one after the other, up to the first that fails
 abbrev pub Unmaps : List Extent → MediumState → Bool → MediumState → Type 0

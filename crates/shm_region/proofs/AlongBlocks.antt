@@ -3,7 +3,8 @@ use Rattle.std.proofs.Common.{◌≡◌, ℕ, zero, suc, ◌+◌, ◌-◌, ◌*�
 use Rattle.std.specs.Prelude.{slice_get}
 use Rattle.std.specs.Option.{option_map}
 use Rattle.std.proofs.lemmas.List.{append-nil, drop-drop, drop_all, drop_more, take_min, take-replicate, drop-replicate}
-use Rattle.tcmu_types.specs.ByteFields.{put, zeros}
+use Rattle.tcmu_types.specs.ByteFields.{put}
+use Rattle.tcmu_types.specs.Overwriting.{zeros}
 use Rattle.tcmu_types.proofs.ByteFields.{length-zeros}
 use Rattle.region_model.specs.Areas.{block_bytes, bytes_along, over, written_along}
 use Rattle.region_model.specs.Regions.{AreSized, RegionState, size_of, home, cleared}

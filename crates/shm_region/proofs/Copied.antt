@@ -6,7 +6,8 @@ use Rattle.std.proofs.Math.Seq.{take-append_seam, take-append-add}
 use Rattle.std.proofs.lemmas.Bool.{cases_lt}
 use Rattle.std.proofs.lemmas.List.{drop-drop, drop_all, drop-take, take-take, take-append-le, take-append-drop, length-drop, length-take, take_all}
 use Rattle.tcmu_types.specs.declared.iovec.Iov.{Iov}
-use Rattle.tcmu_types.specs.ByteFields.{put, zeros}
+use Rattle.tcmu_types.specs.ByteFields.{put}
+use Rattle.tcmu_types.specs.Overwriting.{zeros}
 use Rattle.region_model.specs.Iovecs.{along, total_of}
 use Rattle.region_model.specs.Regions.{RegionState, AreSized, size_of, shown, bytes_of, overlaid, blocks_over, wrote, copied_in, LieInRegion}
 use Rattle.tcmu_types.proofs.ByteFields.{length-zeros, length-put, put-nothing, take-put, drop-put}

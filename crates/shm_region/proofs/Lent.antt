@@ -1,12 +1,14 @@
 -- Blocks lent and given back.
 use Rattle.std.proofs.Common.{◌≡◌, ◌≢◌, ◌↔◌, ℕ, zero, suc, ◌+◌, ◌-◌, ◌%◌, ◌<◌, ◌≤◌, ◌==◌, ◌&&◌, List, [], ◌∷◌, ◌++◌, length, drop, take, set, get_or, Bool, true, false, Option, Some, None, refl, ap, ◌∙◌, sym, arith, append_assoc, length-append, nat_le}
+use Rattle.std.specs.List.{range_with_len}
 use Rattle.std.specs.Prelude.{slice_get, unwrap_or, if◌then◌else◌}
+use Rattle.std.proofs.lemmas.List.FromFn.{length-range_with_len}
 use Rattle.std.proofs.lemmas.List.{append-nil, length-take, take-append-drop}
 use Rattle.iovec_scatter.proofs.Steps.{rest_of}
 use Rattle.std.proofs.lemmas.Grind.{take_at_read}
 use Rattle.std.proofs.lemmas.Bool.Decides.{nat_tests}
 use Rattle.tcmu_types.specs.declared.iovec.Iov.{Iov}
-use Rattle.region_model.specs.Regions.{RegionState, size_of, home, is_home, put_where, put_home, returned, HaveSize, can_take, taken, without, numbers_from, numbers_of, first_block, block_count, starts_block, are_whole, can_lend, named_by, StartsBlock, AreWhole, AreHome, IsOther, AreOnce, CanLend}
+use Rattle.region_model.specs.Regions.{RegionState, size_of, home, is_home, put_where, put_home, returned, HaveSize, can_take, taken, without, numbers_of, first_block, block_count, starts_block, are_whole, can_lend, named_by, StartsBlock, AreWhole, AreHome, IsOther, AreOnce, CanLend}
 use Rattle.shm_region.proofs.Sized.{set-set}
 use Rattle.std.proofs.lemmas.Bool.{and_from, and_parts}
 
@@ -62,16 +64,12 @@ have-join size (p ∷ ps) qs h k = (h.0, have-join size ps qs h.1 k)
 
 -- ==== numbers that follow each other
 
-pub length-numbers : (n k : ℕ) → length (numbers_from n k) ≡ k
-length-numbers n zero = refl
-length-numbers n (suc k) = ap suc (length-numbers (n + 1) k)
-
-pub numbers-last : (n k : ℕ) → numbers_from n (k + 1) ≡ numbers_from n k ++ (n + k) ∷ []
+pub numbers-last : (n k : ℕ) → range_with_len n (k + 1) ≡ range_with_len n k ++ (n + k) ∷ []
 numbers-last n zero = ap (λ (m : ℕ). m ∷ []) (none n)
   where
     none : (n : ℕ) → n ≡ n + 0
     none n = omega arith
-numbers-last n (suc k) = ap (numbers_from n) (moved k) ∙ ap (λ (w : List ℕ). n ∷ w) (numbers-last (n + 1) k ∙ ap (λ (m : ℕ). numbers_from (n + 1) k ++ m ∷ []) (next n k))
+numbers-last n (suc k) = ap (range_with_len n) (moved k) ∙ ap (λ (w : List ℕ). n ∷ w) (numbers-last (n + 1) k ∙ ap (λ (m : ℕ). range_with_len (n + 1) k ++ m ∷ []) (next n k))
   where
     moved : (k : ℕ) → suc k + 1 ≡ suc (k + 1)
     moved k = omega arith
@@ -79,9 +77,9 @@ numbers-last n (suc k) = ap (numbers_from n) (moved k) ∙ ap (λ (w : List ℕ)
     next : (n k : ℕ) → n + 1 + k ≡ n + suc k
     next n k = omega arith
 
-pub numbers-rest : (n done count : ℕ) → done < count → numbers_from (n + done) (count - done) ≡ (n + done) ∷ numbers_from (n + (done + 1)) (count - (done + 1))
+pub numbers-rest : (n done count : ℕ) → done < count → range_with_len (n + done) (count - done) ≡ (n + done) ∷ range_with_len (n + (done + 1)) (count - (done + 1))
 numbers-rest n done count h =
-    ap (numbers_from (n + done)) (more done count h) ∙ ap (λ (m : ℕ). (n + done) ∷ numbers_from m (count - (done + 1))) (next n done)
+    ap (range_with_len (n + done)) (more done count h) ∙ ap (λ (m : ℕ). (n + done) ∷ range_with_len m (count - (done + 1))) (next n done)
   where
     more : (d c : ℕ) → d < c → c - d ≡ suc (c - (d + 1))
     more d c h = omega (arith, h)
@@ -182,18 +180,18 @@ lends_back xs (n ∷ ns) h =
 pub numbers-append : (start size : ℕ) (xs ys : List Iov) → numbers_of start size (xs ++ ys) ≡ numbers_of start size xs ++ numbers_of start size ys
 numbers-append start size [] ys = refl
 numbers-append start size (x ∷ xs) ys =
-    ap (λ (w : List ℕ). numbers_from (first_block start size x) (block_count size x) ++ w) (numbers-append start size xs ys)
-    ∙ sym (append_assoc (numbers_from (first_block start size x) (block_count size x)) (numbers_of start size xs) (numbers_of start size ys))
+    ap (λ (w : List ℕ). range_with_len (first_block start size x) (block_count size x) ++ w) (numbers-append start size xs ys)
+    ∙ sym (append_assoc (range_with_len (first_block start size x) (block_count size x)) (numbers_of start size xs) (numbers_of start size ys))
 
 pub numbers-take : (start size : ℕ) (iovs : List Iov) (i : ℕ) (d : Iov) → i < length iovs
-    → numbers_of start size (take (i + 1) iovs) ≡ numbers_of start size (take i iovs) ++ numbers_from (first_block start size (get_or iovs i d)) (block_count size (get_or iovs i d))
+    → numbers_of start size (take (i + 1) iovs) ≡ numbers_of start size (take i iovs) ++ range_with_len (first_block start size (get_or iovs i d)) (block_count size (get_or iovs i d))
 numbers-take start size iovs i d h =
     ap (numbers_of start size) (take_at_read iovs i d h).1
     ∙ numbers-append start size (take i iovs) (get_or iovs i d ∷ [])
-    ∙ ap (λ (w : List ℕ). numbers_of start size (take i iovs) ++ w) (append-nil (numbers_from (first_block start size (get_or iovs i d)) (block_count size (get_or iovs i d))))
+    ∙ ap (λ (w : List ℕ). numbers_of start size (take i iovs) ++ w) (append-nil (range_with_len (first_block start size (get_or iovs i d)) (block_count size (get_or iovs i d))))
 
 pub numbers-drop : (start size : ℕ) (iovs : List Iov) (i : ℕ) (d : Iov) → i < length iovs
-    → numbers_of start size (drop i iovs) ≡ numbers_from (first_block start size (get_or iovs i d)) (block_count size (get_or iovs i d)) ++ numbers_of start size (drop (i + 1) iovs)
+    → numbers_of start size (drop i iovs) ≡ range_with_len (first_block start size (get_or iovs i d)) (block_count size (get_or iovs i d)) ++ numbers_of start size (drop (i + 1) iovs)
 numbers-drop start size iovs i d h = ap (numbers_of start size) (rest_of iovs i d h)
 
 pub record RangeStep (self new : RegionState) (front ms rest : List ℕ) (list into : List (List ℕ)) : Type 0 where
@@ -354,12 +352,12 @@ whole_next start size iov (next ∷ iovs) h even =
 
 split_last : (start size left : ℕ) (iovs : List Iov) (d : Iov) (f k : ℕ) → 0 < left → left ≤ length iovs
     → f ≡ first_block start size (get_or iovs (left - 1) d) → k ≡ block_count size (get_or iovs (left - 1) d)
-    → numbers_of start size (take left iovs) ≡ numbers_of start size (take (left - 1) iovs) ++ numbers_from f k
+    → numbers_of start size (take left iovs) ≡ numbers_of start size (take (left - 1) iovs) ++ range_with_len f k
 split_last start size left iovs d f k some inside f_is k_is =
     ap (λ (n : ℕ). numbers_of start size (take n iovs)) (place left some)
     ∙ numbers-take start size iovs (left - 1) d (omega (arith, some, inside))
-    ∙ ap (λ (n : ℕ). numbers_of start size (take (left - 1) iovs) ++ numbers_from n (block_count size (get_or iovs (left - 1) d))) (sym f_is)
-    ∙ ap (λ (n : ℕ). numbers_of start size (take (left - 1) iovs) ++ numbers_from f n) (sym k_is)
+    ∙ ap (λ (n : ℕ). numbers_of start size (take (left - 1) iovs) ++ range_with_len n (block_count size (get_or iovs (left - 1) d))) (sym f_is)
+    ∙ ap (λ (n : ℕ). numbers_of start size (take (left - 1) iovs) ++ range_with_len f n) (sym k_is)
   where
     place : (n : ℕ) → 0 < n → n ≡ n - 1 + 1
     place n h = omega (arith, h)
@@ -369,44 +367,44 @@ pub back_count : (start size left : ℕ) (iovs : List Iov) (d : Iov) (f k : ℕ)
     → length parts ≡ length (numbers_of start size (take left iovs)) → length parts ≡ length (numbers_of start size (take (left - 1) iovs)) + k
 back_count start size left iovs d f k parts some inside f_is k_is count =
     count ∙ ap length (split_last start size left iovs d f k some inside f_is k_is)
-    ∙ length-append (numbers_of start size (take (left - 1) iovs)) (numbers_from f k)
-    ∙ ap (λ (n : ℕ). length (numbers_of start size (take (left - 1) iovs)) + n) (length-numbers f k)
+    ∙ length-append (numbers_of start size (take (left - 1) iovs)) (range_with_len f k)
+    ∙ ap (λ (n : ℕ). length (numbers_of start size (take (left - 1) iovs)) + n) (length-range_with_len f k)
 
 pub back_iov_step : (self new : RegionState) (start size left : ℕ) (iovs : List Iov) (d : Iov) (f k : ℕ) (parts : List (List ℕ)) → 0 < left → left ≤ length iovs
     → f ≡ first_block start size (get_or iovs (left - 1) d) → k ≡ block_count size (get_or iovs (left - 1) d)
     → length parts ≡ length (numbers_of start size (take left iovs))
-    → new ≡ record self { blocks = returned self.blocks (numbers_from f k) (drop (length parts - k) parts) }
+    → new ≡ record self { blocks = returned self.blocks (range_with_len f k) (drop (length parts - k) parts) }
     → record new { blocks = returned new.blocks (numbers_of start size (take (left - 1) iovs)) (take (length parts - k) parts) }
     ≡ record self { blocks = returned self.blocks (numbers_of start size (take left iovs)) parts }
 back_iov_step self new start size left iovs d f k parts some inside f_is k_is count after =
     let whole : length parts ≡ length (numbers_of start size (take (left - 1) iovs)) + k = back_count start size left iovs d f k parts some inside f_is k_is count in
-    range_back self new (numbers_of start size (take (left - 1) iovs)) (numbers_from f k) parts (take (length parts - k) parts) (drop (length parts - k) parts)
+    range_back self new (numbers_of start size (take (left - 1) iovs)) (range_with_len f k) parts (take (length parts - k) parts) (drop (length parts - k) parts)
     (sym (length-take (length parts - k) parts ∙ omega (arith, whole))) (sym (take-append-drop (length parts - k) parts)) after
     ∙ ap (λ (ns : List ℕ). record self { blocks = returned self.blocks ns parts }) (sym (split_last start size left iovs d f k some inside f_is k_is))
 
 pub split_first : (start size i : ℕ) (iovs : List Iov) (d : Iov) (f k : ℕ) → i < length iovs
     → f ≡ first_block start size (get_or iovs i d) → k ≡ block_count size (get_or iovs i d)
-    → numbers_of start size (drop i iovs) ≡ numbers_from f k ++ numbers_of start size (drop (i + 1) iovs)
+    → numbers_of start size (drop i iovs) ≡ range_with_len f k ++ numbers_of start size (drop (i + 1) iovs)
 split_first start size i iovs d f k inside f_is k_is =
     numbers-drop start size iovs i d inside
-    ∙ ap (λ (n : ℕ). numbers_from n (block_count size (get_or iovs i d)) ++ numbers_of start size (drop (i + 1) iovs)) (sym f_is)
-    ∙ ap (λ (n : ℕ). numbers_from f n ++ numbers_of start size (drop (i + 1) iovs)) (sym k_is)
+    ∙ ap (λ (n : ℕ). range_with_len n (block_count size (get_or iovs i d)) ++ numbers_of start size (drop (i + 1) iovs)) (sym f_is)
+    ∙ ap (λ (n : ℕ). range_with_len f n ++ numbers_of start size (drop (i + 1) iovs)) (sym k_is)
 
 pub split_more : (start size i : ℕ) (iovs : List Iov) (d : Iov) (f k : ℕ) → i < length iovs
     → f ≡ first_block start size (get_or iovs i d) → k ≡ block_count size (get_or iovs i d)
-    → numbers_of start size (take (i + 1) iovs) ≡ numbers_of start size (take i iovs) ++ numbers_from f k
+    → numbers_of start size (take (i + 1) iovs) ≡ numbers_of start size (take i iovs) ++ range_with_len f k
 split_more start size i iovs d f k inside f_is k_is =
     numbers-take start size iovs i d inside
-    ∙ ap (λ (n : ℕ). numbers_of start size (take i iovs) ++ numbers_from n (block_count size (get_or iovs i d))) (sym f_is)
-    ∙ ap (λ (n : ℕ). numbers_of start size (take i iovs) ++ numbers_from f n) (sym k_is)
+    ∙ ap (λ (n : ℕ). numbers_of start size (take i iovs) ++ range_with_len n (block_count size (get_or iovs i d))) (sym f_is)
+    ∙ ap (λ (n : ℕ). numbers_of start size (take i iovs) ++ range_with_len f n) (sym k_is)
 
 pub first_room : (start size i : ℕ) (iovs : List Iov) (d : Iov) (f k : ℕ) → i < length iovs
     → f ≡ first_block start size (get_or iovs i d) → k ≡ block_count size (get_or iovs i d)
     → length (numbers_of start size (drop i iovs)) ≡ k + length (numbers_of start size (drop (i + 1) iovs))
 first_room start size i iovs d f k inside f_is k_is =
     ap length (split_first start size i iovs d f k inside f_is k_is)
-    ∙ length-append (numbers_from f k) (numbers_of start size (drop (i + 1) iovs))
-    ∙ ap (λ (n : ℕ). n + length (numbers_of start size (drop (i + 1) iovs))) (length-numbers f k)
+    ∙ length-append (range_with_len f k) (numbers_of start size (drop (i + 1) iovs))
+    ∙ ap (λ (n : ℕ). n + length (numbers_of start size (drop (i + 1) iovs))) (length-range_with_len f k)
 
 pub second_true : (a b : Bool) → a && b ≡ true → b ≡ true
 second_true a b h = (and_parts a b h).1

@@ -1,7 +1,8 @@
 -- The bytes of a new region.
 use Rattle.std.proofs.Common.{◌≡◌, ℕ, ◌+◌, List, ◌++◌, length, drop, replicate, ap, ◌∙◌, arith}
 use Rattle.std.proofs.lemmas.List.{drop-replicate}
-use Rattle.tcmu_types.specs.ByteFields.{put, padded, zeros}
+use Rattle.tcmu_types.specs.ByteFields.{put, padded}
+use Rattle.tcmu_types.specs.Overwriting.{zeros}
 
 -- a text over zeros
 pub put-replicate : (n : ℕ) (text : List ℕ) → put (replicate n 0) 0 text ≡ padded n text

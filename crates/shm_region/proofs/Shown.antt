@@ -8,7 +8,8 @@ use Rattle.std.proofs.lemmas.Grind.{div_ceil_times}
 use Rattle.std.proofs.lemmas.Bool.{cases_lt}
 use Rattle.std.proofs.lemmas.List.{drop-drop, drop_all, drop-append-le, take-append-le, length-drop, length-take, drop-replicate, take-replicate, take-append-drop, take_all, append-nil}
 use Rattle.tcmu_types.specs.declared.iovec.Iov.{Iov}
-use Rattle.tcmu_types.specs.ByteFields.{put, zeros}
+use Rattle.tcmu_types.specs.ByteFields.{put}
+use Rattle.tcmu_types.specs.Overwriting.{zeros}
 use Rattle.region_model.specs.Iovecs.{EndBelow, along, total_of}
 use Rattle.region_model.specs.Areas.{block_bytes}
 use Rattle.region_model.specs.Regions.{RegionState, IsRegion, AreSized, size_of, home, shown, bytes_of, overlaid, blocks_over, wrote, LieInRegion}

@@ -1,7 +1,7 @@
 -- Blocks keep their size.
 use Rattle.std.proofs.Common.{◌≡◌, ℕ, zero, suc, ◌+◌, ◌*◌, ◌^◌, ◌<◌, List, [], ◌∷◌, ◌++◌, length, set, get_or, Bool, true, false, cond, IfSome, length-append, Option, Some, None, refl, ap, ◌∙◌, sym, arith}
 use Rattle.std.specs.Prelude.{slice_get}
-use Rattle.tcmu_types.specs.ByteFields.{zeros}
+use Rattle.tcmu_types.specs.Overwriting.{zeros}
 use Rattle.region_model.specs.Regions.{AreSized, IsRegion, RegionState, size_of, cleared, home}
 
 pub sized-push : (size : ℕ) (b : List ℕ) (xs : List (Option (List ℕ))) → length b ≡ size → AreSized size xs → AreSized size (xs ++ Some b ∷ [])

@@ -2,7 +2,7 @@
 use Rattle.std.specs.Prelude.{◌≡◌, ℕ, ◌+◌, ◌%◌, ◌<◌, ◌≤◌, length}
 use Rattle.tcmu_types.specs.Data.{SettingsData}
 use Rattle.region_model.specs.Layout.{ring_start, data_start}
-use Rattle.region_model.specs.MailboxReading.{IsRingSize}
+use Rattle.tcmu_types.specs.Rules.{IsRingSize}
 use Rattle.region_model.specs.Regions.{opening_region}
 
 -- n is the least multiple of a step that is not below a number

@@ -1,6 +1,6 @@
 //! Bytes along the data blocks of a list, by their numbers. A lent block reads as zeros, and is not changed.
 ghost use Rattle.std.specs.Prelude.{◌≡◌, ◌+◌, ◌*◌, ◌≤◌, ◌++◌, length, take, min};
-ghost use Rattle.tcmu_types.specs.ByteFields.{zeros};
+ghost use Rattle.tcmu_types.specs.Overwriting.{zeros};
 ghost use Rattle.region_model.specs.Areas.{block_bytes, bytes_along, written_along};
 ghost use Rattle.region_model.specs.Regions.{size_of, block_at};
 

@@ -1,7 +1,8 @@
 //! Blocks lent and given back. They move: no byte of them is copied.
 ghost use Rattle.std.specs.Prelude.{◌≡◌, ◌↔◌, [], ◌+◌, ◌-◌, ◌*◌, ◌^◌, ◌<◌, ◌≤◌, ◌++◌, length, take, drop, true, false, nat_le, Some, None, IfSome, IfNone, if◌then◌else◌};
+ghost use Rattle.std.specs.List.{range_with_len};
 ghost use Rattle.std.specs.Bool.{OnTrue, OnFalse};
-ghost use Rattle.region_model.specs.Regions.{size_of, can_take, taken, without, returned, HaveSize, numbers_from, first_block, block_count, starts_block, are_whole, can_lend, named_by, lent, parts_of, given_back, CanLend};
+ghost use Rattle.region_model.specs.Regions.{size_of, can_take, taken, without, returned, HaveSize, first_block, block_count, starts_block, are_whole, can_lend, named_by, lent, parts_of, given_back, CanLend};
 
 use crate::Region;
 use iovec_scatter::Parts;
@@ -39,7 +40,7 @@ impl Region {
         requires count { count ≤ length parts.old.items }
         requires size { HaveSize (size_of self.old) parts.old.items }
         requires fits { first + count < 2 ^ 64 }
-        ensures region { self.new ≡ record self.old { blocks = returned self.old.blocks (numbers_from first count) (drop (length parts.old.items - count) parts.old.items) } }
+        ensures region { self.new ≡ record self.old { blocks = returned self.old.blocks (range_with_len first count) (drop (length parts.old.items - count) parts.old.items) } }
         ensures parts { parts.new.items ≡ take (length parts.old.items - count) parts.old.items }
         ensures spare { parts.new.spare ≡ parts.old.spare + count }
     {
@@ -57,9 +58,9 @@ impl Region {
         requires room { count ≤ into.old.spare }
         requires size { HaveSize (size_of self.old) into.old.items }
         requires fits { first + count < 2 ^ 64 }
-        ensures answer { result ≡ can_take self.old.blocks (numbers_from first count) }
-        ensures lent { OnTrue result (self.new ≡ record self.old { blocks = without self.old.blocks (numbers_from first count) }) }
-        ensures parts { OnTrue result (into.new.items ≡ into.old.items ++ taken self.old.blocks (numbers_from first count)) }
+        ensures answer { result ≡ can_take self.old.blocks (range_with_len first count) }
+        ensures lent { OnTrue result (self.new ≡ record self.old { blocks = without self.old.blocks (range_with_len first count) }) }
+        ensures parts { OnTrue result (into.new.items ≡ into.old.items ++ taken self.old.blocks (range_with_len first count)) }
         ensures spare { OnTrue result (into.old.spare ≤ into.new.spare + count) }
         ensures size { OnTrue result (HaveSize (size_of self.old) into.new.items) }
         ensures region { OnFalse result (self.new ≡ self.old) }

@@ -1,7 +1,8 @@
 //! The region of one device.
 ghost use Rattle.std.specs.Prelude.{◌≡◌, [], ◌∷◌, ◌+◌, ◌-◌, ◌*◌, ◌^◌, ◌<◌, ◌≤◌, ◌++◌, length, slice_get, Some, None, true, IfSome, IsSome, is_ok, is_some, option_map, if◌then◌else◌, IfOk, OnOk, OnErr};
 ghost use Rattle.region_model.specs.Layout.{flag_bits, head_place, tail_place, data_start, mailbox_bytes, device_mailbox};
-ghost use Rattle.tcmu_types.specs.ByteFields.{le, field, put, zeros, padded};
+ghost use Rattle.tcmu_types.specs.ByteFields.{le, field, put, padded};
+ghost use Rattle.tcmu_types.specs.Overwriting.{zeros};
 ghost use Rattle.region_model.specs.Regions.{RegionState, IsRegion, size_of, bytes_of, block_at, home, is_home, put_home, opening_region, cleared, grown_to, shrunk_to, with_block, overlaid};
 ghost use Rattle.region_model.specs.Areas.{over};
 ghost use Rattle.std.specs.Borrow.{sem};

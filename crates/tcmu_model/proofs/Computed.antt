@@ -2,7 +2,8 @@
 use Rattle.std.proofs.Common.{refl}
 use Rattle.tcmu_model.specs.Events.{queued_or_full, queued_or_delayed, with_command, with_delayed, with_note, submit_answer, after_submit, enter_answer, after_enter, dispatch_answer, after_dispatch, after_handle, respond_answer, after_respond, publish_answer, after_publish, clean_answer, after_clean, tick_answer, after_tick, block_answer, after_block, reset_answer, after_reset, restart_answer, after_restart, tmr_answer, after_tmr, stat_answer}
 use Rattle.tcmu_model.specs.Drain.{todo_of, drain_event}
-use Rattle.tcmu_model.specs.Examples.{answer_of, answer, after, answers, afterwards, flags_ooo, flags_none, dev, read_one, zeros, good, read_of, test_unit, times, asked_by, drained_by, drained, submits, logged, statuses, device_with, exact_fit, blocks_row, three_reads, expired_row, reset_row, lost_row, detached_row, note_front, note_row, waits_row, RingFills, ExactlyFull, BlocksFill, BlocksFree, TooLong, LongEnough, TooManyBlocks, OutOfOrder, LoggedAsPlaced, InOrder, LoggedAsLaid, Expires, ExpiredSense, LoggedOnce, NotDue, NeverDue, ResetAnswers, ResetStatus, LostReset, LostLog, LostLogTarget, LostCount, DoesNothingDetached, NoteAnswers, NotesPass, NotesOff, Waits, LeavesFull, StaysDelayed, WaitsReset, WaitsBusy, WaitsDrained}
+use Rattle.tcmu_model.specs.Examples.{answer_of, answer, after, answers, afterwards, flags_ooo, flags_none, dev, read_one, good, read_of, test_unit, times, asked_by, drained_by, drained, submits, logged, statuses, device_with, exact_fit, blocks_row, three_reads, expired_row, reset_row, lost_row, detached_row, note_front, note_row, waits_row, RingFills, ExactlyFull, BlocksFill, BlocksFree, TooLong, LongEnough, TooManyBlocks, OutOfOrder, LoggedAsPlaced, InOrder, LoggedAsLaid, Expires, ExpiredSense, LoggedOnce, NotDue, NeverDue, ResetAnswers, ResetStatus, LostReset, LostLog, LostLogTarget, LostCount, DoesNothingDetached, NoteAnswers, NotesPass, NotesOff, Waits, LeavesFull, StaysDelayed, WaitsReset, WaitsBusy, WaitsDrained}
+use Rattle.tcmu_types.specs.Overwriting.{zeros}
 
 -- ==== room
 

@@ -104,10 +104,10 @@ pad_none r n h =
 room_for : (s : SettingsData) (r : RingState) (n : ℕ) → IsSettings s → RingSound s r → n ≤ r.size → Room s r n
 room_for s r n g h small =
     let sz : r.size ≡ s.ring = h.size in
-    let low : 4096 ≤ s.ring = g.ring_low in
+    let low : 4096 ≤ s.ring = g.ring.least in
     let hd : head r < r.size = omega arith in
     let al : lengths r.laid % 8 ≡ 0 = aligned s 0 r.laid h.items in
-    let ev : r.size % 8 ≡ 0 = omega (arith, sz, g.ring_pages) in
+    let ev : r.size % 8 ≡ 0 = omega (arith, sz, g.ring.pages) in
     let eights = eights_left r.size (lengths r.laid) ev al (omega (arith, sz, low)) in
     let hs : lengths r.laid % s.ring ≡ head r = ap (λ k. lengths r.laid % k) (sym sz) in
     ⊎_elim

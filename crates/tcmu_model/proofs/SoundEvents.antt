@@ -32,7 +32,7 @@ pub sound_opening : (s : SettingsData) → IsSettings s → IsSound (opening_sta
 sound_opening s h =
     record {
       settings = h;
-      ring = record { size = refl; cleared = omega arith; published = omega arith; dispatched = omega arith; room = omega (arith, h.ring_low); items = tt; ends = tt };
+      ring = record { size = refl; cleared = omega arith; published = omega arith; dispatched = omega arith; room = omega (arith, h.ring.least); items = tt; ends = tt };
       serials = record { rise = omega arith; order = refl; laid = tt; accounted = λ k. none k (le-none k) };
       answers = record { published = omega arith; differ = tt; dispatched = tt; states = tt; replies = tt; in_order = λ q. ([], refl); parked = empty s.flags.ooo };
       room = record { blocks = omega arith; delayed = tt; none = λ q. refl; now = omega arith };

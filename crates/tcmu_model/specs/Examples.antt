@@ -1,5 +1,6 @@
 -- Worked examples: events of a device, with the answers and completions that they are to give.
-use Rattle.std.specs.Prelude.{◌≡◌, ℕ, true, false, List, [], ◌∷◌, ◌++◌, replicate, map, Some, None, Option, suc, zero}
+use Rattle.std.specs.Prelude.{◌≡◌, ℕ, true, false, List, [], ◌∷◌, ◌++◌, map, Some, None, Option, suc, zero}
+use Rattle.tcmu_types.specs.Overwriting.{zeros}
 use Rattle.tcmu_types.specs.Data.{CommandData, ReplyData, DoneData, SettingsData}
 use Rattle.tcmu_types.specs.declared.settings.Flags.{Flags}
 use Rattle.tcmu_types.specs.Events.{EventData, AnswerData, EntryData, Job, Note, Detached}
@@ -82,9 +83,6 @@ dev = record { ring = 4096; blocks = 16; flags = flags_ooo; timeout = 30; qfull 
 -- READ(10) of one logical block
 unfoldable pub read_one : ℕ → CommandData
 read_one tag = record { init = 97 ∷ []; tag = tag; cdb = 0x28 ∷ 0 ∷ 0 ∷ 0 ∷ 0 ∷ 0 ∷ 0 ∷ 0 ∷ 1 ∷ 0 ∷ []; sent = []; in_len = 512 }
-
-unfoldable pub zeros : ℕ → List ℕ
-zeros n = replicate n 0
 
 unfoldable pub good : ReplyData
 good = record { status = 0; sense = None; payload = 1 ∷ [] }

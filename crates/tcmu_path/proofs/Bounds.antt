@@ -22,7 +22,7 @@ use Rattle.tcmu_model.proofs.Accounts.{at_most_one}
 pub few_rows : (d : DeviceState) → IsSound d → length d.unfinished ≤ 65536
 few_rows d h =
     let b : 112 * length d.unfinished ≤ used d.ring = bounded_rows d h in
-    omega (arith, b, h.ring.room, h.ring.size, h.settings.ring_high)
+    omega (arith, b, h.ring.room, h.ring.size, h.settings.ring.most)
 
 -- ==== serials that are named in a note
 

@@ -10,7 +10,7 @@ use Rattle.tcmu_top.specs.Laws.{HasOneLine}
 
 load_loses_nothing : LosesNothing opened_load.medium
 unfolding opened_over
-load_loses_nothing = record { told = record { own = refl; store = refl; bytes = refl }; place = inl refl; lost = refl }
+load_loses_nothing = record { told = record { own = refl; store = refl; bytes = refl }; lossless = record { place = inl refl; lost = refl } }
 
 abbrev first_or : Device → List Device → Device
 first_or d [] = d

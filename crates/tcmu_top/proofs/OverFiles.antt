@@ -53,11 +53,11 @@ one_medium f (InFile name) c m n h k =
 
 loses_nothing : (f : FilesState) (kind : MediumData) (c : ConfigData) (m : MediumState) → ListsNone f kind → OpensKind kind (Some f) c m → LosesNothing m
 loses_nothing f (InMemory blocks) c m none h =
-    subst LosesNothing (sym h) (record { told = record { own = refl; store = refl; bytes = refl }; place = inl refl; lost = refl })
+    subst LosesNothing (sym h) (record { told = record { own = refl; store = refl; bytes = refl }; lossless = record { place = inl refl; lost = refl } })
 loses_nothing f (InFile name) c m none h =
     let bytes = ap (λ (s : StoreState). is_some s.bytes) h.told.2 in
     let fails : h.store.calls.fails ≡ Some [] = ap (λ (s : StoreState). s.calls.fails) h.told.2 ∙ none h.told.0 h.told.1 in
-    subst LosesNothing (sym h.medium) (record { told = record { own = refl; store = ap is_some fails; bytes = bytes }; place = inr (refl, fails); lost = refl })
+    subst LosesNothing (sym h.medium) (record { told = record { own = refl; store = ap is_some fails; bytes = bytes }; lossless = record { place = inr (refl, fails); lost = refl } })
 
 -- ---- all devices
 
@@ -125,7 +125,7 @@ none_free m e s xs = same_list _ _ (λ i. get_cleared m.below.store.free xs i �
 one_content : (m : MediumState) (a b : Content) → LosesNothing m → ShowsFile m → IsLeftOf m a → IsLeftOf m b → a ≡ b
 one_content m a b keeps shows p q =
     let hidden_same : zeroed m.below.store.free a.bytes ≡ zeroed m.below.store.free b.bytes = same_some _ _ (sym p.bytes ∙ q.bytes) in
-    let bytes : a.bytes ≡ b.bytes = sym (none_free m keeps.lost shows a.bytes) ∙ hidden_same ∙ none_free m keeps.lost shows b.bytes in
+    let bytes : a.bytes ≡ b.bytes = sym (none_free m keeps.lossless.lost shows a.bytes) ∙ hidden_same ∙ none_free m keeps.lossless.lost shows b.bytes in
     content_same a b bytes (p.calls ∙ sym q.calls) (p.syncs ∙ sym q.syncs)
 
 one_place : (m : MediumState) (p q : Place) → LosesNothing m → ShowsFile m → Holds m p → Holds m q → q ≡ p

@@ -6,7 +6,8 @@ use Rattle.std.proofs.Math.Nat.{mod-eq_of_lt}
 use borrow.Rule.Slice.PartMut.{put_mid}
 use Rattle.byteorder.specs.Endian.{little_bytes, little_number}
 use Rattle.byteorder.specs.Numbers.{length-bytes_low_first, little_number-reads_back, little_from-append}
-use Rattle.tcmu_types.specs.ByteFields.{le, field, zeros, padded, put}
+use Rattle.tcmu_types.specs.ByteFields.{le, field, padded, put}
+use Rattle.tcmu_types.specs.Overwriting.{zeros}
 
 pub length-le : (n x : ℕ) → length (le n x) ≡ n
 unfolding le

@@ -1,7 +1,7 @@
 -- Numbers as bytes, lowest first, and bytes at places.
-use Rattle.std.specs.Prelude.{List, drop, length, replicate, ℕ, ◌++◌, ◌-◌}
+use Rattle.std.specs.Prelude.{List, drop, length, ℕ, ◌++◌, ◌-◌}
 use Rattle.byteorder.specs.Endian.{little_bytes, little_number}
-use Rattle.tcmu_types.specs.Overwriting.{overwritten}
+use Rattle.tcmu_types.specs.Overwriting.{zeros, overwritten}
 
 -- a number as n bytes
 unfoldable pub le : ℕ → ℕ → List ℕ
@@ -10,9 +10,6 @@ le n x = little_bytes n x
 -- the number in the n bytes from a place on
 unfoldable pub field : ℕ → ℕ → List ℕ → ℕ
 field n at xs = little_number n (drop at xs)
-
-unfoldable pub zeros : ℕ → List ℕ
-zeros n = replicate n 0
 
 -- bytes, and zeros behind them up to the length n
 unfoldable pub padded : ℕ → List ℕ → List ℕ

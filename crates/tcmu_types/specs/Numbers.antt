@@ -1,6 +1,10 @@
 -- Lists of numbers: whether a number stands in one, whether they rise, whether they differ.
-use Rattle.std.specs.Prelude.{List, [], max, ℕ, ◌+◌, ◌<◌, ◌∷◌, Bool, ◌==◌, false, ◌++◌, ◌≡◌, ◌≤◌}
+use Rattle.std.specs.Prelude.{if◌then◌else◌, List, [], max, ℕ, ◌+◌, ◌<◌, ◌∷◌, Bool, ◌==◌, false, ◌++◌, ◌≡◌, ◌≤◌}
 use Rattle.std.specs.List.{list_any}
+
+-- 1 for true, 0 for false
+abbrev pub bit : Bool → ℕ
+bit b = if b then 1 else 0
 
 -- the numbers rise, from above n on
 abbrev pub RisesAbove : ℕ → List ℕ → Type 0

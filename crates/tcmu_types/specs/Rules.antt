@@ -62,11 +62,15 @@ pub record IsReply (r : ReplyData) : Type 0 where
 
 -- ==== settings
 
+-- a ring is whole pages, up to 4 MiB
+pub record IsRingSize (n : ℕ) : Type 0 where
+  pub least : 4096 ≤ n
+  pub most : n ≤ 4194304
+  pub pages : n % 4096 ≡ 0
+
 -- the limits that every device keeps: ring and data area stay below 21 MiB
 pub record IsSettings (s : SettingsData) : Type 0 where
-  pub ring_low : 4096 ≤ s.ring
-  pub ring_high : s.ring ≤ 4194304
-  pub ring_pages : s.ring % 4096 ≡ 0
+  pub ring : IsRingSize s.ring
   pub blocks_low : 1 ≤ s.blocks
   pub pages_low : 1 ≤ s.pages
   pub pages_high : s.pages ≤ 16

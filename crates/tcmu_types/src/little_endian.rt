@@ -1,6 +1,7 @@
 //! Numbers among bytes, the lowest byte first. Each call asks that the bytes which it names lie in the slice.
 ghost use Rattle.std.specs.Prelude.{◌≡◌, ◌+◌, ◌≤◌, length};
-ghost use Rattle.tcmu_types.specs.ByteFields.{le, field, zeros, put};
+ghost use Rattle.tcmu_types.specs.ByteFields.{le, field, put};
+ghost use Rattle.tcmu_types.specs.Overwriting.{zeros};
 
 use crate::overwrite;
 use byteorder::{ByteOrder, LittleEndian};

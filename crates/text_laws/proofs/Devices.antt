@@ -128,7 +128,7 @@ blocks_few t is =
 
 pub settings_words : (t : SettingsData) → IsSettings t → AreWords (settings_list t)
 settings_words t is = (
-  words_join (codes "ring=") (decimal t.ring) refl (number_word t.ring (omega (arith, is.ring_high))),
+  words_join (codes "ring=") (decimal t.ring) refl (number_word t.ring (omega (arith, is.ring.most))),
   (
     words_join (codes "blocks=") (decimal t.blocks) refl (number_word t.blocks (omega (arith, blocks_few t is))),
     (
@@ -184,7 +184,7 @@ settings_again : (d : DeviceLineData) (last : LastFields) → IsSettings d.setti
 unfolding settings_of
 settings_again d last is q p =
     let t = d.settings in
-    let ring = ring_again t.ring is.ring_low is.ring_high is.ring_pages in
+    let ring = ring_again t.ring is.ring.least is.ring.most is.ring.pages in
     let blocks = number_again 1 4096 t.blocks is.blocks_low (blocks_few t is) (omega arith) in
     let timeout = number_again 0 1000000 t.timeout (omega arith) is.timeout (omega arith) in
     rw ring (rw blocks (rw (flags_again t.flags) (rw timeout (rw q (rw p refl)))))

@@ -44,7 +44,7 @@ opens_one l d e = go l.config.kind e
     go : (kind : MediumData) → ◌≡◌ {A = Option Device} (elim kind [ InMemory blocks ↦ Some (opening l.settings l.name (opened_medium blocks l.config.protected l.config.fails (memory_below blocks))) | InFile name ↦ None ]) (Some d) → OpensInMemory l d
     go (InMemory blocks) e =
         let medium = opened_medium blocks l.config.protected l.config.fails (memory_below blocks) in
-        let keeps : LosesNothing medium = record { told = record { own = refl; store = refl; bytes = refl }; place = inl refl; lost = refl } in
+        let keeps : LosesNothing medium = record { told = record { own = refl; store = refl; bytes = refl }; lossless = record { place = inl refl; lost = refl } } in
         let same = same_some (opening l.settings l.name medium) d e in
         record { opens = (medium, sym same); keeps = subst (λ (x : Device). LosesNothing x.medium) same keeps }
     go (InFile name) e = absurd (cc)

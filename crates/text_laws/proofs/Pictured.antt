@@ -10,7 +10,8 @@ use Rattle.tcmu_model.specs.BlockLists.{Taken, list_of, held_by}
 use Rattle.tcmu_model.specs.Device.{Unfinished, DeviceState, has_serial}
 use Rattle.tcmu_types.specs.declared.iovec.Iov.{Iov}
 use Rattle.region_model.specs.Layout.{iovs_bytes, cdb_place, command_length, command_head, ring_start, data_start, command_bytes, response_bytes}
-use Rattle.tcmu_types.specs.ByteFields.{le, put, zeros, padded}
+use Rattle.tcmu_types.specs.ByteFields.{le, put, padded}
+use Rattle.tcmu_types.specs.Overwriting.{zeros}
 use Rattle.tcmu_model.specs.Lengths.{round_up, blocks_of, block_size}
 use Rattle.tcmu_types.specs.Lists.{first_of, Every}
 use Rattle.tcmu_model.specs.Owned.{ListsSound}
@@ -77,24 +78,24 @@ pub record AreFew (d : DeviceState) (lists : List Taken) : Type 0 where
 
 item_few : (d : DeviceState) (lists : List Taken) (i n : ℕ) (l : Laid) → IsSound d → AreFew d lists → d.ring.cleared ≤ i → slice_get d.ring.laid i ≡ Some (record { len = n; laid = l }) → IsItem d.settings (lengths (take i d.ring.laid)) (record { len = n; laid = l })
     → IsNumber (length (item_bytes d lists i 0 (replicate (ids_named (record { len = n; laid = l })) 0) (record { len = n; laid = l })))
-item_few d lists i n Pad sound owned behind found is = omega (arith, length-pad n is.some, is.whole, sound.settings.ring_high)
+item_few d lists i n Pad sound owned behind found is = omega (arith, length-pad n is.some, is.whole, sound.settings.ring.most)
 item_few d lists i n (Cmd s c) sound owned behind found is =
     let iovs = command_iovs d.settings (list_of lists s) c in
     let few = length-iovs (data_start d.settings.ring) (block_size d.settings.pages) (list_of lists s) (payload_length c) in
     let slots = owned.spans i n s c behind found in
     let entry = command_most (place_of d.ring i) 0 (blocks_of d.settings.pages c) iovs c.cdb in
     let whole = entry_most d 0 (request_of d.settings (list_of lists s) (place_of d.ring i) 0 c) (answer_at d i) in
-    omega (arith, few, slots, entry, whole, is.kind.0, is.whole, sound.settings.ring_high)
+    omega (arith, few, slots, entry, whole, is.kind.0, is.whole, sound.settings.ring.most)
 item_few d lists i n (Tmr kind ss) sound owned behind found is =
     let ids : List ℕ = replicate (length ss) 0 in
     let many : length ids ≡ length ss = length-replicate {A = ℕ} (length ss) 0 in
-    omega (arith, length-note kind ids, many, is.kind, is.whole, sound.settings.ring_high)
+    omega (arith, length-note kind ids, many, is.kind, is.whole, sound.settings.ring.most)
 
 item_value : (d : DeviceState) (lists : List Taken) (i : ℕ) (x : Item) → IsSound d → AreFew d lists → d.ring.cleared ≤ i → slice_get d.ring.laid i ≡ Some x → IsItemValue (shown_item d lists i x)
 item_value d lists i x sound owned behind found =
-    let some : 0 < d.ring.size = omega (arith, sound.ring.size, sound.settings.ring_low) in
+    let some : 0 < d.ring.size = omega (arith, sound.ring.size, sound.settings.ring.least) in
     let place : place_of d.ring i < d.ring.size = mod-lt (lengths (take i d.ring.laid)) some in
-    record { at = omega (arith, place, sound.ring.size, sound.settings.ring_high); bytes = item_few d lists i x.len x.laid sound owned behind found (item_at d i x sound found) }
+    record { at = omega (arith, place, sound.ring.size, sound.settings.ring.most); bytes = item_few d lists i x.len x.laid sound owned behind found (item_at d i x sound found) }
 
 items_value : (d : DeviceState) (lists : List Taken) (i : ℕ) (xs : List Item) → IsSound d → AreFew d lists → d.ring.cleared ≤ i → ((k : ℕ) (x : Item) → slice_get xs k ≡ Some x → slice_get d.ring.laid (i + k) ≡ Some x) → Every IsItemValue (shown_items d lists i xs)
 items_value d lists i [] sound owned behind at = tt

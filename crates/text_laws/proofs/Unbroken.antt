@@ -22,7 +22,8 @@ use Rattle.tcmu_types.specs.declared.answer.Reset.{Reset}
 use Rattle.tcmu_types.specs.declared.answer.Reset.TheVariants as reset_answer
 use Rattle.tcmu_types.specs.declared.answer.Tmr.{Tmr}
 use Rattle.tcmu_types.specs.declared.answer.Tmr.TheVariants as tmr_answer
-use Rattle.text_model.specs.Text.{runs, run_text, runs_text, payload_text, sense_text, spaced, numbers_text, serials_text, numbered, full_text, submit_text, dispatch_text, handle_text, respond_text, publish_text, enter_text, reset_text, tmr_text, bit, place_text, states_text, delayed_text, stat_text, logged_word, answer_text}
+use Rattle.text_model.specs.Text.{runs, run_text, runs_text, payload_text, sense_text, spaced, numbers_text, serials_text, numbered, full_text, submit_text, dispatch_text, handle_text, respond_text, publish_text, enter_text, reset_text, tmr_text, place_text, states_text, delayed_text, stat_text, logged_word, answer_text}
+use Rattle.tcmu_types.specs.Numbers.{bit}
 use Rattle.text_model.specs.Fields.{is_field_byte, IsWord, AreWords}
 use Rattle.tcmu_types.specs.Hex.{hex_digit, hex_byte}
 use Rattle.text_laws.specs.Configs.{is_other}

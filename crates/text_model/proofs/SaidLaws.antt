@@ -103,9 +103,7 @@ settings_made f t ring blocks timeout qfull pages =
     let m = number_within 0 1000000 t.timeout f.timeout timeout in
     let p = pages_are t.blocks f.last.pages t.pages b.most pages in
     record {
-      ring_low = r.0.least;
-      ring_high = r.0.most;
-      ring_pages = r.1;
+      ring = record { least = r.0.least; most = r.0.most; pages = r.1 };
       blocks_low = b.least;
       pages_low = p.0.least;
       pages_high = p.0.most;

@@ -1,5 +1,6 @@
 -- The text of a journal: a line for each device, event, completion and end.
-use Rattle.std.specs.Prelude.{ℕ, suc, ◌+◌, Bool, List, [], ◌∷◌, ◌++◌, length, take, drop, map, Option, Some, None, ◌==◌, if◌then◌else◌, codes}
+use Rattle.std.specs.Prelude.{ℕ, suc, ◌+◌, List, [], ◌∷◌, ◌++◌, length, take, drop, map, Option, Some, None, ◌==◌, if◌then◌else◌, codes}
+use Rattle.tcmu_types.specs.Numbers.{bit}
 use Rattle.std.specs.List.{flat_map, join_with_byte}
 use Rattle.std.specs.Fmt.{decimal}
 use Rattle.tcmu_types.specs.Rules.{takes_payload}
@@ -183,9 +184,6 @@ tmr_text tmr_answer.Off = codes "off"
 tmr_text tmr_answer.Busy = codes "busy"
 tmr_text (tmr_answer.Unknown s) = numbered (codes "unknown") s
 tmr_text (tmr_answer.FullRing need free) = full_text (codes "ring") need free
-
-abbrev pub bit : Bool → ℕ
-bit b = if b then 1 else 0
 
 unfoldable pub place_text : Stat → List ℕ
 place_text t = codes "now " ++ decimal t.now ++ codes " blocked " ++ decimal (bit t.blocked) ++ codes " attached " ++ decimal (bit t.attached) ++ codes " head " ++ decimal t.head ++ codes " used " ++ decimal t.used

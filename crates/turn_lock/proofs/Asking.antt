@@ -11,7 +11,7 @@ use Rattle.turn_lock.specs.declared.rule.View.{View}
 use Rattle.turn_lock.specs.declared.rule.Receipt.{Receipt}
 use Rattle.turn_lock.specs.declared.rule.Note.{Note}
 use Rattle.turn_lock.specs.declared.rule.Slot.{Slot}
-use Rattle.turn_lock.specs.History.{one_if}
+use Rattle.tcmu_types.specs.Numbers.{bit}
 use Rattle.turn_lock.specs.Lists.{total, EachOnce, StandsOnce}
 use Rattle.tcmu_types.specs.Lists.{Every}
 use Rattle.turn_lock.specs.Receipts.{tells_of, times, AllBelow, FitsAt}
@@ -19,7 +19,7 @@ use Rattle.turn_lock.specs.Turns.{is_ticket, has_ticket, tickets_at, tickets_in,
 use Rattle.turn_lock.specs.Steps.{receipts_noted, Tells, IsIdle, Draws, Looks, PassesOn, HasTurn, LooksOrTakes, CountsUp, IsUncounted}
 use Rattle.turn_lock.proofs.Sums.{total-append, total-set, term_le, total-zero, Every-append, Every-map}
 use Rattle.turn_lock.proofs.Received.{IsPrefix-append, FitsAt-longer, all_below, noted_fits, noted_once}
-use Rattle.turn_lock.proofs.Views.{is_ticket-same, is_ticket-other, no_ticket, one_if-off, some_same, each_set, few_wait, none_twice, alone, one_holds, once, same_queue, same_received}
+use Rattle.turn_lock.proofs.Views.{is_ticket-same, is_ticket-other, no_ticket, bit-off, some_same, each_set, few_wait, none_twice, alone, one_holds, once, same_queue, same_received}
 
 ⊥_le : {a b : ℕ} → Dec (a ≤ b) → (b < a → ⊥) → a ≤ b
 ⊥_le (yes h) f = h
@@ -121,12 +121,12 @@ module _ {K S E A T : Type 0} {script : K → S} {history : K → List E} {makes
       let now : o.serving ≡ t = one_turn o.serving t (2 ^ 64) low (omega arith) (sym found ∙ hit) in
       let ticket : m.0.ticket ≡ Some o.serving = has ∙ ap Some (sym now) in
       let none_hold : total turns_in s.views ≡ 0 = total-zero turns_in s.views (λ j v e. dite (ℕ_discrete j id)
-      (λ i. let is : some m.0 ≡ some v = sym me ∙ (ap (λ (k : ℕ). get_elem? s.views k) (sym i) ∙ e) in ap turns_in (sym (some-injective _ _ is)) ∙ ap one_if holds)
-      (λ apart. one_if-off v.holds (alone s o id m.0 me ticket j v apart e))) in
+      (λ i. let is : some m.0 ≡ some v = sym me ∙ (ap (λ (k : ℕ). get_elem? s.views k) (sym i) ∙ e) in ap turns_in (sym (some-injective _ _ is)) ∙ ap bit holds)
+      (λ apart. bit-off v.holds (alone s o id m.0 me ticket j v apart e))) in
       let h = o.home none_hold in
       let w : View K E A T = record m.0 { seen = length (history h.0); holds = true; kept = history h.0 } in
       let long : length (history h.0) ≡ length o.now = ap length h.3.1 in
-      let holders : total turns_in (set s.views id w) ≡ 1 = omega (arith, total-set turns_in s.views id m.0 w me, ap one_if holds) in
+      let holders : total turns_in (set s.views id w) ≡ 1 = omega (arith, total-set turns_in s.views id m.0 w me, ap bit holds) in
       let many : total tickets_in (set s.views id w) ≡ total tickets_in s.views = omega (arith, total-set tickets_in s.views id m.0 w me) in (
         w,
         takes 0 (slot_of (Some h.0) h.1),
@@ -193,7 +193,7 @@ module _ {K S E A T : Type 0} {script : K → S} {history : K → List E} {makes
       let many : total tickets_in (set s.views id w) ≡ total tickets_in s.views = omega (arith, total-set tickets_in s.views id m.0 w me) in
       let holders : total turns_in (set s.views id w) ≡ total turns_in s.views = omega (arith, total-set turns_in s.views id m.0 w me) in
       let some_hold = term_le turns_in s.views id m.0 me in
-      let one : turns_in m.0 ≡ 1 = ap one_if u.holds in
+      let one : turns_in m.0 ≡ 1 = ap bit u.holds in
       let begun : length (history first) ≤ length o.now = omega (arith, ap length o.since.1, length-append (history first) o.since.0) in
       let still : (l : List (Receipt A T)) → Every (FitsAt makes_entry fits (script first) o.now) l → Every (FitsAt makes_entry fits (script first) (history value)) l =
       λ l h. Every-map _ _ l (λ r. FitsAt-longer makes_entry fits (script first) o.now (history value) added r grown) h in (
@@ -245,7 +245,7 @@ module _ {K S E A T : Type 0} {script : K → S} {history : K → List E} {makes
       let w : View K E A T = record v { ticket = None; holds = false; kept = [] } in
       let found : get_or s.words 1 0 ≡ o.serving % 2 ^ 64 = ap (λ (ws : List ℕ). get_or ws 1 0) o.words in
       let any : tickets_in v ≡ 1 = ap has_ticket mine.0 in
-      let one : turns_in v ≡ 1 = ap one_if holds in
+      let one : turns_in v ≡ 1 = ap bit holds in
       let most = one_holds s o in
       let some_hold = term_le turns_in s.views id v me in
       let fewer : total tickets_in (set s.views id w) + 1 ≡ total tickets_in s.views = omega (arith, total-set tickets_in s.views id v w me) in

@@ -3,7 +3,7 @@ use Rattle.std.proofs.Common.{◌≡◌, ℕ, ◌+◌, ◌<◌, ◌≤◌, eqb, 
 use mathlib.Core.List.{IsPrefix}
 use mathlib.Core.Logic.{dite}
 use native.Mathlib.Decide.{ℕ_discrete}
-use Rattle.turn_lock.specs.History.{one_if}
+use Rattle.tcmu_types.specs.Numbers.{bit}
 use Rattle.turn_lock.specs.Lists.{StandsOnce}
 use Rattle.tcmu_types.specs.Lists.{Every}
 use Rattle.turn_lock.specs.Receipts.{receipt_of, tells_of, times, AllBelow, FitsAt}
@@ -43,7 +43,7 @@ module _ {S E A T : Type 0} (makes_entry : T → Bool) (fits : S → List E → 
     where
       by_made : (b : Bool) → makes_entry note.told.value ≡ b → StandsOnce k first (count' + 1) (n + (tells_of makes_entry k (receipt_of count' note.ask.value note.told.value) + 0))
       by_made true is =
-          let one : length added ≡ 1 = f.0 ∙ ap one_if is in
+          let one : length added ≡ 1 = f.0 ∙ ap bit is in
           let it : tells_of makes_entry k (receipt_of count' note.ask.value note.told.value) ≡ cond {A = ℕ} (eqb count' k) 1 0 = ap (λ b. cond b (cond {A = ℕ} (eqb count' k) 1 0) 0) is in
           dite (ℕ_discrete count' k)
           (λ here.
@@ -54,6 +54,6 @@ module _ {S E A T : Type 0} (makes_entry : T → Bool) (fits : S → List E → 
           let w : cond {A = ℕ} (eqb count' k) 1 0 ≡ 0 = ap (λ b. cond b 1 0) (ne_eqb count' k ne) in
           record { before = λ h. omega (arith, q.before h); among = λ a b. omega (arith, q.among a (omega arith)); after = λ h. omega (arith, q.after (omega arith)) })
       by_made false is =
-          let none_added : length added ≡ 0 = f.0 ∙ ap one_if is in
+          let none_added : length added ≡ 0 = f.0 ∙ ap bit is in
           let it : tells_of makes_entry k (receipt_of count' note.ask.value note.told.value) ≡ 0 = ap (λ b. cond b (cond {A = ℕ} (eqb count' k) 1 0) 0) is in
           record { before = λ h. omega (arith, q.before h); among = λ a b. omega (arith, q.among a (omega arith)); after = λ h. omega (arith, q.after (omega arith)) }

@@ -11,13 +11,13 @@ use Rattle.atomic_table.proofs.Lists.{at_snoc, set_else}
 use Rattle.turn_lock.specs.declared.rule.View.{View}
 use Rattle.turn_lock.specs.declared.rule.Receipt.{Receipt}
 use Rattle.turn_lock.specs.declared.rule.Slot.{Slot}
-use Rattle.turn_lock.specs.History.{one_if}
+use Rattle.tcmu_types.specs.Numbers.{bit}
 use Rattle.turn_lock.specs.Lists.{total, StandsOnce, EachOnce}
 use Rattle.tcmu_types.specs.Lists.{Every}
 use Rattle.turn_lock.specs.Receipts.{tells_of, times, FitsAt}
 use Rattle.turn_lock.specs.Turns.{is_ticket, tickets_at, tickets_in, turns_in, parts_in, times_in, slot_of, first_view, one_less, one_part, joined_view, spent_view, IsViewOf, IsOrderly}
 use Rattle.turn_lock.proofs.Sums.{total-append, total-set, terms_le, total-zero, total-only, Every-append, StandsOnce-same}
-use Rattle.turn_lock.proofs.Views.{no_ticket, one_if-off, some_same, each_set}
+use Rattle.turn_lock.proofs.Views.{no_ticket, bit-off, some_same, each_set}
 use Rattle.turn_lock.proofs.Asking.{same_ticket}
 
 -- what is known of the history at the end, and of the pass that has all parts
@@ -93,7 +93,7 @@ module _ {K S E A T : Type 0} {script : K → S} {history : K → List E} {makes
       let sum : (h : View K E A T → ℕ) → total h (set l other spent_view) + h w + h v ≡ total h s.views + h both + h spent_view =
       λ h. omega (arith, total-set h l other w spent_view them, total-set h s.views id v both me) in
       let many : total tickets_in (set l other spent_view) ≡ total tickets_in s.views = omega (arith, sum tickets_in, no_ticket bare, no_ticket bare') in
-      let holders : total turns_in (set l other spent_view) ≡ total turns_in s.views = omega (arith, sum turns_in, ap one_if idle') in
+      let holders : total turns_in (set l other spent_view) ≡ total turns_in s.views = omega (arith, sum turns_in, ap bit idle') in
       record {
         serving = o.serving;
         now = o.now;
@@ -131,8 +131,8 @@ module _ {K S E A T : Type 0} {script : K → S} {history : K → List E} {makes
       let f = o.each id v me in
       let others : (j : ℕ) (u : View K E A T) → j ≢ id → get_elem? s.views j ≡ some u → u.parts ≡ 0 = λ j u apart e. let both = terms_le parts_in s.views id j v u apart me e in omega (arith, o.shares) in
       let none_hold : total turns_in s.views ≡ 0 = total-zero turns_in s.views (λ j u e. dite (ℕ_discrete j id)
-      (λ i. let is : some v ≡ some u = sym me ∙ (ap (λ (k : ℕ). get_elem? s.views k) (sym i) ∙ e) in ap turns_in (sym (some-injective _ _ is)) ∙ ap one_if idle)
-      (λ apart. one_if-off u.holds (λ holds. let g = o.each j u e in absurd_some _ (sym (g.spent (others j u apart e)).0 ∙ (g.holder holds).0)))) in
+      (λ i. let is : some v ≡ some u = sym me ∙ (ap (λ (k : ℕ). get_elem? s.views k) (sym i) ∙ e) in ap turns_in (sym (some-injective _ _ is)) ∙ ap bit idle)
+      (λ apart. bit-off u.holds (λ holds. let g = o.each j u e in absurd_some _ (sym (g.spent (others j u apart e)).0 ∙ (g.holder holds).0)))) in
       let home = o.home none_hold in
       let mine : (k : ℕ) → total (times_in makes_entry k) s.views ≡ times makes_entry k v.receipts =
       λ k. total-only (times_in makes_entry k) s.views id v me (λ j u apart e. ap (λ (l : List (Receipt A T)). times makes_entry k l) ((o.each j u e).spent (others j u apart e)).1) in (

@@ -2,7 +2,8 @@
 use Rattle.std.proofs.Common.{◌≡◌, ℕ, ◌<◌, ◌≤◌, List, [], ◌∷◌, ◌++◌, length, append-nil, get_or, sym, refl, ap, ◌∙◌, subst, arith, Bool, false, Option, Some, None, Result, Ok, Err}
 use Rattle.std.specs.Prelude.{IfOk, OnErr}
 use Rattle.atomic_table.specs.Table.{rest}
-use Rattle.turn_lock.specs.History.{one_if, Appends}
+use Rattle.turn_lock.specs.History.{Appends}
+use Rattle.tcmu_types.specs.Numbers.{bit}
 use Rattle.turn_lock.specs.Receipts.{receipt_of, receipts_of}
 use Rattle.turn_lock.specs.declared.rule.Receipt.{Receipt}
 use Rattle.turn_lock.specs.declared.rule.Note.{Note}
@@ -24,8 +25,8 @@ module _ {S E A T F : Type 0} (makes_entry : T → Bool) (fits : S → List E �
       → (added : List E) × (after ≡ before ++ added) × Tells makes_entry fits scr before added note
   grown scr before after ask (Ok told) noted a n is =
       let it = is.0 in
-      let says : (t : T) → it.told.value ≡ t → (length a.0 ≡ one_if (makes_entry t)) × fits scr before ask t a.0 → (length a.0 ≡ one_if (makes_entry it.told.value)) × fits scr before it.ask.value it.told.value a.0 =
-      λ t e h. subst (λ (x : T). (length a.0 ≡ one_if (makes_entry x)) × fits scr before it.ask.value x a.0) (sym e) (subst (λ (x : A). (length a.0 ≡ one_if (makes_entry t)) × fits scr before x t a.0) (sym is.2) h) in
+      let says : (t : T) → it.told.value ≡ t → (length a.0 ≡ bit (makes_entry t)) × fits scr before ask t a.0 → (length a.0 ≡ bit (makes_entry it.told.value)) × fits scr before it.ask.value it.told.value a.0 =
+      λ t e h. subst (λ (x : T). (length a.0 ≡ bit (makes_entry x)) × fits scr before it.ask.value x a.0) (sym e) (subst (λ (x : A). (length a.0 ≡ bit (makes_entry t)) × fits scr before x t a.0) (sym is.2) h) in
       (a.0, a.1, subst (λ (o : Option (Note A T)). Tells makes_entry fits scr before a.0 o) (sym is.1) (says told is.3 (a.2, a.3)))
   grown scr before after ask (Err failed) noted a n is =
       ([], n ∙ sym (append-nil before), subst (λ (o : Option (Note A T)). Tells makes_entry fits scr before [] o) (sym is) refl)

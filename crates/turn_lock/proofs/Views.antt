@@ -9,7 +9,7 @@ use Rattle.atomic_table.proofs.Lists.{at_set}
 use Rattle.turn_lock.specs.declared.rule.View.{View}
 use Rattle.turn_lock.specs.declared.rule.Receipt.{Receipt}
 use Rattle.turn_lock.specs.declared.rule.Slot.{Slot}
-use Rattle.turn_lock.specs.History.{one_if}
+use Rattle.tcmu_types.specs.Numbers.{bit}
 use Rattle.turn_lock.specs.Lists.{total, EachOnce}
 use Rattle.turn_lock.specs.Receipts.{times, NoneTwice}
 use Rattle.turn_lock.specs.Turns.{is_ticket, has_ticket, tickets_at, tickets_in, turns_in, parts_in, times_in, IsViewOf, IsOrderly}
@@ -28,13 +28,13 @@ has_ticket-le : (ticket : Option ℕ) → has_ticket ticket ≤ 1
 has_ticket-le None = omega arith
 has_ticket-le (Some n) = omega arith
 
-pub one_if-off : (b : Bool) → (b ≡ true → ⊥) → one_if b ≡ 0
-one_if-off true h = absurd (h refl)
-one_if-off false h = refl
+pub bit-off : (b : Bool) → (b ≡ true → ⊥) → bit b ≡ 0
+bit-off true h = absurd (h refl)
+bit-off false h = refl
 
-one_if-le : (b : Bool) → one_if b ≤ 1
-one_if-le true = omega arith
-one_if-le false = omega arith
+bit-le : (b : Bool) → bit b ≤ 1
+bit-le true = omega arith
+bit-le false = omega arith
 
 by_test : {P : Type 0} → (b : Bool) → (b ≡ true → P) → ((b ≡ true → ⊥) → P) → P
 by_test true y n = y refl
@@ -85,8 +85,8 @@ module _ {K S E A T : Type 0} {script : K → S} {history : K → List E} {makes
       where
         part : (v : View K E A T) → IsViewOf makes_entry fits first (script first) o.serving o.now v → turns_in v ≤ tickets_at o.serving v
         part v f = by_test v.holds
-            (λ yes. let one : tickets_at o.serving v ≡ 1 = ap (is_ticket o.serving) (f.holder yes).0 ∙ is_ticket-same o.serving in omega (arith, one_if-le v.holds))
-            (λ no. omega (arith, one_if-off v.holds no))
+            (λ yes. let one : tickets_at o.serving v ≡ 1 = ap (is_ticket o.serving) (f.holder yes).0 ∙ is_ticket-same o.serving in omega (arith, bit-le v.holds))
+            (λ no. omega (arith, bit-off v.holds no))
 
     module _ (id : ℕ) (v w : View K E A T) (me : get_elem? s.views id ≡ some v) where
       -- the queue is as it was where the view's ticket is

@@ -2,7 +2,7 @@
 use Rattle.std.specs.Prelude.{◌≡◌, ℕ, ◌<◌, ◌≤◌, ◌==◌, Bool, cond, List, [], ◌∷◌, ◌++◌, length, Result, Ok, Err}
 use mathlib.Core.List.{IsPrefix}
 use Rattle.turn_lock.specs.declared.rule.Receipt.{Receipt}
-use Rattle.turn_lock.specs.History.{one_if}
+use Rattle.tcmu_types.specs.Numbers.{bit}
 use Rattle.turn_lock.specs.Lists.{total}
 use Rattle.tcmu_types.specs.Lists.{Every}
 
@@ -42,7 +42,7 @@ module _ {A T : Type 0} where
 abbrev pub FitsAt : {S E A T : Type 0} → (T → Bool) → (S → List E → A → T → List E → Type 0) → S → List E → Receipt A T → Type 0
 FitsAt {S} {E} makes_entry fits script history r =
     (before added later : List E) × (history ≡ before ++ added ++ later) × (length (before ++ added) ≡ r.number)
-    × (length added ≡ one_if (makes_entry r.told)) × fits script before r.ask r.told added
+    × (length added ≡ bit (makes_entry r.told)) × fits script before r.ask r.told added
 
 -- a receipt that fits a history fits each history that begins with it
 abbrev pub ReceiptsLast : {S E A T : Type 0} → (T → Bool) → (S → List E → A → T → List E → Type 0) → Type 0

@@ -2,7 +2,7 @@
 -- and a join stand with the views.
 use Rattle.std.specs.Prelude.{◌≡◌, ◌≢◌, ℕ, ◌+◌, ◌%◌, ◌^◌, ◌<◌, ◌≤◌, Bool, true, false, List, [], ◌∷◌, ◌++◌, length, Option, Some, None, Result, Ok, Err}
 use Rattle.atomic_table.specs.Table.{Step}
-use Rattle.turn_lock.specs.History.{one_if}
+use Rattle.tcmu_types.specs.Numbers.{bit}
 use Rattle.turn_lock.specs.Receipts.{receipt_of, receipts_of, AllBelow, NoneTwice}
 use Rattle.turn_lock.specs.Turns.{Seated, slot_of}
 use Rattle.turn_lock.specs.declared.rule.Receipt.{Receipt}
@@ -24,7 +24,7 @@ module _ {S E A T : Type 0} (makes_entry : T → Bool) (fits : S → List E → 
   -- what a note says of the entries that were added behind these
   abbrev pub Tells : S → List E → List E → Option (Note A T) → Type 0
   Tells script before added None = added ≡ []
-  Tells script before added (Some it) = (length added ≡ one_if (makes_entry it.told.value)) × fits script before it.ask.value it.told.value added
+  Tells script before added (Some it) = (length added ≡ bit (makes_entry it.told.value)) × fits script before it.ask.value it.told.value added
 
 module _ {K E A T : Type 0} where
   -- outside a call: no ticket, and no slot

@@ -6,7 +6,7 @@ use mathlib.Core.Option.{some, none}
 use mathlib.Core.List.{IsPrefix}
 use lib.ListN.{get_elem?}
 use Rattle.atomic_table.specs.Table.{State, Me}
-use Rattle.turn_lock.specs.History.{one_if}
+use Rattle.tcmu_types.specs.Numbers.{bit}
 use Rattle.turn_lock.specs.Lists.{total, EachOnce}
 use Rattle.tcmu_types.specs.Lists.{Every}
 use Rattle.turn_lock.specs.Receipts.{times, FitsAt}
@@ -41,7 +41,7 @@ module _ {K E A T : Type 0} where
   tickets_in v = has_ticket v.ticket
 
   abbrev pub turns_in : View K E A T → ℕ
-  turns_in v = one_if v.holds
+  turns_in v = bit v.holds
 
   abbrev pub parts_in : View K E A T → ℕ
   parts_in v = v.parts

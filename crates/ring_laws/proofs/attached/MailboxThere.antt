@@ -95,9 +95,9 @@ is_mailbox : (d : DeviceState) → IsSound d → IsMailbox (mailbox_of d)
 is_mailbox d h =
     let hold : HoldsItems d.ring = holds d h in
     let size : d.ring.size ≡ d.settings.ring = h.ring.size in
-    let low : 4096 ≤ d.settings.ring = h.settings.ring_low in
-    let high : d.settings.ring ≤ 4194304 = h.settings.ring_high in
-    let pages : d.settings.ring % 4096 ≡ 0 = h.settings.ring_pages in
+    let low : 4096 ≤ d.settings.ring = h.settings.ring.least in
+    let high : d.settings.ring ≤ 4194304 = h.settings.ring.most in
+    let pages : d.settings.ring % 4096 ≡ 0 = h.settings.ring.pages in
     let some : 0 < d.ring.size = omega arith in
     record {
       version = refl;
@@ -112,8 +112,8 @@ is_mailbox d h =
 mailbox_fits : (d : DeviceState) → IsSound d → Fits (mailbox_of d)
 mailbox_fits d h =
     let size : d.ring.size ≡ d.settings.ring = h.ring.size in
-    let low : 4096 ≤ d.settings.ring = h.settings.ring_low in
-    let high : d.settings.ring ≤ 4194304 = h.settings.ring_high in
+    let low : 4096 ≤ d.settings.ring = h.settings.ring.least in
+    let high : d.settings.ring ≤ 4194304 = h.settings.ring.most in
     let some : 0 < d.ring.size = omega arith in
     record { version = omega arith; flags = omega (arith, small_flags d.settings.flags); cmdr_off = omega arith; cmdr_size = omega arith; head = omega arith; tail = omega arith }
 

@@ -16,7 +16,8 @@ use Rattle.tcmu_types.specs.Numbers.{is_among, Differ}
 use Rattle.tcmu_model.specs.Sound.{IsSound, finished, dispatched_serials}
 use Rattle.tcmu_model.specs.BlockLists.{Taken}
 use Rattle.region_model.specs.Layout.{ring_start, tail_place, device_mailbox, mailbox_bytes}
-use Rattle.tcmu_types.specs.ByteFields.{le, field, zeros}
+use Rattle.tcmu_types.specs.ByteFields.{le, field}
+use Rattle.tcmu_types.specs.Overwriting.{zeros}
 use Rattle.region_model.specs.Regions.{RegionState}
 use Rattle.tcmu_types.proofs.ByteFields.{lengths as writes, field-front, field-in}
 use Rattle.tcmu_types.proofs.Everies.{every-first, every-weaker, every_at}
@@ -264,8 +265,8 @@ mailbox_tail d small =
 tail_shown : (front : List ℕ) (items : List Recorded) (d : DeviceState) (lists : List Taken) → IsSound d → RingStands front items d lists → field 4 tail_place front ≡ tail d.ring
 tail_shown front items d lists sound h =
     let size : d.ring.size ≡ d.settings.ring = sound.ring.size in
-    let high : d.settings.ring ≤ 4194304 = sound.settings.ring_high in
-    let low : 4096 ≤ d.settings.ring = sound.settings.ring_low in
+    let high : d.settings.ring ≤ 4194304 = sound.settings.ring.most in
+    let low : 4096 ≤ d.settings.ring = sound.settings.ring.least in
     let small : tail d.ring < 2 ^ 32 = omega arith in
     let lf = h.long in
     let lt : length (take ring_start front) ≡ ring_start = length-take-le ring_start front (omega arith) in

@@ -14,7 +14,8 @@ use Rattle.tcmu_model.specs.Events.{completion, completions, completed_payload}
 use Rattle.tcmu_model.specs.Sound.{ReplyFits}
 use Rattle.tcmu_model.specs.BlockLists.{Taken, list_of}
 use Rattle.region_model.specs.Layout.{ring_start, sense_buffer, length_flag, answer_bytes, response_bytes}
-use Rattle.tcmu_types.specs.ByteFields.{le, field, put, zeros, padded}
+use Rattle.tcmu_types.specs.ByteFields.{le, field, put, padded}
+use Rattle.tcmu_types.specs.Overwriting.{zeros}
 use Rattle.region_model.specs.EntryReading.{response_at}
 use Rattle.tcmu_types.proofs.ByteFields.{lengths as writes, length-le, length-zeros, length-padded, field-front, field-put, field-le, field-in, drop-put, length-put}
 use Rattle.region_model.specs.Areas.{bytes_along}

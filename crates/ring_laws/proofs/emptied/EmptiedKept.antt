@@ -109,7 +109,7 @@ hand_reset user hand rows d lists level n a h =
 -- ==== the target
 
 zero_place : (d : DeviceState) → IsSound d → 0 % d.ring.size ≡ 0
-zero_place d sound = let size : d.ring.size ≡ d.settings.ring = sound.ring.size in let low : 4096 ≤ d.settings.ring = sound.settings.ring_low in omega arith
+zero_place d sound = let size : d.ring.size ≡ d.settings.ring = sound.ring.size in let low : 4096 ≤ d.settings.ring = sound.settings.ring.least in omega arith
 
 clean_place : (d : DeviceState) → IsSound d → 0 ≡ 0 % (after_clean d).ring.size
 unfolding after_clean

@@ -11,7 +11,7 @@ use Rattle.tcmu_model.specs.Events.{after_handle, with_reply, command_out, is_in
 use Rattle.tcmu_types.specs.Numbers.{is_among, Differ}
 use Rattle.tcmu_model.specs.Sound.{IsSound}
 use Rattle.tcmu_model.specs.BlockLists.{Taken}
-use Rattle.tcmu_types.specs.ByteFields.{zeros}
+use Rattle.tcmu_types.specs.Overwriting.{zeros}
 use Rattle.tcmu_model.proofs.CommandStates.{state_at, serial_at}
 use Rattle.region_model.specs.Picture.{data_in, payload_of}
 use Rattle.region_model.specs.Sides.{GivenJob, InHand, JobState, PendingRow, UserState}

@@ -13,7 +13,7 @@ use Rattle.tcmu_model.specs.Events.{is_in_hand, held_blocks, waiting, with_comma
 use Rattle.tcmu_model.specs.Sound.{IsSound}
 use Rattle.tcmu_types.specs.Lists.{Every}
 use Rattle.tcmu_model.specs.BlockLists.{Taken, list_of, with_taken, blocks_taken, held_by, least_free}
-use Rattle.tcmu_types.specs.ByteFields.{zeros}
+use Rattle.tcmu_types.specs.Overwriting.{zeros}
 use Rattle.region_model.specs.Regions.{AreSized, RegionState}
 use Rattle.region_model.specs.Areas.{bytes_along, written_along, IsHome, IsLent}
 use Rattle.region_model.specs.Picture.{payload_of, data_in}

@@ -12,7 +12,7 @@ use Rattle.tcmu_model.specs.Device.{Unfinished, DeviceState}
 use Rattle.tcmu_model.specs.Events.{is_in_hand, waiting, with_command}
 use Rattle.tcmu_model.specs.Sound.{IsSound}
 use Rattle.tcmu_model.specs.BlockLists.{Taken, blocks_taken, held_by, least_free, with_taken}
-use Rattle.tcmu_types.specs.ByteFields.{zeros}
+use Rattle.tcmu_types.specs.Overwriting.{zeros}
 use Rattle.region_model.specs.Regions.{AreSized, RegionState}
 use Rattle.tcmu_types.proofs.Everies.{every-weaker}
 use Rattle.tcmu_types.proofs.Rises.{among-append, among_every, among-here}

@@ -10,7 +10,8 @@ use Rattle.tcmu_model.specs.RingState as ring
 use Rattle.tcmu_model.specs.Device.{Unfinished, DeviceState}
 use Rattle.tcmu_model.specs.BlockLists.{Taken, list_of, held_by, least_free, blocks_taken, with_taken}
 use Rattle.region_model.specs.Layout.{ring_start}
-use Rattle.tcmu_types.specs.ByteFields.{field, zeros}
+use Rattle.tcmu_types.specs.ByteFields.{field}
+use Rattle.tcmu_types.specs.Overwriting.{zeros}
 use Rattle.region_model.specs.Pending.{PendingData}
 use Rattle.region_model.specs.Picture.{place_of}
 use Rattle.region_model.specs.Sides.{PendingRow, TargetState}

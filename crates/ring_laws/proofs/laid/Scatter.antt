@@ -5,7 +5,7 @@ use Rattle.std.proofs.lemmas.List.{take_at, take_all, take-append-drop, drop_all
 use Rattle.std.proofs.lemmas.Option.{slice_get_within}
 use Rattle.tcmu_types.specs.Numbers.{is_among, Differ}
 use Rattle.tcmu_types.specs.Lists.{Every}
-use Rattle.tcmu_types.specs.ByteFields.{zeros}
+use Rattle.tcmu_types.specs.Overwriting.{zeros}
 use Rattle.region_model.specs.Regions.{home}
 use Rattle.region_model.specs.Areas.{block_bytes, bytes_along, over, written_along, IsHome}
 use Rattle.ring_laws.proofs.Layouts.{take-past}

@@ -4,7 +4,8 @@ use Rattle.std.proofs.lemmas.List.{drop_at, length-replicate, take_at}
 use Rattle.tcmu_model.specs.Lengths.{tmr_length}
 use Rattle.tcmu_types.specs.Lists.{Every}
 use Rattle.region_model.specs.Layout.{entry_header, ids_bytes, tmr_bytes}
-use Rattle.tcmu_types.specs.ByteFields.{field, le, padded, put, zeros}
+use Rattle.tcmu_types.specs.ByteFields.{field, le, padded, put}
+use Rattle.tcmu_types.specs.Overwriting.{zeros}
 use Rattle.region_model.specs.Represents.{ids_in}
 use Rattle.tcmu_types.proofs.ByteFields.{field-in, length-le, length-zeros, lengths}
 use Rattle.region_model.proofs.HeaderLengths.{length-entry_header}

@@ -15,7 +15,7 @@ use Rattle.ring_laws.proofs.opened.Opened.{flags-again, represents_opening}
 at_zero : (s : SettingsData) → IsSettings s → attached_user (opening_state s) ≡ opening_user s
 unfolding opening_user
 at_zero s h =
-    let z : 0 % s.ring ≡ 0 = let k : 4096 ≤ s.ring = h.ring_low in omega arith in
+    let z : 0 % s.ring ≡ 0 = let k : 4096 ≤ s.ring = h.ring.least in omega arith in
     ap (λ n. record (attached_user (opening_state s)) { place = n; tail = n }) z
     ∙ ap (λ (f : Flags). record (opening_user s) { flags = f }) (sym (flags-again s.flags))
 

@@ -7,7 +7,8 @@ use Rattle.tcmu_types.specs.declared.settings.Flags.{Flags}
 use Rattle.region_model.specs.declared.mailbox.Mailbox.{Mailbox}
 use Rattle.tcmu_model.specs.Device.{opening_state}
 use Rattle.region_model.specs.Layout.{mailbox_bytes, device_mailbox, data_start}
-use Rattle.tcmu_types.specs.ByteFields.{zeros, padded}
+use Rattle.tcmu_types.specs.ByteFields.{padded}
+use Rattle.tcmu_types.specs.Overwriting.{zeros}
 use Rattle.region_model.specs.Regions.{opening_region}
 use Rattle.region_model.specs.TargetSteps.{opening_target}
 use Rattle.region_model.specs.UserSteps.{flags_in, opening_user}
@@ -35,7 +36,7 @@ flags-again f = flags_of_bits f.ooo f.read_len f.tmr
 pub represents_opening : (s : SettingsData) → IsSettings s → Represents (opening_region s) (opening_target s) (opening_user s) [] (opening_state s) []
 unfolding opening_target opening_user
 represents_opening s h =
-    let z : 0 % s.ring ≡ 0 = let k : 4096 ≤ s.ring = h.ring_low in omega arith in
+    let z : 0 % s.ring ≡ 0 = let k : 4096 ≤ s.ring = h.ring.least in omega arith in
     let m : Mailbox = device_mailbox s.flags s.ring 0 0 in
     let l : ◌≡◌ {A = ℕ} (length (mailbox_bytes m)) 128 = length-mailbox m in
     record {

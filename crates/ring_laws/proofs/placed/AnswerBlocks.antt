@@ -16,7 +16,7 @@ use Rattle.tcmu_model.specs.Sound.{IsSound, IsLaid, ReplyFits}
 use Rattle.tcmu_model.specs.BlockLists.{Taken, list_of, held_by}
 use Rattle.region_model.specs.Iovecs.{iovs_along, scattered, gathered}
 use Rattle.region_model.specs.Layout.{data_start}
-use Rattle.tcmu_types.specs.ByteFields.{zeros}
+use Rattle.tcmu_types.specs.Overwriting.{zeros}
 use Rattle.region_model.specs.Regions.{HaveSize, numbers_of, returned, RegionState, size_of}
 use Rattle.tcmu_model.proofs.CommandStates.{state_at}
 use Rattle.tcmu_types.proofs.Everies.{every-first, every-weaker, every-with_first}

@@ -1,5 +1,6 @@
 -- An answer is placed: its data go back into the blocks of its command.
 use Rattle.std.proofs.Common.{◌≡◌, ◌≢◌, ℕ, ◌+◌, ◌-◌, ◌*◌, ◌/◌, ◌≤◌, ◌<◌, min, true, false, List, [], ◌∷◌, ◌++◌, length, take, drop, set, refl, sym, ap, ◌∙◌, arith, suc, Option, Some, None, slice_get, append_assoc, length-append, length-take, length-drop, append-nil, subst, ⊎_elim, eqb}
+use Rattle.std.specs.List.{range_with_len}
 use Rattle.std.proofs.Math.Nat.{mul-le-mul_left, mul-div_cancel_left}
 use Rattle.std.proofs.lemmas.Bool.{cases_Bool, eqb-true, eqb-false, cases_lt, or_parts}
 use Rattle.std.proofs.lemmas.List.{drop_at, take_all, take-append-drop, drop_all, drop-append-le, drop-drop, nil_from_length}
@@ -7,7 +8,7 @@ use Rattle.tcmu_types.specs.declared.iovec.Iov.{Iov}
 use Rattle.tcmu_types.specs.Numbers.{is_among, Differ}
 use Rattle.region_model.specs.Iovecs.{merged, iovs_along, scattered, gathered}
 use Rattle.tcmu_types.specs.ByteFields.{put}
-use Rattle.region_model.specs.Regions.{home, HaveSize, numbers_from, first_block, block_count, numbers_of, put_home, put_where, returned}
+use Rattle.region_model.specs.Regions.{home, HaveSize, first_block, block_count, numbers_of, put_home, put_where, returned}
 use Rattle.tcmu_types.specs.Lists.{Every}
 use Rattle.region_model.specs.Areas.{block_bytes, bytes_along, IsHome, IsLent}
 use Rattle.ring_laws.proofs.laid.Scatter.{get-set_other, get-set_same, here-other, along-same}
@@ -131,9 +132,9 @@ ceil-one n size z l =
 block-number : (start size b : ℕ) → 0 < size → (start + size * b - start) / size ≡ b
 block-number start size b z = let e : start + size * b - start ≡ size * b = omega arith in ap (λ y. y / size) e ∙ mul-div_cancel_left b z
 
-first-number : (start size b n : ℕ) → 0 < n → n ≤ size → numbers_from (first_block start size (record { base = start + size * b; len = n })) (block_count size (record { base = start + size * b; len = n })) ≡ b ∷ []
+first-number : (start size b n : ℕ) → 0 < n → n ≤ size → range_with_len (first_block start size (record { base = start + size * b; len = n })) (block_count size (record { base = start + size * b; len = n })) ≡ b ∷ []
 first-number start size b n z l =
-    ap (λ y. numbers_from y ((n + (size - 1)) / size)) (block-number start size b (omega arith)) ∙ ap (numbers_from b) (ceil-one n size z l)
+    ap (λ y. range_with_len y ((n + (size - 1)) / size)) (block-number start size b (omega arith)) ∙ ap (range_with_len b) (ceil-one n size z l)
 
 merged-numbers : (start size b : ℕ) (es : List Iov) → 0 < size → numbers_of start size (merged (record { base = start + size * b; len = size }) es) ≡ b ∷ numbers_of start size es
 unfolding merged
@@ -146,10 +147,10 @@ merged-numbers start size b (f ∷ fs) z =
     let c : (size + f.len + (size - 1)) / size ≡ suc ((f.len + (size - 1)) / size) = ap (λ y. y / size) k ∙ div-more size (f.len + (size - 1)) z ∙ (let q : 1 + (f.len + (size - 1)) / size ≡ suc ((f.len + (size - 1)) / size) = omega arith in q) in
     let g : f.base - start ≡ start + size * (b + 1) - start = omega arith in
     let n : (f.base - start) / size ≡ b + 1 = ap (λ y. y / size) g ∙ block-number start size (b + 1) z in
-    let m : numbers_from ((start + size * b - start) / size) ((size + f.len + (size - 1)) / size) ≡ b ∷ numbers_from (first_block start size f) (block_count size f) =
-    ap (λ y. numbers_from y ((size + f.len + (size - 1)) / size)) (block-number start size b z) ∙ ap (numbers_from b) c ∙ ap (λ y. b ∷ numbers_from y ((f.len + (size - 1)) / size)) (sym n) in
+    let m : range_with_len ((start + size * b - start) / size) ((size + f.len + (size - 1)) / size) ≡ b ∷ range_with_len (first_block start size f) (block_count size f) =
+    ap (λ y. range_with_len y ((size + f.len + (size - 1)) / size)) (block-number start size b z) ∙ ap (range_with_len b) c ∙ ap (λ y. b ∷ range_with_len y ((f.len + (size - 1)) / size)) (sym n) in
     rw e (ap (λ y. y ++ numbers_of start size fs) m))
-    (λ (e : eqb (start + size * b + size) f.base ≡ false). rw e (ap (λ y. y ++ (numbers_from (first_block start size f) (block_count size f) ++ numbers_of start size fs)) (first-number start size b size z (omega arith))))
+    (λ (e : eqb (start + size * b + size) f.base ≡ false). rw e (ap (λ y. y ++ (range_with_len (first_block start size f) (block_count size f) ++ numbers_of start size fs)) (first-number start size b size z (omega arith))))
     (cases_Bool (eqb (start + size * b + size) f.base))
 
 pub iovs-numbers : (start size : ℕ) (bs : List ℕ) (n : ℕ) → 0 < size → n ≤ size * length bs → size * length bs < n + size → numbers_of start size (iovs_along start size bs n) ≡ bs

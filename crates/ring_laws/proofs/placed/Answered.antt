@@ -2,7 +2,8 @@
 use Rattle.std.proofs.Common.{◌≡◌, ℕ, ◌+◌, ◌-◌, ◌^◌, ◌≤◌, ◌<◌, ◌⊎◌, List, [], length, take, drop, refl, ap, ◌∙◌, arith, Option, length-drop, ⊎_elim}
 use Rattle.tcmu_types.specs.Data.{CommandData, ReplyData, SettingsData}
 use Rattle.region_model.specs.Layout.{ring_start, entry_header, command_head, command_bytes, response_bytes, with_response}
-use Rattle.tcmu_types.specs.ByteFields.{le, put, zeros, padded}
+use Rattle.tcmu_types.specs.ByteFields.{le, put, padded}
+use Rattle.tcmu_types.specs.Overwriting.{zeros}
 use Rattle.tcmu_types.proofs.ByteFields.{length-le, field-put, field-before, field-le, length-put}
 use Rattle.region_model.specs.Picture.{request_of, answered_entry}
 use Rattle.region_model.specs.Represents.{entry_at, id_in}

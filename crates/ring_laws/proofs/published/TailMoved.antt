@@ -13,7 +13,8 @@ use Rattle.tcmu_model.specs.Events.{publishable, publish_answer, after_publish}
 use Rattle.tcmu_model.specs.Sound.{IsSound}
 use Rattle.tcmu_model.specs.BlockLists.{Taken}
 use Rattle.region_model.specs.Layout.{ring_start, data_start, tail_place, mailbox_bytes, device_mailbox}
-use Rattle.tcmu_types.specs.ByteFields.{le, put, zeros}
+use Rattle.tcmu_types.specs.ByteFields.{le, put}
+use Rattle.tcmu_types.specs.Overwriting.{zeros}
 use Rattle.region_model.specs.Regions.{RegionState}
 use Rattle.tcmu_types.proofs.ByteFields.{length-le, length-put}
 use Rattle.tcmu_model.proofs.Facts.{publishable_fits}

@@ -5,7 +5,8 @@ use Rattle.tcmu_types.specs.Data.{CommandData, ReplyData, SettingsData}
 use Rattle.tcmu_types.specs.Lists.{Every, first_of}
 use Rattle.tcmu_types.specs.Rules.{payload_length}
 use Rattle.tcmu_types.specs.declared.iovec.Iov.{Iov}
-use Rattle.tcmu_types.specs.ByteFields.{le, padded, put, zeros}
+use Rattle.tcmu_types.specs.ByteFields.{le, padded, put}
+use Rattle.tcmu_types.specs.Overwriting.{zeros}
 use Rattle.tcmu_types.proofs.ByteFields.{length-le, length-put}
 use Rattle.tcmu_types.proofs.Everies.{every-both, every-weaker}
 use Rattle.tcmu_model.specs.BlockLists.{Taken, list_of}

@@ -19,7 +19,7 @@ use Rattle.tcmu_model.specs.Device.{DeviceState, Unfinished, has_state}
 use Rattle.tcmu_model.specs.Events.{is_in_hand}
 use Rattle.tcmu_model.specs.BlockLists.{Taken}
 use Rattle.region_model.specs.Layout.{ring_start}
-use Rattle.tcmu_types.specs.ByteFields.{zeros}
+use Rattle.tcmu_types.specs.Overwriting.{zeros}
 use Rattle.region_model.specs.Iovecs.{scattered}
 use Rattle.region_model.specs.EntryReading.{entry_read}
 use Rattle.region_model.specs.Regions.{AreSized, HaveSize, RegionState, can_lend, home, named_by, opening_region, wrote, copied_in, given_back, put_where, returned, size_of, without}

@@ -17,7 +17,7 @@ use Rattle.tcmu_types.specs.Lists.{first_of, Every}
 use Rattle.tcmu_types.specs.Numbers.{above_all}
 use Rattle.tcmu_model.specs.Device.{Delayed}
 use Rattle.tcmu_model.specs.Events.{later}
-use Rattle.tcmu_types.specs.ByteFields.{zeros}
+use Rattle.tcmu_types.specs.Overwriting.{zeros}
 use Rattle.region_model.specs.Regions.{RegionState, home, size_of, opening_region}
 use Rattle.region_model.specs.Areas.{over, written_along}
 use Rattle.region_model.specs.Sides.{PendingRow, Recorded, TargetState}

@@ -43,7 +43,7 @@ use Rattle.ring_laws.proofs.cleaned.CleanedRing.{front_cleaned}
 
 pub ring_opened : (s : SettingsData) → IsSettings s → RingKept (opening_target s)
 unfolding opening_target
-ring_opened s h = let low : 4096 ≤ s.ring = h.ring_low in record { cleaned = record { below = omega (arith, low); aligned = refl }; items = tt; used = omega (arith, low) }
+ring_opened s h = let low : 4096 ≤ s.ring = h.ring.least in record { cleaned = record { below = omega (arith, low); aligned = refl }; items = tt; used = omega (arith, low) }
 
 opened_settings : (s : SettingsData) → (opening_target s).settings ≡ s
 unfolding opening_target
@@ -79,12 +79,12 @@ head_place_of : (t : TargetState) → IsSettings t.settings → RingKept t → I
 head_place_of t s h =
     let a : t.cleaned % 8 ≡ 0 = h.cleaned.aligned in
     let b : used_in t % 8 ≡ 0 = sum_even t.items h.items in
-    next_place t.settings.ring (t.cleaned + used_in t) s.ring_low s.ring_pages (omega (arith, a, b))
+    next_place t.settings.ring (t.cleaned + used_in t) s.ring.least s.ring.pages (omega (arith, a, b))
 
 pub laid_within : (t : TargetState) (n : ℕ) → IsSettings t.settings → RingKept t → fits_in t n ≡ true → Laid t n
 laid_within t n s h f =
     let p : IsPlace t.settings.ring (head_in t) = head_place_of t s h in
-    let pages : t.settings.ring % 4096 ≡ 0 = s.ring_pages in
+    let pages : t.settings.ring % 4096 ≡ 0 = s.ring.pages in
     let fit : need_in t n ≤ free_in t = leb-true (need_in t n) (free_in t) f in
     let few : n ≤ t.settings.ring = omega (arith, fit) in
     let k = laid_at t.settings.ring (head_in t) n p.below (omega (arith, pages)) p.aligned few in
@@ -197,7 +197,7 @@ ring_past : (t : TargetState) (x : Recorded) (xs : List Recorded) → IsSettings
 ring_past t x xs g h e l =
     let a : t.cleaned % 8 ≡ 0 = h.cleaned.aligned in
     let b : x.len % 8 ≡ 0 = e.0 in
-    record { cleaned = next_place t.settings.ring (t.cleaned + x.len) g.ring_low g.ring_pages (omega (arith, a, b)); items = e.1; used = omega (arith, sum_by-cons (λ (y : Recorded). y.len) x xs, l) }
+    record { cleaned = next_place t.settings.ring (t.cleaned + x.len) g.ring.least g.ring.pages (omega (arith, a, b)); items = e.1; used = omega (arith, sum_by-cons (λ (y : Recorded). y.len) x xs, l) }
 
 ring_by : (r : RegionState) (a : Response) (t : TargetState) (x : Recorded) (xs : List Recorded) (o : Option PendingRow) → RingKept t → RingKept (past t x xs) → RingKept (answered_by r a t x xs o)
 ring_by r a t x xs None h k = record { cleaned = h.cleaned; items = h.items; used = h.used }

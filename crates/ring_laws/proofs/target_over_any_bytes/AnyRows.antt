@@ -235,7 +235,7 @@ all_long (x ∷ xs) h =
     (cases_Bool (is_cmd x))
 
 pub rows_few : (t : TargetState) → IsSettings t.settings → RingKept t → RowsKept t → length t.rows < 65535
-rows_few t g h k = let high : t.settings.ring ≤ 4194304 = g.ring_high in omega (arith, all_long t.items k.long, h.used, high, k.commands)
+rows_few t g h k = let high : t.settings.ring ≤ 4194304 = g.ring.most in omega (arith, all_long t.items k.long, h.used, high, k.commands)
 
 pub rows_few_of_all : (s : SettingsData) (ms : List CallMade) (t : TargetState) → IsSettings s → Called (opening_target s) ms t → length t.rows < 65535
 rows_few_of_all s ms t g c = rows_few t (subst IsSettings (sym (opened_same s ms t c)) g) (ring_of_opening s ms t g c) (rows_of_opening s ms t c)

@@ -1,7 +1,8 @@
 use Rattle.std.proofs.Common.{◌≡◌, ℕ, ◌+◌, ◌-◌, ◌*◌, ◌∙◌, ap, arith, List, length}
 use Rattle.tcmu_model.specs.Lengths.{round_up}
 use Rattle.region_model.specs.Layout.{command_head, command_bytes}
-use Rattle.tcmu_types.specs.ByteFields.{put, zeros, padded}
+use Rattle.tcmu_types.specs.ByteFields.{put, padded}
+use Rattle.tcmu_types.specs.Overwriting.{zeros}
 use Rattle.entry_codec.proofs.Whole.{request_written}
 use Rattle.entry_codec.proofs.writing.write_request.Goals as goal
 

@@ -1,7 +1,8 @@
 use Rattle.std.proofs.Common.{◌≡◌, ℕ, ◌+◌, ◌-◌, ◌*◌, ◌∙◌, ap, arith, length}
 use Rattle.tcmu_model.specs.Lengths.{tmr_length}
 use Rattle.region_model.specs.Layout.{entry_header}
-use Rattle.tcmu_types.specs.ByteFields.{le, put, zeros}
+use Rattle.tcmu_types.specs.ByteFields.{le, put}
+use Rattle.tcmu_types.specs.Overwriting.{zeros}
 use Rattle.entry_codec.proofs.Whole.{tmr_written}
 use Rattle.entry_codec.proofs.writing.write_tmr.Goals as goal
 

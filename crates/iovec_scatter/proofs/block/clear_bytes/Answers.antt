@@ -1,5 +1,5 @@
 use Rattle.std.proofs.Common.{ℕ, ◌∙◌, ap, sym, replicate}
-use Rattle.tcmu_types.specs.ByteFields.{zeros}
+use Rattle.tcmu_types.specs.Overwriting.{zeros}
 use Rattle.iovec_scatter.proofs.block.clear_bytes.Goals as goal
 
 pub returns : goal.returns

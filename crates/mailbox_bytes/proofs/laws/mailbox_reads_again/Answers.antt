@@ -1,10 +1,9 @@
-use Rattle.std.proofs.Common.{◌≡◌, ℕ, ◌∙◌, ap, arith, refl, List, length, [], ◌++◌, append_assoc, false, nat_lt}
+use Rattle.std.proofs.Common.{◌≡◌, ℕ, ◌∙◌, ap, arith, refl, List, length, false, nat_lt}
 use Rattle.std.proofs.lemmas.Bool.{le-ltb}
 use Rattle.region_model.specs.Layout.{mailbox_bytes}
-use Rattle.tcmu_types.specs.ByteFields.{le, field, zeros, put}
-use Rattle.region_model.specs.MailboxReading.{mailbox_in, mailbox_read, judged, Fits}
-use Rattle.region_model.specs.declared.mailbox.Mailbox.{Mailbox}
-use Rattle.tcmu_types.proofs.ByteFields.{lengths, field-in, field-put, length-put}
+use Rattle.tcmu_types.specs.ByteFields.{put}
+use Rattle.region_model.specs.MailboxReading.{mailbox_in, mailbox_read, judged}
+use Rattle.tcmu_types.proofs.ByteFields.{field-put, length-put}
 use Rattle.mailbox_bytes.proofs.laws.mailbox_reads_again.Goals as goal
 use Rattle.region_model.proofs.PartLengths.{length-mailbox, mailbox_fields}
 

@@ -1,6 +1,6 @@
 use Rattle.std.proofs.Common.{◌≡◌, ℕ, ◌+◌, ◌-◌, ◌≤◌, ◌∙◌, ap, arith, length, drop, take, replicate, length-drop, List}
 use Rattle.std.proofs.lemmas.List.{length-take}
-use Rattle.tcmu_types.specs.ByteFields.{zeros}
+use Rattle.tcmu_types.specs.Overwriting.{zeros}
 use Rattle.tcmu_types.proofs.ByteFields.{length-zeros, part_put}
 use Rattle.tcmu_types.proofs.little_endian.put_zeros.Goals as goal
 

@@ -1,7 +1,9 @@
 use Rattle.std.proofs.Common.{◌≡◌, ℕ, ◌∙◌, ap, sym, arith, length, take, drop, List, ◌+◌, ◌-◌, ◌++◌, ◌∷◌, [], length-append}
+use Rattle.std.specs.List.{range_with_len}
 use Rattle.std.proofs.lemmas.List.{take-append-le, drop-append-le, length-drop}
-use Rattle.region_model.specs.Regions.{size_of, RegionState, HaveSize, returned, numbers_from}
-use Rattle.shm_region.proofs.Lent.{back_step, have-last, length-numbers, numbers-last}
+use Rattle.region_model.specs.Regions.{size_of, RegionState, HaveSize, returned}
+use Rattle.std.proofs.lemmas.List.FromFn.{length-range_with_len}
+use Rattle.shm_region.proofs.Lent.{back_step, have-last, numbers-last}
 use Rattle.shm_region.proofs.region.Region.back_range.Goals as goal
 
 pub put_home-requires : goal.put_home-requires
@@ -27,10 +29,10 @@ loop-left-preserved-in-Some c =
       omega arith,
       sym (take-append-le L rest (p ∷ []) (omega arith)) ∙ ap (take L) (sym popped) ∙ inv.2,
       (have-last (size_of c.args.self.now) rest p sizes).0,
-      back_step c.loop-left.self c.put_home.new.self (numbers_from c.args.first (c.loop-left.left - 1)) (c.args.first + (c.loop-left.left - 1)) (drop L rest) p
-          (length-numbers c.args.first (c.loop-left.left - 1) ∙ sym size_rest) c.put_home.ensures.region
-          ∙ ap (λ (ns : List ℕ). record c.loop-left.self { blocks = returned c.loop-left.self.blocks ns (drop L rest ++ p ∷ []) }) (sym (numbers-last c.args.first (c.loop-left.left - 1)) ∙ ap (numbers_from c.args.first) (sym place))
-          ∙ ap (λ (ps : List (List ℕ)). record c.loop-left.self { blocks = returned c.loop-left.self.blocks (numbers_from c.args.first c.loop-left.left) ps }) (sym (drop-append-le L rest (p ∷ []) (omega arith)) ∙ ap (drop L) (sym popped))
+      back_step c.loop-left.self c.put_home.new.self (range_with_len c.args.first (c.loop-left.left - 1)) (c.args.first + (c.loop-left.left - 1)) (drop L rest) p
+          (length-range_with_len c.args.first (c.loop-left.left - 1) ∙ sym size_rest) c.put_home.ensures.region
+          ∙ ap (λ (ns : List ℕ). record c.loop-left.self { blocks = returned c.loop-left.self.blocks ns (drop L rest ++ p ∷ []) }) (sym (numbers-last c.args.first (c.loop-left.left - 1)) ∙ ap (range_with_len c.args.first) (sym place))
+          ∙ ap (λ (ps : List (List ℕ)). record c.loop-left.self { blocks = returned c.loop-left.self.blocks (range_with_len c.args.first c.loop-left.left) ps }) (sym (drop-append-le L rest (p ∷ []) (omega arith)) ∙ ap (drop L) (sym popped))
           ∙ inv.4,
       omega (arith, inv.5, place, c.in-Some.ensures.spare),
     )

@@ -1,5 +1,5 @@
 use Rattle.std.proofs.Common.{◌≡◌, ◌*◌, drop, length}
-use Rattle.tcmu_types.specs.ByteFields.{zeros}
+use Rattle.tcmu_types.specs.Overwriting.{zeros}
 use Rattle.region_model.specs.Areas.{written_along}
 use Rattle.region_model.specs.Regions.{size_of}
 use Rattle.shm_region.proofs.region.Region.clear_blocks.Given as goal

@@ -1,7 +1,9 @@
 use Rattle.std.proofs.Common.{◌≡◌, ℕ, ◌≤◌, ◌∙◌, ap, sym, arith, rules, subst, length, take, drop, List, ◌+◌, ◌++◌, true, false, length-append, get_or}
+use Rattle.std.specs.List.{range_with_len}
 use Rattle.tcmu_types.specs.declared.iovec.Iov.{Iov}
-use Rattle.region_model.specs.Regions.{size_of, RegionState, numbers_of, numbers_from, first_block, block_count, returned, without, taken, can_take, HaveSize}
-use Rattle.shm_region.proofs.Lent.{length-numbers, split_first, split_more, first_room, range_step, cannot_range}
+use Rattle.region_model.specs.Regions.{size_of, RegionState, numbers_of, first_block, block_count, returned, without, taken, can_take, HaveSize}
+use Rattle.std.proofs.lemmas.List.FromFn.{length-range_with_len}
+use Rattle.shm_region.proofs.Lent.{split_first, split_more, first_room, range_step, cannot_range}
 use Rattle.shm_region.proofs.region.Region.lend_iovs.Goals as goal
 use Rattle.region_model.proofs.Areas.{length-taken}
 
@@ -30,7 +32,7 @@ returns-then-not-lend_range-clause-answer c =
     let split = split_first (length c.args.self.now.front) (size_of c.args.self.now) c.loop-done.done c.args.iovs.now none c.first_block.result c.block_count.result c.loop-done-test.true
     (first_is _ _ _ _ _ (get_or c.args.iovs.now c.loop-done.done none) c.first_block.ensures.value inv.0 inv.1) (count_is _ _ _ (get_or c.args.iovs.now c.loop-done.done none) c.block_count.ensures.value inv.1) in
     let cannot : c.lend_range.result ≡ false = search rules in
-    sym (cannot_range c.loop-done.self.blocks (numbers_from c.first_block.result c.block_count.result) (numbers_of (length c.args.self.now.front) (size_of c.args.self.now) (drop (c.loop-done.done + 1) c.args.iovs.now)) (sym c.lend_range.ensures.answer ∙ cannot))
+    sym (cannot_range c.loop-done.self.blocks (range_with_len c.first_block.result c.block_count.result) (numbers_of (length c.args.self.now.front) (size_of c.args.self.now) (drop (c.loop-done.done + 1) c.args.iovs.now)) (sym c.lend_range.ensures.answer ∙ cannot))
     ∙ ap (can_take c.loop-done.self.blocks) (sym split)
     ∙ inv.6
 
@@ -43,7 +45,7 @@ loop-done-preserved c =
     let i : ℕ = c.loop-done.done in
     let f : ℕ = c.first_block.result in
     let k : ℕ = c.block_count.result in
-    let ms : List ℕ = numbers_from f k in
+    let ms : List ℕ = range_with_len f k in
     let rest : List ℕ = numbers_of start size (drop (i + 1) iovs) in
     let front : List ℕ = numbers_of start size (take i iovs) in
     let first = first_is _ _ _ _ _ (get_or c.args.iovs.now c.loop-done.done none) c.first_block.ensures.value inv.0 inv.1 in
@@ -57,7 +59,7 @@ loop-done-preserved c =
     let pages : size_of c.loop-done.self ≡ size = ap (λ (r : RegionState). size_of r) inv.9 in
     let longer : length c.lend_range.new.into.items ≡ length c.loop-done.into.items + k =
     ap length c.if-not-lend_range.ensures.parts ∙ length-append c.loop-done.into.items (taken c.loop-done.self.blocks ms)
-    ∙ ap (λ (n : ℕ). length c.loop-done.into.items + n) (length-taken c.loop-done.self.blocks ms ∙ length-numbers f k) in (
+    ∙ ap (λ (n : ℕ). length c.loop-done.into.items + n) (length-taken c.loop-done.self.blocks ms ∙ length-range_with_len f k) in (
       inv.0,
       inv.1,
       omega arith,

@@ -14,7 +14,7 @@ invariant_of-result c =
       least = limits.pages_low;
       most = limits.pages_high;
       mailbox = omega arith;
-      whole = omega (arith, limits.ring_high);
+      whole = omega (arith, limits.ring.most);
       count = omega arith;
       sized = rw c.new.ensures.items tt;
     }

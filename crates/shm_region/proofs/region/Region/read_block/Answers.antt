@@ -1,5 +1,6 @@
 use Rattle.std.proofs.Common.{◌≡◌, ℕ, ◌+◌, ◌-◌, ◌%◌, ◌≤◌, take, drop, ◌∙◌, ap, sym, arith}
-use Rattle.tcmu_types.specs.ByteFields.{put, zeros}
+use Rattle.tcmu_types.specs.ByteFields.{put}
+use Rattle.tcmu_types.specs.Overwriting.{zeros}
 use Rattle.region_model.specs.Regions.{size_of}
 use Rattle.shm_region.proofs.Shown.{block_chunk, bytes_same, zeros_same, zero_chunk}
 use Rattle.shm_region.proofs.region.Region.read_block.Goals as goal
