@@ -8,3 +8,4 @@ pub mod FileRuns
 pub mod Lossless
 pub mod Syncing
 pub mod Holding
+pub mod Computed

@@ -7,3 +7,4 @@ pub mod Medium
 pub mod Runs
 pub mod Scsi
 pub mod ReadsLost
+pub mod Examples

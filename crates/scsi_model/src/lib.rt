@@ -6,6 +6,7 @@ pub mod laws;
 mod op;
 pub mod pages;
 pub mod senses;
+pub mod worked;
 
 pub use op::{
     CdbFault, Extent, MAXIMUM_UNMAP_DESCRIPTOR_COUNT, MAXIMUM_UNMAP_LBA_COUNT,
