@@ -1,5 +1,10 @@
 //! The examples over the device that keeps plain lists, with a medium in memory.
-use crate::examples::*;
+use crate::examples::expiry::{LATE, LATE_LOG, NO_TIMEOUT};
+use crate::examples::notes::{NOTES, NOTES_LOG};
+use crate::examples::orders::{IN_ORDER, IN_ORDER_LOG};
+use crate::examples::room::{EXACT_FIT, FULL_RING, MEBIBYTE_QUEUED, MEBIBYTE_REFUSED};
+use crate::examples::sent::READ_ONE;
+use crate::examples::{USUAL, WAITING};
 use crate::fixture::{Disk, disk, settings, wide};
 use crate::rows::{command, run};
 use std::alloc::Global;

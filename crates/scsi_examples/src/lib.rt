@@ -1,15 +1,10 @@
-//! Worked examples of the SCSI commands over a medium in memory, and of media as configs make them: by their own calls and below an engine.
+//! Worked examples of the SCSI commands over a medium in memory; and requests with their outcomes, for such examples over any handler.
 #![tactic(auto)]
 
-#[cfg(test)]
-mod config_disks;
-#[cfg(test)]
-mod config_media;
 #[cfg(test)]
 mod fixture;
 #[cfg(test)]
 mod limits;
 #[cfg(test)]
-mod medium_calls;
-#[cfg(test)]
 mod operations;
+pub mod requests;

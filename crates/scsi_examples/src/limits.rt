@@ -1,7 +1,7 @@
 //! Each form of a command at its last range, one block past it, and with a count of 0; the limits of WRITE SAME and of UNMAP's lists.
-use crate::fixture::{
-    Case, Disk, FIELD, GOOD, LIST_FIELD, LIST_LENGTH, OPERATION_CODE, Outcome, RANGE, assert_each,
-    assert_ends, assert_reads, bytes_of, disk, filled,
+use crate::fixture::{Case, Disk, assert_each, assert_ends, assert_reads, disk};
+use crate::requests::{
+    FIELD, GOOD, LIST_FIELD, LIST_LENGTH, OPERATION_CODE, Outcome, RANGE, bytes_of, filled,
 };
 use std::alloc::Global;
 use std::process::Abort;

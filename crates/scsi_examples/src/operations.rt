@@ -1,7 +1,7 @@
 //! Each operation with the outcomes of its rules, and what is then read (SPC-4, SBC-3).
-use crate::fixture::{
-    Case, Disk, FIELD, GOOD, LIST_LENGTH, MISCOMPARE, OPERATION_CODE, RANGE, ask, assert_each,
-    assert_ends, assert_reads, bytes_of, disk, filled,
+use crate::fixture::{Case, Disk, assert_each, assert_ends, assert_reads, disk};
+use crate::requests::{
+    FIELD, GOOD, LIST_LENGTH, MISCOMPARE, OPERATION_CODE, RANGE, ask, bytes_of, filled,
 };
 use handler_trait::Medium;
 use std::alloc::Global;

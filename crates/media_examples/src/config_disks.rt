@@ -1,8 +1,10 @@
 //! What SCSI commands answer over media that configs make: failing calls, protection and files (SPC-4, SBC-3).
 use crate::config_media::{ConfigMedium, files_with, made};
-use crate::fixture::{GOOD, Outcome, PROTECTED, READ_ERROR, WRITE_ERROR, ask, filled, is_block_of};
 use block_engine::Engine;
 use edge::{Files, MemFiles, MemStore};
+use scsi_examples::requests::{
+    GOOD, Outcome, PROTECTED, READ_ERROR, WRITE_ERROR, ask, filled, is_block_of,
+};
 use std::alloc::Global;
 use std::process::Abort;
 use std::test::Fail;

@@ -1,8 +1,8 @@
 //! Files with one name, and media of them.
-use crate::fixture::filled;
 use device_config::parse_config;
 use edge::{MemFiles, MemStore};
 use media::{MakeFault, Media, make_medium};
+use scsi_examples::requests::filled;
 use std::alloc::Global;
 use std::test::Fail;
 use tcmu_types::{Bytes, Serials};
