@@ -1,5 +1,5 @@
 -- Jobs given up one after another, as the definitions have it.
-use Rattle.std.proofs.Common.{◌≡◌, ℕ, List, [], ◌∷◌, length, Option, Some, None, refl, sym, ap, ◌∙◌, subst}
+use Rattle.std.proofs.Common.{◌≡◌, List, [], ◌∷◌, Option, Some, None, refl, sym, ap, ◌∙◌, subst}
 use Rattle.tcmu_types.specs.Lists.{Every}
 use Rattle.region_model.specs.Regions.{RegionState}
 use Rattle.region_model.specs.Sides.{GivenJob, Parked, UserState}
@@ -33,3 +33,9 @@ whole_rest u after g e same whole =
     let all = subst (λ (gs : List GivenJob). Every (λ h. (p : Parked) → h.parked ≡ Some p → IsWholeJob u p.job) gs) e whole in
     let rest : AreWholeJobs (record u { jobs = after.jobs }) = all.1 in
     subst AreWholeJobs (sym same) rest
+
+-- where no job is parked, nothing goes back
+pub none_abandoned : (r : RegionState) (jobs : List GivenJob) → Every (λ g. g.parked ≡ None) jobs → region_abandoned r jobs ≡ r
+unfolding region_abandoned
+none_abandoned r [] h = refl
+none_abandoned r (g ∷ gs) h = ap (λ o. region_abandoned (with_parked_back r o) gs) h.0 ∙ none_abandoned r gs h.1

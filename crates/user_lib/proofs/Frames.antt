@@ -20,8 +20,7 @@ use Rattle.ring_laws.specs.UserKept.{HasRing, IsAnswered, OnlyAnswers, UserSound
 use Rattle.ring_laws.proofs.user_over_any_bytes.AnyAnswers.{Answers, respond_keeps}
 use Rattle.ring_laws.proofs.placed.AnswerData.{returned-other}
 use Rattle.shm_region.specs.Copies.{LeaveOut, ShareNone}
-use Rattle.user_lib.specs.Frames.{ChangesOnly, LeavesBlock, answered_jobs, front_jobs}
-use Rattle.user_lib.proofs.Placings.{payload_front, payload_pages, placed_first}
+use Rattle.user_lib.specs.Frames.{ChangesOnly, LeavesBlock, front_jobs}
 
 -- ==== bytes that two ranges share
 

@@ -1,5 +1,5 @@
 -- A next, entry by entry.
-use Rattle.std.proofs.Common.{◌≡◌, ℕ, suc, ◌+◌, ◌-◌, ◌*◌, ◌%◌, ◌<◌, ◌≤◌, ◌==◌, true, false, cond, List, [], ◌∷◌, ◌++◌, length, take, Result, Ok, Err, refl, sym, ap, ◌∙◌, subst, arith, append_assoc}
+use Rattle.std.proofs.Common.{◌≡◌, ℕ, suc, ◌+◌, ◌-◌, ◌*◌, ◌%◌, ◌<◌, ◌≤◌, ◌==◌, true, false, cond, [], ◌++◌, length, take, Result, Ok, Err, refl, sym, ap, ◌∙◌, subst, arith, append_assoc}
 use Rattle.std.proofs.lemmas.List.{append-nil, take_at}
 use Rattle.region_model.specs.declared.mailbox.Mailbox.{Mailbox}
 use Rattle.region_model.specs.declared.mailbox.MailboxFault.{MailboxFault}
@@ -10,7 +10,7 @@ use Rattle.tcmu_types.specs.declared.dump.ItemKind.TheVariants as kind
 use Rattle.region_model.specs.Layout.{ring_start}
 use Rattle.region_model.specs.EntryReading.{entry_read}
 use Rattle.region_model.specs.Regions.{RegionState, size_of}
-use Rattle.region_model.specs.Sides.{Recorded, UserState}
+use Rattle.region_model.specs.Sides.{UserState}
 use Rattle.region_model.specs.UserSteps.{user_mailbox}
 use Rattle.region_model.specs.UserNext.{Nexted, NextAnswer, Nothing, BadMailbox, BadEntry, command_next, iovs_in, most_entries, next_of, next_within, nexted, note_next, tmr_ids_in, with_passed, with_unknown}
 use Rattle.user_lib.specs.declared.next.UserFault.{UserFault}

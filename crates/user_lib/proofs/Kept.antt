@@ -1,5 +1,5 @@
 -- What every user side keeps, behind each of its calls.
-use Rattle.std.proofs.Common.{◌≡◌, ◌⊎◌, ℕ, ◌+◌, ◌≤◌, true, List, [], length, Result, Ok, Err, refl, sym, ap, ◌∙◌, subst, arith, ⊎_elim}
+use Rattle.std.proofs.Common.{◌≡◌, ◌⊎◌, true, [], length, Result, Ok, Err, refl, sym, ap, ◌∙◌, subst, ⊎_elim}
 use Rattle.std.specs.List.{list_any}
 use Rattle.region_model.specs.declared.mailbox.Mailbox.{Mailbox}
 use Rattle.region_model.specs.declared.mailbox.MailboxFault.{MailboxFault}
@@ -7,16 +7,16 @@ use Rattle.region_model.specs.Layout.{data_start}
 use Rattle.region_model.specs.Regions.{RegionState}
 use Rattle.region_model.specs.Sides.{Parked, UserState}
 use Rattle.region_model.specs.UserSteps.{attached_to, is_open_job, region_abandoned, region_reattached, user_abandoned, user_attached, user_mailbox, user_of, user_published, user_responded}
-use Rattle.region_model.specs.UserNext.{Job, nexted}
+use Rattle.region_model.specs.UserNext.{nexted}
 use Rattle.ring_laws.specs.Restarted.{region_restarted}
 use Rattle.ring_laws.specs.Sizes.{IsSized}
 use Rattle.ring_laws.specs.UserKept.{HasPages, HasRing, IsWholeJob}
-use Rattle.ring_laws.proofs.user_over_any_bytes.AnyAnswers.{Answers, OnlyBlocks, abandon_sound, publish_sizes, publish_sound, reattach_only, respond_keeps, respond_ring}
+use Rattle.ring_laws.proofs.user_over_any_bytes.AnyAnswers.{Answers, OnlyBlocks, abandon_sound, publish_sound, reattach_only, respond_keeps}
 use Rattle.ring_laws.proofs.user_over_any_bytes.AnyAttached.{attached_pages, attached_sound}
 use Rattle.ring_laws.proofs.restarted.RestartedKept.{SameFront, front_restarted}
 use Rattle.ring_laws.proofs.user_over_any_bytes.AnyCounts.{abandon_counts, attach_counts, next_counts, publish_counts, respond_counts}
-use Rattle.ring_laws.proofs.user_over_any_bytes.AnyNext.{Nexts, next_keeps, next_ring}
-use Rattle.ring_laws.proofs.user_over_any_bytes.AnyWhole.{attach_jobs, next_job, next_jobs, next_pages, publish_jobs, publish_pages, respond_jobs, respond_pages}
+use Rattle.ring_laws.proofs.user_over_any_bytes.AnyNext.{Nexts, next_keeps}
+use Rattle.ring_laws.proofs.user_over_any_bytes.AnyWhole.{attach_jobs, next_job, next_jobs, next_pages, publish_jobs, respond_jobs}
 use Rattle.user_lib.specs.declared.next.Next.{Next}
 use Rattle.user_lib.specs.declared.next.UserFault.{UserFault}
 use Rattle.user_lib.specs.declared.next.UserFault.TheVariants as fault
@@ -24,6 +24,7 @@ use Rattle.user_lib.specs.Stays.{StaysAttached}
 use Rattle.user_lib.specs.Told.{Told}
 use Rattle.user_lib.specs.declared.next.Next.TheVariants as next
 use Rattle.user_lib.specs.Users.{CanRespondNext, IsUser}
+use Rattle.user_lib.proofs.Leads.{attached_leads, next_leads, respond_leads}
 use Rattle.user_lib.proofs.Opens.{next_gives}
 
 -- it has dispatched none
@@ -39,11 +40,11 @@ attached_fresh r u h = go (user_mailbox r) h
     go (Ok m) q = sym (ap (λ (x : UserState). x.dispatched) (same (user_of r.pages m) u q))
 
 pub attached_kept : (r : RegionState) (u : UserState) → user_attached r ≡ Ok u → IsUser u
-attached_kept r u h = record { sound = (attached_sound r u h).0; counts = attach_counts r u h; whole = attach_jobs r u h }
+attached_kept r u h = record { sound = (attached_sound r u h).0; counts = attach_counts r u h; whole = attach_jobs r u h; first = attached_leads r u h }
 
 nexted_kept : (r : RegionState) (u : UserState) → IsUser u → HasRing r u → HasPages r u → IsSized r → IsUser (nexted r u).user
 nexted_kept r u h ring pages sized =
-    record { sound = (next_keeps r u h.sound ring).user; counts = next_counts r u h.counts; whole = next_jobs r u h.sound ring pages sized h.whole }
+    record { sound = (next_keeps r u h.sound ring).user; counts = next_counts r u h.counts; whole = next_jobs r u h.sound ring pages sized h.whole; first = next_leads r u h.first }
 
 pub told_kept : (r left : RegionState) (u after : UserState) (result : Result Next UserFault) → Told r u result left after → IsUser u → HasRing r u → HasPages r u → IsSized r → IsUser after
 told_kept r left u after (Ok next) t h ring pages sized = subst IsUser t.user (nexted_kept r u h ring pages sized)
@@ -53,14 +54,15 @@ told_kept r left u after (Err fault.NoMemory) t h ring pages sized = subst IsUse
 
 pub responded_kept : (r : RegionState) (u : UserState) (p : Parked) → IsUser u → HasRing r u → list_any (is_open_job p.job.id) u.jobs ≡ true → IsWholeJob u p.job → IsUser (user_responded r u p).user
 responded_kept r u p h ring is_open whole =
-    record { sound = (respond_keeps r u p h.sound ring).user; counts = respond_counts r u p h.counts is_open; whole = respond_jobs r u p h.sound ring h.whole whole }
+    record { sound = (respond_keeps r u p h.sound ring).user; counts = respond_counts r u p h.counts is_open; whole = respond_jobs r u p h.sound ring h.whole whole; first = respond_leads r u p h.counts }
 
 pub published_kept : (u : UserState) → IsUser u → IsUser (user_published u)
-published_kept u h = record { sound = publish_sound u h.sound; counts = publish_counts u h.counts; whole = publish_jobs u h.whole }
+unfolding user_published
+published_kept u h = record { sound = publish_sound u h.sound; counts = publish_counts u h.counts; whole = publish_jobs u h.whole; first = h.first }
 
 pub abandoned_kept : (u : UserState) → IsUser u → IsUser (user_abandoned u)
 unfolding user_abandoned
-abandoned_kept u h = record { sound = abandon_sound u h.sound; counts = abandon_counts u h.counts; whole = tt }
+abandoned_kept u h = record { sound = abandon_sound u h.sound; counts = abandon_counts u h.counts; whole = tt; first = λ e. refl }
 
 -- a job that comes may be responded
 pub told_job : (r left : RegionState) (u after : UserState) (result : Result Next UserFault) → Told r u result left after → IsUser u → HasRing r u → HasPages r u → IsSized r → CanRespondNext after result

@@ -1,18 +1,17 @@
 -- Jobs under keys: what one that is parked or taken out leaves of the others.
-use Rattle.std.proofs.Common.{◌≡◌, ◌≢◌, ℕ, suc, ◌+◌, ◌≤◌, ◌==◌, ◌&&◌, not, Bool, true, false, cond, List, [], ◌∷◌, ◌++◌, length, length-append, map, Option, Some, None, refl, sym, ap, ◌∙◌, subst, arith, ⊎_elim}
-use Rattle.std.specs.List.{list_any, find}
+use Rattle.std.proofs.Common.{◌≡◌, ◌≢◌, ℕ, suc, ◌+◌, ◌≤◌, ◌==◌, ◌&&◌, not, true, false, cond, List, [], ◌∷◌, ◌++◌, length, Option, Some, None, refl, sym, ap, ◌∙◌, subst, arith, ⊎_elim}
+use Rattle.std.specs.List.{list_any}
 use Rattle.std.specs.Option.{MatchOption, OnSome, is_some, option_and_then, option_map}
-use Rattle.std.specs.Borrow.{Bor}
 use Rattle.std.proofs.lemmas.List.Sums.{sum_by-cons}
 use Rattle.std.proofs.lemmas.Bool.{and_parts, cases_Bool, false≢true}
 use Rattle.slab.specs.Slab.{Slab, Updates, get, slab_len}
 use Rattle.tcmu_types.specs.Lists.{first_of, without_first, with_first, Every}
-use Rattle.tcmu_types.proofs.Firsts.{length-with_first, length-without_first}
-use Rattle.region_model.specs.Sides.{GivenJob, JobState, Parked}
+use Rattle.region_model.specs.Sides.{GivenJob, Parked}
 use Rattle.region_model.specs.UserSteps.{is_open_job, is_unanswered, with_parked}
 use Rattle.ring_laws.specs.Restarted.{count_parked}
-use Rattle.user_lib.specs.declared.jobs.Given.{Given}
-use Rattle.user_lib.specs.Given.{AreApart, AreKeyed, IsKeyed, TakesKey, is_open, is_parked_job, parked_job, job_of, jobs_of, kept_under, keys_of, with_key, with_key_of}
+use Rattle.user_lib.specs.declared.past.Given.{Given}
+use Rattle.user_lib.specs.ById.{first_key, keys_under}
+use Rattle.user_lib.specs.Given.{AreApart, AreKeyed, IsKeyed, TakesKey, awaited, first_given, first_id, first_parked, is_open, is_parked_job, leads_parked, parked_job, job_of, jobs_of, kept_under, keys_of, with_key, with_key_of}
 
 -- ==== one job
 
@@ -210,41 +209,11 @@ count_keys s (g ∷ gs) h = go g.key h.0 (count_keys s gs h.1)
     go None k e = e
     go (Some key) k e = counted g.id (get s key) (jobs_of s gs) k.0 ∙ omega (arith, e)
 
--- ==== the first that passes
-
-pub first_mapped : (s : Slab Parked) (p : GivenJob → Bool) (q : Given → Bool) (gs : List Given) → ((g : Given) (keys : List ℕ) → IsKeyed s g.key keys → p (job_of s g) ≡ q g) → AreApart s gs →
-    first_of p (jobs_of s gs) ≡ option_map (job_of s) (find q gs)
-first_mapped s p q [] same h = refl
-first_mapped s p q (g ∷ gs) same h =
-    let a : p (job_of s g) ≡ q g = same g (keys_of gs) h.0 in
-    ⊎_elim
-    (λ (e : q g ≡ true). rw (a, e) refl)
-    (λ (e : q g ≡ false). rw (a, e) (first_mapped s p q gs same h.1))
-    (cases_Bool (q g))
-
-pub unanswered_same : (s : Slab Parked) (g : Given) (keys : List ℕ) → IsKeyed s g.key keys → is_unanswered (job_of s g) ≡ not (is_some g.key)
-unanswered_same s g keys h = go g.key h
-  where
-    go : (o : Option ℕ) → IsKeyed s o keys → not (is_some (kept_under s o)) ≡ not (is_some o)
-    go None k = refl
-    go (Some key) k = ap not k.0
-
-abbrev pub is_keyed : ℕ → Given → Bool
-is_keyed id g = (g.id == id) && is_some g.key
-
-pub parked_same : (s : Slab Parked) (id : ℕ) (g : Given) (keys : List ℕ) → IsKeyed s g.key keys → is_parked_job id (job_of s g) ≡ is_keyed id g
-parked_same s id g keys h = go g.key h
-  where
-    go : (o : Option ℕ) → IsKeyed s o keys → ((g.id == id) && is_some (kept_under s o)) ≡ ((g.id == id) && is_some o)
-    go None k = refl
-    go (Some key) k = ap (λ b. (g.id == id) && b) k.0
-
 -- ==== the invariant behind a change
 
 -- with one job more that has no reply
-pub keyed_push : (s : Slab Parked) (gs : List Given) (id : ℕ) → AreKeyed s gs → length gs + 1 ≤ s.capacity → AreKeyed s (gs ++ record { id = id; key = None } ∷ [])
-keyed_push s gs id h room =
-    record { apart = apart gs h.apart; room = omega (arith, room, length-append gs (g ∷ [])); count = h.count ∙ sym (ap length (keys gs)) }
+pub keyed_push : (s : Slab Parked) (gs : List Given) (id : ℕ) → AreKeyed s gs → AreKeyed s (gs ++ record { id = id; key = None } ∷ [])
+keyed_push s gs id h = record { apart = apart gs h.apart; count = h.count ∙ sym (ap length (keys gs)) }
   where
     g : Given
     g = record { id = id; key = None }
@@ -262,9 +231,8 @@ jobs_push s [] id = refl
 jobs_push s (g ∷ gs) id = ap (λ xs. job_of s g ∷ xs) (jobs_push s gs id)
 
 -- in a slab whose capacity alone differs
-pub keyed_grown : (s s' : Slab Parked) (gs : List Given) → s' ≡ record s { capacity = s'.capacity } → s.capacity ≤ s'.capacity → AreKeyed s gs → AreKeyed s' gs
-keyed_grown s s' gs same more h =
-    subst (λ (x : Slab Parked). AreKeyed x gs) (sym same) (record { apart = apart gs h.apart; room = omega (arith, more, h.room); count = h.count })
+pub keyed_grown : (s s' : Slab Parked) (gs : List Given) → s' ≡ record s { capacity = s'.capacity } → AreKeyed s gs → AreKeyed s' gs
+keyed_grown s s' gs same h = subst (λ (x : Slab Parked). AreKeyed x gs) (sym same) (record { apart = apart gs h.apart; count = h.count })
   where
     apart : (gs : List Given) → AreApart s gs → AreApart (record s { capacity = s'.capacity }) gs
     apart [] a = tt
@@ -289,20 +257,14 @@ jobs_grown s s' gs same = ap (λ (x : Slab Parked). jobs_of x gs) same ∙ go gs
 
 -- without the first open job of an id
 pub keyed_without : (s : Slab Parked) (id : ℕ) (gs : List Given) → AreKeyed s gs → AreKeyed s (without_first (is_open id) gs)
-keyed_without s id gs h =
-    record {
-      apart = apart_without s id gs h.apart;
-      room = omega (arith, h.room, length-without_first (is_open id) gs);
-      count = h.count ∙ sym (ap length (keys_without id gs));
-    }
+keyed_without s id gs h = record { apart = apart_without s id gs h.apart; count = h.count ∙ sym (ap length (keys_without id gs)) }
 
 -- with the first open job of an id under a key that was free
-pub keyed_parked : (s s' : Slab Parked) (id key : ℕ) (p : Parked) (gs : List Given) → Updates s s' key (Some p) → get s key ≡ None → list_any (is_open id) gs ≡ true → slab_len s' ≡ slab_len s + 1 →
-    s'.capacity ≡ s.capacity → AreKeyed s gs → AreKeyed s' (with_first (is_open id) (with_key key) gs)
-keyed_parked s s' id key p gs u none any more same h =
+pub keyed_parked : (s s' : Slab Parked) (id key : ℕ) (p : Parked) (gs : List Given) → Updates s s' key (Some p) → get s key ≡ None → list_any (is_open id) gs ≡ true → slab_len s' ≡ slab_len s + 1 → AreKeyed s gs →
+    AreKeyed s' (with_first (is_open id) (with_key key) gs)
+keyed_parked s s' id key p gs u none any more h =
     record {
       apart = apart_parked s s' id key p gs u h.apart (free_key s key gs h.apart none);
-      room = omega (arith, same, h.room, length-with_first (is_open id) (with_key key) gs);
       count = more ∙ (ap (λ n. n + 1) h.count ∙ sym (keys_parked id key gs any));
     }
 
@@ -311,10 +273,14 @@ pub keyed_pop : (s s' : Slab Parked) (g : Given) (gs : List Given) → TakesKey 
 keyed_pop s s' g gs t h = go g.key t h.apart.0 h.count
   where
     go : (o : Option ℕ) → TakesKey s s' o → IsKeyed s o (keys_of gs) → slab_len s ≡ length (with_key_of o (keys_of gs)) → AreKeyed s' gs
-    go None e k n = subst (λ (x : Slab Parked). AreKeyed x gs) (sym e) (record { apart = h.apart.1; room = omega (arith, h.room); count = n })
+    go None e k n = subst (λ (x : Slab Parked). AreKeyed x gs) (sym e) (record { apart = h.apart.1; count = n })
     go (Some key) u k n =
         let less : slab_len s' + 1 ≡ slab_len s = u.1 k.0 in
-        record { apart = apart_kept s s' key None gs u.0 k.1 h.apart.1; room = omega (arith, u.2, h.room); count = omega (arith, less, n) }
+        record { apart = apart_kept s s' key None gs u.0 k.1 h.apart.1; count = omega (arith, less, n) }
+
+pub pop_room : (s s' : Slab Parked) (key : Option ℕ) → TakesKey s s' key → s'.capacity ≡ s.capacity
+pop_room s s' None e = ap (λ (x : Slab Parked). x.capacity) e
+pop_room s s' (Some key) u = u.2
 
 pub jobs_pop : (s s' : Slab Parked) (g : Given) (gs : List Given) → TakesKey s s' g.key → AreKeyed s (g ∷ gs) → jobs_of s' gs ≡ jobs_of s gs
 jobs_pop s s' g gs t h = go g.key t h.apart.0
@@ -322,6 +288,23 @@ jobs_pop s s' g gs t h = go g.key t h.apart.0
     go : (o : Option ℕ) → TakesKey s s' o → IsKeyed s o (keys_of gs) → jobs_of s' gs ≡ jobs_of s gs
     go None e k = ap (λ (x : Slab Parked). jobs_of x gs) e
     go (Some key) u k = jobs_kept s s' key None gs u.0 k.1
+
+pub awaited_most : (o : Option ℕ) → awaited o ≤ 1
+awaited_most None = omega arith
+awaited_most (Some id) = omega arith
+
+-- where none is under a key, none has its reply
+pub none_kept : (s : Slab Parked) (gs : List Given) → keys_of gs ≡ [] → Every (λ g. g.parked ≡ None) (jobs_of s gs)
+none_kept s [] e = tt
+none_kept s (g ∷ gs) e = go g.key e (λ q. none_kept s gs q)
+  where
+    go : (o : Option ℕ) → with_key_of o (keys_of gs) ≡ [] → (keys_of gs ≡ [] → Every (λ g. g.parked ≡ None) (jobs_of s gs)) → (kept_under s o ≡ None) × Every (λ g. g.parked ≡ None) (jobs_of s gs)
+    go None q rest = (refl, rest q)
+    go (Some key) q rest = absurd (omega (arith, ap length q))
+
+pub none_jobs : (s : Slab Parked) (gs : List Given) → jobs_of s gs ≡ [] → gs ≡ []
+none_jobs s [] e = refl
+none_jobs s (g ∷ gs) e = absurd (omega (arith, ap length e))
 
 -- ==== what the look-ups tell
 
@@ -335,41 +318,39 @@ at_none P Q o e h = subst (λ x. MatchOption x P Q) e h
 pub at_some : {X : Type 0} (P : Type 0) (Q : X → Type 0) (o : Option X) (x : X) → o ≡ Some x → MatchOption o P Q → Q x
 at_some P Q o x e h = subst (λ y. MatchOption y P Q) e h
 
-pub open_told : (s : Slab Parked) (gs : List Given) (o : Option Given) → AreApart s gs → o ≡ find (λ g. not (is_some g.key)) gs →
-    option_map (λ g. g.id) o ≡ option_map (λ g. g.id) (first_of is_unanswered (jobs_of s gs))
-open_told s gs o h e = go o ∙ ap (option_map (λ g. g.id)) (ap (option_map (job_of s)) e ∙ sym (first_mapped s is_unanswered (λ g. not (is_some g.key)) gs (unanswered_same s) h))
+-- the first job is under a key where it has its reply
+pub leads_same : (s : Slab Parked) (gs : List Given) → AreApart s gs → leads_parked gs ≡ first_parked (jobs_of s gs)
+leads_same s [] h = refl
+leads_same s (g ∷ gs) h = go g.key h.0
   where
-    go : (o : Option Given) → option_map (λ g. g.id) o ≡ option_map (λ g. g.id) (option_map (job_of s) o)
-    go None = refl
-    go (Some g) = refl
+    go : (o : Option ℕ) → IsKeyed s o (keys_of gs) → is_some o ≡ is_some (kept_under s o)
+    go None k = refl
+    go (Some key) k = sym k.0
 
--- the job of a given one that is parked
-abbrev pub job_under : Slab Parked → Option Given → Option JobState
-job_under s o = option_and_then (λ g. option_map (λ p. p.job) (kept_under s g.key)) o
+-- the first of all is the first that has no reply, where it has none
+pub open_leads : (jobs : List GivenJob) → first_parked jobs ≡ false → option_map (λ g. g.id) (first_of is_unanswered jobs) ≡ first_given jobs
+open_leads [] h = refl
+open_leads (g ∷ jobs) h = let t : is_unanswered g ≡ true = ap not h in rw t refl
 
-pub parked_told : (s : Slab Parked) (id : ℕ) (gs : List Given) (o : Option Given) → AreApart s gs → o ≡ find (is_keyed id) gs → job_under s o ≡ parked_job id (jobs_of s gs)
-parked_told s id gs o h e =
-    go o ∙ ap (option_and_then (λ (g : GivenJob). option_map (λ (p : Parked). p.job) g.parked)) (ap (option_map (job_of s)) e ∙ sym (first_mapped s (is_parked_job id) (is_keyed id) gs (parked_same s id) h))
+pub first_given_same : (s : Slab Parked) (gs : List Given) → first_given (jobs_of s gs) ≡ first_id gs
+first_given_same s [] = refl
+first_given_same s (g ∷ gs) = refl
+
+-- what is under the first key of an id is its first parked job
+pub parked_same : (s : Slab Parked) (id : ℕ) (gs : List Given) → AreApart s gs → option_map (λ p. p.job) (kept_under s (first_key (keys_under id gs))) ≡ parked_job id (jobs_of s gs)
+parked_same s id [] h = refl
+parked_same s id (g ∷ gs) h =
+    ⊎_elim
+    (λ (t : (g.id == id) ≡ true). rw t (go g.key h.0 (parked_same s id gs h.1)))
+    (λ (f : (g.id == id) ≡ false). rw f (parked_same s id gs h.1))
+    (cases_Bool (g.id == id))
   where
-    go : (o : Option Given) → job_under s o ≡ option_and_then (λ (g : GivenJob). option_map (λ (p : Parked). p.job) g.parked) (option_map (job_of s) o)
-    go None = refl
-    go (Some g) = refl
+    one : (o : Option Parked) → is_some o ≡ true → option_map (λ p. p.job) o ≡ option_and_then (λ (x : GivenJob). option_map (λ (p : Parked). p.job) x.parked) (cond (is_some o) (Some (record { id = g.id; parked = o })) (first_of (is_parked_job id) (jobs_of s gs)))
+    one None e = absurd (false≢true e)
+    one (Some p) e = refl
 
--- the same of a look-up that answers a reference
-abbrev pub shown_of : Option (Bor Given) → Option Given
-shown_of r = option_map (λ y. y.now) r
-
-pub open_missing : (s : Slab Parked) (gs : List Given) (r : Option (Bor Given)) → AreApart s gs → shown_of r ≡ find (λ g. not (is_some g.key)) gs → r ≡ None →
-    ◌≡◌ {A = Option ℕ} None (option_map (λ g. g.id) (first_of is_unanswered (jobs_of s gs)))
-open_missing s gs r h e n = ap (λ x. option_map (λ g. g.id) (shown_of x)) (sym n) ∙ open_told s gs (shown_of r) h e
-
-pub open_found : (s : Slab Parked) (gs : List Given) (r : Option (Bor Given)) (y : Bor Given) → AreApart s gs → shown_of r ≡ find (λ g. not (is_some g.key)) gs → r ≡ Some y →
-    Some y.now.id ≡ option_map (λ g. g.id) (first_of is_unanswered (jobs_of s gs))
-open_found s gs r y h e n = ap (λ x. option_map (λ g. g.id) (shown_of x)) (sym n) ∙ open_told s gs (shown_of r) h e
-
-pub parked_missing : (s : Slab Parked) (id : ℕ) (gs : List Given) (r : Option (Bor Given)) → AreApart s gs → shown_of r ≡ find (is_keyed id) gs → r ≡ None → ◌≡◌ {A = Option JobState} None (parked_job id (jobs_of s gs))
-parked_missing s id gs r h e n = ap (λ x. job_under s (shown_of x)) (sym n) ∙ parked_told s id gs (shown_of r) h e
-
-pub parked_found : (s : Slab Parked) (id : ℕ) (gs : List Given) (r : Option (Bor Given)) (y : Bor Given) (o : Option Parked) → AreApart s gs → shown_of r ≡ find (is_keyed id) gs → r ≡ Some y → o ≡ kept_under s y.now.key →
-    option_map (λ p. p.job) o ≡ parked_job id (jobs_of s gs)
-parked_found s id gs r y o h e n k = ap (option_map (λ (p : Parked). p.job)) k ∙ (ap (λ x. job_under s (shown_of x)) (sym n) ∙ parked_told s id gs (shown_of r) h e)
+    go : (o : Option ℕ) → IsKeyed s o (keys_of gs) → option_map (λ p. p.job) (kept_under s (first_key (keys_under id gs))) ≡ parked_job id (jobs_of s gs) →
+        option_map (λ p. p.job) (kept_under s (first_key (with_key_of o (keys_under id gs))))
+        ≡ option_and_then (λ (x : GivenJob). option_map (λ (p : Parked). p.job) x.parked) (cond (is_some (kept_under s o)) (Some (record { id = g.id; parked = kept_under s o })) (first_of (is_parked_job id) (jobs_of s gs)))
+    go None k rest = rest
+    go (Some key) k rest = one (get s key) k.0

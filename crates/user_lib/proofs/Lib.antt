@@ -1,8 +1,11 @@
 pub mod Keys
+pub mod ById
+pub mod InOrder
 pub mod Entries
 pub mod Going
 pub mod Placings
 pub mod Moved
+pub mod Leads
 pub mod Kept
 pub mod Backs
 pub mod Opens

@@ -1,17 +1,14 @@
 -- The calls on a region that represents a device.
-use Rattle.std.proofs.Common.{◌≡◌, ℕ, ◌+◌, Bool, true, false, List, [], Some, Result, Ok, Err, refl, sym, ap, ◌∙◌, subst, arith}
+use Rattle.std.proofs.Common.{◌≡◌, ℕ, Bool, true, false, List, [], Some, Result, Ok, Err, refl, sym, ap, ◌∙◌, subst, arith}
 use Rattle.std.proofs.lemmas.Bool.{false≢true}
 use Rattle.tcmu_types.specs.Data.{ReplyData}
 use Rattle.tcmu_types.specs.declared.answer.Publish.{Publish}
-use Rattle.tcmu_types.specs.declared.answer.Reset.TheVariants.{Reset}
 use Rattle.tcmu_types.specs.declared.answer.Respond.{Respond}
 use Rattle.tcmu_types.specs.Events.{DispatchData}
 use Rattle.tcmu_types.specs.Events as device
-use Rattle.tcmu_types.specs.Lists.{first_of}
 use Rattle.tcmu_model.specs.BlockLists.{Taken}
 use Rattle.tcmu_model.specs.Device.{DeviceState}
-use Rattle.tcmu_model.specs.Events.{after_dispatch, after_publish, after_reset, after_respond, after_restart, dispatch_answer, publish_answer, reset_answer, respond_answer}
-use Rattle.region_model.specs.declared.mailbox.Mailbox.{Mailbox}
+use Rattle.tcmu_model.specs.Events.{after_dispatch, after_publish, after_reset, after_respond, after_restart, dispatch_answer}
 use Rattle.region_model.specs.declared.mailbox.MailboxFault.{MailboxFault}
 use Rattle.region_model.specs.declared.entry.EntryFault.{EntryFault}
 use Rattle.region_model.specs.HandSteps.{hand_responded}
@@ -23,8 +20,7 @@ use Rattle.region_model.specs.UserNext.{BadEntry, BadMailbox, NextAnswer, Nexted
 use Rattle.region_model.specs.UserSteps.{opening_user, region_abandoned, region_published, region_reattached, user_abandoned, user_attached, user_publish_answer, user_published, user_respond_answer, user_responded}
 use Rattle.ring_laws.specs.Attached.{attached_user}
 use Rattle.ring_laws.specs.Dispatched.{AnswersDispatch, CanDispatch, hand_dispatched}
-use Rattle.ring_laws.specs.Handed.{is_answered}
-use Rattle.ring_laws.specs.Restarted.{region_restarted, region_with_hand}
+use Rattle.ring_laws.specs.Restarted.{region_restarted}
 use Rattle.ring_laws.proofs.attached.AttachedUser.{attached_same}
 use Rattle.ring_laws.proofs.dispatched.DispatchAnswers.{answer_dispatched}
 use Rattle.ring_laws.proofs.dispatched.DispatchBlocks.{blocks_dispatched}
@@ -39,8 +35,8 @@ use Rattle.ring_laws.proofs.published.TailMoved.{blocks_published, ids_published
 use Rattle.user_lib.specs.declared.next.Next.{Next}
 use Rattle.user_lib.specs.declared.next.UserFault.{UserFault}
 use Rattle.user_lib.specs.declared.next.UserFault.TheVariants as fault
-use Rattle.user_lib.specs.OnDevice.{AttachesDevice, ByDispatch, Dispatches, DispatchesDevice, Publishes, PublishesDevice, ResetsDevice, Responds, RespondsDevice, RestartsDevice, StandsFor, StandsForNone}
-use Rattle.user_lib.specs.Told.{IsNexted, Stopped, Told}
+use Rattle.user_lib.specs.OnDevice.{AttachesDevice, DispatchesDevice, PublishesDevice, ResetsDevice, RespondsDevice, RestartsDevice, StandsFor, StandsForNone}
+use Rattle.user_lib.specs.Told.{IsNexted, Told}
 use Rattle.user_lib.specs.Views.{next_data}
 
 -- the parts of what is represented, of equal regions, user sides and jobs in hand

@@ -1,5 +1,5 @@
 -- Answers placed one after another, as the definitions have them.
-use Rattle.std.proofs.Common.{◌≡◌, ℕ, suc, ◌+◌, ◌-◌, ◌<◌, ◌≤◌, Bool, true, false, cond, List, [], ◌∷◌, length, take, drop, Option, Some, None, refl, sym, ap, ◌∙◌, subst, arith, leb, leb-true}
+use Rattle.std.proofs.Common.{◌≡◌, ℕ, suc, ◌+◌, ◌-◌, ◌≤◌, Bool, true, false, cond, List, [], ◌∷◌, length, take, drop, Option, Some, None, refl, sym, ap, ◌∙◌, subst, arith, leb, leb-true}
 use Rattle.std.specs.List.{list_all, list_any}
 use Rattle.std.specs.Option.{MatchOption, is_some, option_map}
 use Rattle.std.proofs.lemmas.Bool.{and_parts, true≢false}
@@ -11,7 +11,7 @@ use Rattle.tcmu_types.proofs.ByteFields.{put-nothing}
 use Rattle.tcmu_model.specs.Lengths.{block_size}
 use Rattle.region_model.specs.Layout.{data_start}
 use Rattle.region_model.specs.EntryReading.{lies_inside}
-use Rattle.region_model.specs.Regions.{HaveSize, RegionState, blocks_over, bytes_of, copied_in, named_by, numbers_of, overlaid, size_of, wrote}
+use Rattle.region_model.specs.Regions.{HaveSize, RegionState, bytes_of, copied_in, numbers_of, overlaid, wrote}
 use Rattle.region_model.specs.Sides.{Carried, Copied, GivenJob, JobState, Moved, Parked, UserState}
 use Rattle.region_model.specs.UserSteps.{Placing, answered_region, is_open_job, lie_in_area, placed_at, placed_front, placed_one, placed_or_parked, with_parked, with_payload}
 use Rattle.ring_laws.specs.UserKept.{AreWholeJobs, HasPages, HasRing, IsWholeJob, UserCounts}

@@ -1,5 +1,5 @@
 -- Attaching, and attaching again, by the mailbox.
-use Rattle.std.proofs.Common.{◌≡◌, ◌⊎◌, inl, inr, Bool, true, false, ℕ, Result, Ok, Err, refl, sym, ap, ◌∙◌}
+use Rattle.std.proofs.Common.{◌≡◌, ◌⊎◌, inl, inr, true, Result, Ok, Err, refl, sym, ap}
 use Rattle.std.specs.Prelude.{IfErr, OnErr, OnOk, is_ok}
 use Rattle.std.proofs.lemmas.Bool.{false≢true}
 use Rattle.region_model.specs.declared.mailbox.Mailbox.{Mailbox}

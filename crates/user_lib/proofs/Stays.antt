@@ -1,8 +1,8 @@
 -- Which jobs stay open.
-use Rattle.std.proofs.Common.{◌≡◌, ◌≢◌, ℕ, suc, zero, ◌+◌, ◌*◌, ◌==◌, ◌&&◌, ◌||◌, not, Bool, true, false, List, [], ◌∷◌, ◌++◌, length, Option, Some, None, Result, Ok, Err, refl, sym, ap, ◌∙◌, subst, ⊎_elim, eqb-true}
+use Rattle.std.proofs.Common.{◌≡◌, ◌≢◌, ℕ, suc, zero, ◌+◌, ◌*◌, ◌==◌, not, Bool, true, false, List, [], ◌∷◌, ◌++◌, length, Option, Some, None, Result, Ok, Err, refl, sym, ap, ◌∙◌, subst, ⊎_elim, eqb-true}
 use Rattle.std.specs.List.{list_any}
 use Rattle.std.specs.Option.{is_some}
-use Rattle.std.proofs.lemmas.Bool.{and_parts, cases_Bool, false≢true, or_right, true≢false}
+use Rattle.std.proofs.lemmas.Bool.{and_parts, cases_Bool, false≢true, or_right}
 use Rattle.tcmu_types.specs.Lists.{with_first, without_first}
 use Rattle.tcmu_types.specs.declared.dump.ItemKind.TheVariants as kind
 use Rattle.region_model.specs.declared.mailbox.Mailbox.{Mailbox}
@@ -15,7 +15,7 @@ use Rattle.region_model.specs.EntryReading.{entry_read}
 use Rattle.region_model.specs.Regions.{RegionState, size_of}
 use Rattle.region_model.specs.Sides.{GivenJob, Parked, UserState}
 use Rattle.region_model.specs.UserSteps.{Placing, is_open_job, placed_at, placed_front, placed_one, placing_by, user_mailbox, user_responded, with_jobs, with_parked}
-use Rattle.region_model.specs.UserNext.{BadEntry, BadMailbox, Nexted, Nothing, command_next, iovs_in, most_entries, next_within, nexted, note_next, tmr_ids_in, with_passed, with_unknown}
+use Rattle.region_model.specs.UserNext.{BadEntry, Nexted, Nothing, command_next, iovs_in, most_entries, next_within, nexted, note_next, tmr_ids_in, with_passed, with_unknown}
 use Rattle.ring_laws.proofs.user_over_any_bytes.AnyFaults.{by_mailbox, next_mailbox}
 use Rattle.user_lib.specs.declared.next.Next.{Next}
 use Rattle.user_lib.specs.declared.next.UserFault.{UserFault}

@@ -1,7 +1,8 @@
 -- The user side's books as contracts see them: without the room of lists.
-use Rattle.std.specs.Prelude.{ℕ, List}
+use Rattle.std.specs.Prelude.{◌≡◌, ℕ, Bool, List}
 use Rattle.tcmu_types.specs.declared.settings.Flags.{Flags}
 use Rattle.region_model.specs.Sides.{Recorded, UserState}
+use Rattle.ring_laws.specs.UserKept.{UserSound}
 use Rattle.user_lib.specs.Given.{GivenJobs}
 
 abbrev pub books_of : ℕ → ℕ → Flags → ℕ → ℕ → GivenJobs → List ℕ → List Recorded → ℕ → ℕ → ℕ → UserState
@@ -19,3 +20,8 @@ books_of ring pages flags place tail jobs offsets items dispatched placed publis
       placed = placed;
       published = published;
     }
+
+-- the jobs are kept by the order that the flag wants
+pub record AreBooks (u : UserState) (any_order : Bool) : Type 0 where
+  pub sound : UserSound u
+  pub order : any_order ≡ u.flags.ooo

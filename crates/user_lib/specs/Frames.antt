@@ -1,5 +1,5 @@
 -- What a respond leaves of the region as it is.
-use Rattle.std.specs.Prelude.{◌≡◌, ℕ, false, ◌+◌, ◌*◌, List, [], ◌∷◌, length, take, slice_get, Option, Some, None, if◌then◌else◌}
+use Rattle.std.specs.Prelude.{◌≡◌, ℕ, false, ◌+◌, ◌*◌, List, [], ◌∷◌, length, take, slice_get, Some, None, if◌then◌else◌}
 use Rattle.tcmu_types.specs.Lists.{Every, with_first}
 use Rattle.tcmu_types.specs.Numbers.{is_among}
 use Rattle.tcmu_types.specs.declared.iovec.Iov.{Iov}

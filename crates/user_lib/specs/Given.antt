@@ -3,13 +3,20 @@ use Rattle.std.specs.Prelude.{◌≡◌, ◌≢◌, ℕ, ◌+◌, ◌≤◌, ◌
 use Rattle.std.specs.Option.{is_some, option_map, option_and_then}
 use Rattle.slab.specs.Slab.{Slab, Updates, get, slab_len}
 use Rattle.tcmu_types.specs.Lists.{first_of, Every}
-use Rattle.region_model.specs.Sides.{GivenJob, JobState, Parked}
-use Rattle.user_lib.specs.declared.jobs.Given.{Given}
+use Rattle.region_model.specs.Sides.{GivenJob, JobState, Parked, UserState}
+use Rattle.user_lib.specs.declared.past.Given.{Given}
 
--- the jobs in the order in which they were given, and how many more have room
+-- the jobs in the order in which they were given, whether answers may be placed in any other, and the id of a job for which there is room
 pub record GivenJobs : Type 0 where
   pub jobs : List GivenJob
-  pub spare : ℕ
+  pub any_order : Bool
+  pub ready : Option ℕ
+
+-- the same of jobs whose replies stand elsewhere
+pub record OrderState : Type 0 where
+  pub given : List Given
+  pub any_order : Bool
+  pub ready : Option ℕ
 
 -- ==== jobs under keys
 
@@ -41,11 +48,19 @@ abbrev pub AreApart : Slab Parked → List Given → Type 0
 AreApart s [] = Unit {0}
 AreApart s (g ∷ gs) = IsKeyed s g.key (keys_of gs) × AreApart s gs
 
--- under each key stands a job of its own, and each job without a reply has room for one
+-- under each key stands a job of its own
 pub record AreKeyed (s : Slab Parked) (gs : List Given) : Type 0 where
   pub apart : AreApart s gs
-  pub room : length gs ≤ s.capacity
   pub count : slab_len s ≡ length (keys_of gs)
+
+abbrev pub awaited : Option ℕ → ℕ
+awaited None = 0
+awaited (Some id) = 1
+
+-- in order each job has room for its reply, one more included where there is room for it
+pub record AreKept (s : Slab Parked) (o : OrderState) : Type 0 where
+  pub keyed : AreKeyed s o.given
+  pub room : o.any_order ≡ false → length o.given + awaited o.ready ≤ s.capacity
 
 -- given under this id, and without a reply
 abbrev pub is_open : ℕ → Given → Bool
@@ -59,12 +74,29 @@ abbrev pub TakesKey : Slab Parked → Slab Parked → Option ℕ → Type 0
 TakesKey s s' None = s' ≡ s
 TakesKey s s' (Some key) = Updates s s' key None × (is_some (get s key) ≡ true → slab_len s' + 1 ≡ slab_len s) × (s'.capacity ≡ s.capacity)
 
+-- whether the first job is under a key
+abbrev pub leads_parked : List Given → Bool
+leads_parked [] = false
+leads_parked (g ∷ gs) = is_some g.key
+
+abbrev pub first_id : List Given → Option ℕ
+first_id [] = None
+first_id (g ∷ gs) = Some g.id
+
 -- ==== what the jobs show
 
 -- whether the first job has its reply
 abbrev pub first_parked : List GivenJob → Bool
 first_parked [] = false
 first_parked (g ∷ gs) = is_some g.parked
+
+abbrev pub first_given : List GivenJob → Option ℕ
+first_given [] = None
+first_given (g ∷ gs) = Some g.id
+
+-- in order the first job has no reply, since it would be placed
+abbrev pub LeadsOpen : UserState → Type 0
+LeadsOpen u = u.flags.ooo ≡ false → first_parked u.jobs ≡ false
 
 -- given under this id, and parked
 abbrev pub is_parked_job : ℕ → GivenJob → Bool

@@ -1,4 +1,6 @@
 pub mod Given
+pub mod Changes
+pub mod ById
 pub mod Carrying
 pub mod Books
 pub mod Views

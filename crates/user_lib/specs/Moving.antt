@@ -1,5 +1,5 @@
 -- One item that the tail moves over.
-use Rattle.std.specs.Prelude.{◌≡◌, ℕ, ◌+◌, ◌%◌, List, ◌∷◌, true, if◌then◌else◌, ◌<◌}
+use Rattle.std.specs.Prelude.{◌≡◌, ◌+◌, ◌%◌, ◌∷◌, true, if◌then◌else◌, ◌<◌}
 use Rattle.region_model.specs.Sides.{Recorded, UserState}
 use Rattle.region_model.specs.UserSteps.{is_cmd}
 

@@ -3,7 +3,6 @@ use Rattle.std.specs.Prelude.{◌≡◌, ℕ, suc, ◌+◌, List, ◌++◌, Resu
 use Rattle.region_model.specs.declared.mailbox.Mailbox.{Mailbox}
 use Rattle.region_model.specs.Regions.{RegionState}
 use Rattle.region_model.specs.Sides.{JobState, Recorded, UserState}
-use Rattle.tcmu_types.specs.declared.iovec.Iov.{Iov}
 use Rattle.region_model.specs.Layout.{ring_start}
 use Rattle.region_model.specs.UserSteps.{user_mailbox}
 use Rattle.region_model.specs.UserNext.{Nexted, NextAnswer, BadMailbox, BadEntry, nexted, next_within, iovs_in, job_read, region_lent, with_job, note_next, tmr_ids_in}

@@ -27,14 +27,13 @@ pub(crate) struct UserBooks {
 
 impl Model for UserBooks {
     ghost use Rattle.region_model.specs.Sides.{UserState};
-    ghost use Rattle.ring_laws.specs.UserKept.{UserSound};
-    ghost use Rattle.user_lib.specs.Books.{books_of};
+    ghost use Rattle.user_lib.specs.Books.{AreBooks, books_of};
 
     ghost Value = { UserState };
 
     ghost view = { λ a. books_of a.ring a.pages a.flags a.place a.tail a.jobs a.offsets.items a.items.items a.dispatched a.placed a.published };
 
-    ghost invariant = { λ a. UserSound (books_of a.ring a.pages a.flags a.place a.tail a.jobs a.offsets.items a.items.items a.dispatched a.placed a.published) };
+    ghost invariant = { λ a. AreBooks (books_of a.ring a.pages a.flags a.place a.tail a.jobs a.offsets.items a.items.items a.dispatched a.placed a.published) a.jobs.any_order };
 }
 
 /// The place behind an entry.

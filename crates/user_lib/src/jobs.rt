@@ -1,16 +1,16 @@
 //! The jobs that are neither placed nor given up, in the order in which they were given.
-ghost use Rattle.std.specs.Prelude.{◌≡◌, ◌≤◌, ◌∷◌, ◌++◌, [], length, None, true, false, OnOk, MatchOption, option_copied};
+ghost use Rattle.std.specs.Prelude.{◌≡◌, ◌∷◌, ◌++◌, [], Some, None, true, false, OnOk, MatchOption, option_copied};
 ghost use Rattle.std.specs.List.{list_any};
 ghost use Rattle.std.specs.Option.{option_map};
-ghost use Rattle.tcmu_types.specs.Lists.{first_of, without_first, with_first, IsFirst};
+ghost use Rattle.tcmu_types.specs.Lists.{Every, first_of, without_first, with_first};
 ghost use Rattle.region_model.specs.UserSteps.{is_open_job, is_unanswered, with_parked};
 ghost use Rattle.ring_laws.specs.Restarted.{count_parked};
-ghost use Rattle.user_lib.specs.Given.{TakesKey, is_open, first_parked, kept_under, parked_job};
+ghost use Rattle.user_lib.specs.Given.{TakesKey, first_parked, kept_under, parked_job};
 
 use crate::Job;
+use crate::order::Order;
 use slab::Slab;
 use std::alloc::Global;
-use std::collections::VecDeque;
 use std::marker::Model;
 use tcmu_types::{NoMemory, Reply};
 
@@ -47,42 +47,21 @@ impl Model for TakenJob {
     ghost view = { λ a. record { id = a.id; parked = a.parked } };
 }
 
-/// A job that was given: its id, and where it is kept once it has its reply.
-#[derive(Clone, Copy, Debug)]
-struct Given {
-    id: u16,
-    key: Option<usize>,
-}
-
 /// The jobs in order, of which the parked ones are kept under keys.
 #[derive(Drop)]
 pub(crate) struct Jobs {
-    given: VecDeque<Given>,
+    order: Order,
     parked: Slab<ParkedJob>,
 }
 
 impl Model for Jobs {
-    ghost use Rattle.std.specs.Prelude.{◌-◌, length, min};
-    ghost use Rattle.std.specs.VecDeque.{deque_len, deque_capacity};
-    ghost use Rattle.user_lib.specs.Given.{GivenJobs, jobs_of, AreKeyed};
+    ghost use Rattle.user_lib.specs.Given.{AreKept, GivenJobs, jobs_of};
 
     ghost Value = { GivenJobs };
 
-    ghost view = { λ a. record {
-      jobs = jobs_of a.parked a.given.items;
-      spare = min (deque_capacity a.given - deque_len a.given) (a.parked.capacity - length a.given.items);
-    } };
+    ghost view = { λ a. record { jobs = jobs_of a.parked a.order.given; any_order = a.order.any_order; ready = a.order.ready } };
 
-    ghost invariant = { λ a. AreKeyed a.parked a.given.items };
-}
-
-/// The place of the first job of an id that has no reply.
-fn open_place(given: &VecDeque<Given>, id: u16) -> Option<usize>
-    ensures { MatchOption result (list_any (is_open id) given.now.items ≡ false) (IsFirst (is_open id) given.now.items) }
-{
-    given
-        .iter()
-        .position(|given| given.id == id && given.key.is_none())
+    ghost invariant = { λ a. AreKept a.parked a.order };
 }
 
 /// The job under a key, where there is one.
@@ -107,111 +86,125 @@ fn take_kept(parked: &mut Slab<ParkedJob>, key: Option<usize>) -> Option<ParkedJ
 }
 
 impl Jobs {
-    /// No job.
-    pub(crate) fn new(alloc: Global) -> Jobs
-        ensures { result.jobs ≡ [] }
+    /// No job, for answers in any order or in that of the jobs.
+    pub(crate) fn new(alloc: Global, any_order: bool) -> Jobs
+        ensures { result ≡ record { jobs = []; any_order = any_order; ready = None } }
     {
         Jobs {
-            given: VecDeque::new(alloc),
+            order: Order::new(alloc, any_order),
             parked: Slab::new(alloc),
         }
     }
 
-    /// Makes room for one more, with its reply.
-    pub(crate) fn reserve(&mut self) -> Result<(), NoMemory>
-        ensures jobs { self.new.jobs ≡ self.old.jobs }
-        ensures room { OnOk result (1 ≤ self.new.spare) }
+    /// As it is anew, where there is no job.
+    pub(crate) fn begin(&mut self, any_order: bool)
+        requires { self.old.jobs ≡ [] }
+        ensures { self.new ≡ record { jobs = []; any_order = any_order; ready = None } }
     {
-        self.given.reserve(1)?;
+        self.order.begin(any_order);
+    }
+
+    /// Whether answers are in any order.
+    pub(crate) fn is_any(&self) -> bool
+        ensures { result ≡ self.now.any_order }
+    {
+        self.order.is_any()
+    }
+
+    /// Makes room for a job of an id, with its reply where answers keep the order.
+    pub(crate) fn reserve(&mut self, alloc: Global, id: u16) -> Result<(), NoMemory>
+        ensures jobs { self.new.jobs ≡ self.old.jobs }
+        ensures order { self.new.any_order ≡ self.old.any_order }
+        ensures room { OnOk result (self.new.ready ≡ Some id) }
+    {
         self.parked
-            .reserve(self.given.len() + 1 - self.parked.len())?;
-        Ok(())
+            .reserve(self.order.in_line() + 1 - self.parked.len())?;
+        self.order.reserve(alloc, id)
     }
 
     /// Appends a job without a reply, in the room that is there.
     pub(crate) fn push(&mut self, id: u16)
-        requires { 1 ≤ self.old.spare }
-        ensures { self.new.jobs ≡ self.old.jobs ++ record { id = id; parked = None } ∷ [] }
+        requires { self.old.ready ≡ Some id }
+        ensures jobs { self.new.jobs ≡ self.old.jobs ++ record { id = id; parked = None } ∷ [] }
+        ensures order { self.new.any_order ≡ self.old.any_order }
     {
-        self.given.push_back_reserved(Given { id, key: None });
+        self.order.push(id);
     }
 
     /// Whether a job of this id has no reply.
     pub(crate) fn is_open(&self, id: u16) -> bool
         ensures { result ≡ list_any (is_open_job id) self.now.jobs }
     {
-        open_place(&self.given, id).is_some()
+        self.order.is_open(id)
     }
 
     /// Takes the first job of an id out that has no reply.
     pub(crate) fn remove(&mut self, id: u16)
-        ensures { self.new.jobs ≡ without_first (is_open_job id) self.old.jobs }
+        requires order { self.old.any_order ≡ true }
+        requires is_open { list_any (is_open_job id) self.old.jobs ≡ true }
+        ensures jobs { self.new.jobs ≡ without_first (is_open_job id) self.old.jobs }
+        ensures order { self.new.any_order ≡ self.old.any_order }
     {
-        if let Some(place) = open_place(&self.given, id) {
-            let _ = self.given.remove(place);
-        }
+        self.order.remove(id);
     }
 
     /// Keeps the first job of an id that has no reply with one from now on.
     pub(crate) fn park(&mut self, id: u16, parked: ParkedJob)
-        requires { list_any (is_open_job id) self.old.jobs ≡ true }
-        ensures { self.new.jobs ≡ with_first (is_open_job id) (with_parked parked) self.old.jobs }
+        requires order { self.old.any_order ≡ false }
+        requires is_open { list_any (is_open_job id) self.old.jobs ≡ true }
+        ensures jobs { self.new.jobs ≡ with_first (is_open_job id) (with_parked parked) self.old.jobs }
+        ensures order { self.new.any_order ≡ self.old.any_order }
     {
-        match open_place(&self.given, id) {
-            Some(place) => {
-                let key = self.parked.insert_reserved(parked);
-                self.given[place].key = Some(key);
-            }
-            None => unreachable!(),
-        }
+        let key = self.parked.insert_reserved(parked);
+        self.order.park(id, key);
     }
 
     /// Takes the first job out.
     pub(crate) fn pop(&mut self) -> Option<TakenJob>
-        ensures { MatchOption result ((self.old.jobs ≡ []) × (self.new.jobs ≡ [])) (λ job. self.old.jobs ≡ job ∷ self.new.jobs) }
+        requires { self.old.any_order ≡ false }
+        ensures jobs { MatchOption result ((self.old.jobs ≡ []) × (self.new.jobs ≡ [])) (λ job. self.old.jobs ≡ job ∷ self.new.jobs) }
+        ensures order { self.new.any_order ≡ self.old.any_order }
     {
-        let given = self.given.pop_front()?;
+        let given = self.order.pop()?;
         Some(TakenJob {
             id: given.id,
             parked: take_kept(&mut self.parked, given.key),
         })
     }
 
-    /// Whether the first job has its reply.
-    pub(crate) fn is_first_parked(&self) -> bool
-        ensures { result ≡ first_parked self.now.jobs }
+    /// Gives up every job; where answers are in any order, none has its reply.
+    pub(crate) fn give_up(&mut self)
+        requires { self.old.any_order ≡ true }
+        ensures jobs { self.new.jobs ≡ [] }
+        ensures order { self.new.any_order ≡ self.old.any_order }
+        ensures none { Every (λ g. g.parked ≡ None) self.old.jobs }
     {
-        match self.given.front() {
-            Some(given) => given.key.is_some(),
-            None => false,
-        }
+        self.order.begin(true);
     }
 
-    /// The id of the first job that has no reply.
+    /// Whether the first job has its reply.
+    pub(crate) fn is_first_parked(&self) -> bool
+        ensures value { result ≡ first_parked self.now.jobs }
+        ensures order { result ≡ true → self.now.any_order ≡ false }
+    {
+        self.order.leads_parked()
+    }
+
+    /// The id of the first job that has no reply, which is the first of all.
     pub(crate) fn first_open(&self) -> Option<u16>
+        requires order { self.now.any_order ≡ false }
+        requires first { first_parked self.now.jobs ≡ false }
         ensures { result ≡ option_map (λ g. g.id) (first_of is_unanswered self.now.jobs) }
     {
-        let given = self.given.iter().find(|given| given.key.is_none())?;
-        Some(given.id)
+        self.order.first_id()
     }
 
     /// The first parked job of an id.
     pub(crate) fn parked(&self, id: u16) -> Option<&Job>
         ensures { option_copied result ≡ parked_job id self.now.jobs }
     {
-        let given = self
-            .given
-            .iter()
-            .find(|given| given.id == id && given.key.is_some())?;
-        let parked = kept(&self.parked, given.key)?;
+        let parked = kept(&self.parked, self.order.key_of(id))?;
         Some(&parked.job)
-    }
-
-    /// How many jobs there are.
-    pub(crate) fn len(&self) -> usize
-        ensures { result ≡ length self.now.jobs }
-    {
-        self.given.len()
     }
 
     /// How many of them have their replies.

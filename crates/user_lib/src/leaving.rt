@@ -1,5 +1,6 @@
 //! Attaching, giving up the jobs, and attaching again.
-ghost use Rattle.std.specs.Prelude.{◌≡◌, [], ◌∷◌, Ok, Err, IfOk, IfErr, OnOk, OnErr, MatchOption};
+ghost use Rattle.std.specs.Prelude.{◌≡◌, [], ◌∷◌, Ok, Err, None, true, false, IfOk, IfErr, OnOk, OnErr, MatchOption};
+ghost use Rattle.tcmu_types.specs.Lists.{Every};
 ghost use Rattle.region_model.specs.MailboxReading.{IsMailbox};
 ghost use Rattle.region_model.specs.UserSteps.{flags_in, region_abandoned, region_reattached, user_abandoned, user_attached, user_of, with_job_back, with_parked_back};
 ghost use Rattle.ring_laws.specs.UserKept.{AreWholeJobs, HasPages, HasRing};
@@ -68,13 +69,14 @@ impl UserBooks {
         ensures err { IfErr result (λ fault. user_attached region.now ≡ Err fault) }
     {
         let mailbox = mailbox_of(region)?;
+        let flags = flags_of(mailbox.flags);
         Ok(UserBooks {
             ring: mailbox.cmdr_size,
             pages: (region.block_len() / PAGE as u64) as u32,
-            flags: flags_of(mailbox.flags),
+            flags,
             place: mailbox.tail,
             tail: mailbox.tail,
-            jobs: Jobs::new(alloc),
+            jobs: Jobs::new(alloc, flags.ooo),
             offsets: VecDeque::new(alloc),
             items: VecDeque::new(alloc),
             dispatched: 0,
@@ -85,14 +87,16 @@ impl UserBooks {
 
     /// Takes the first job out.
     fn pop_job(&mut self) -> Option<TakenJob>
+        requires { self.old.flags.ooo ≡ false }
         ensures { MatchOption result ((self.old.jobs ≡ []) × (self.new ≡ self.old)) (λ g. (self.old.jobs ≡ g ∷ self.new.jobs) × (self.new ≡ record self.old { jobs = self.new.jobs })) }
     {
         self.jobs.pop()
     }
 
-    /// Gives up every job; the blocks of those that are parked go back.
+    /// Gives up every job in order; the blocks of those that are parked go back.
     #[tactic(auto, unfolding(region_model::specs::UserSteps::user_abandoned))]
-    pub(crate) fn abandon(&mut self, region: &mut Region)
+    fn abandon_in_order(&mut self, region: &mut Region)
+        requires flag { self.old.flags.ooo ≡ false }
         requires ring { HasRing region.old self.old }
         requires pages { HasPages region.old self.old }
         requires whole { AreWholeJobs self.old }
@@ -104,6 +108,30 @@ impl UserBooks {
         }
     }
 
+    /// Gives up every job, of which none is parked.
+    fn abandon_at_once(&mut self)
+        requires { self.old.flags.ooo ≡ true }
+        ensures user { self.new ≡ user_abandoned self.old }
+        ensures none { Every (λ g. g.parked ≡ None) self.old.jobs }
+    {
+        self.jobs.give_up();
+    }
+
+    /// Gives up every job; the blocks of those that are parked go back.
+    pub(crate) fn abandon(&mut self, region: &mut Region)
+        requires ring { HasRing region.old self.old }
+        requires pages { HasPages region.old self.old }
+        requires whole { AreWholeJobs self.old }
+        ensures user { self.new ≡ user_abandoned self.old }
+        ensures region { region.new ≡ region_abandoned region.old self.old.jobs }
+    {
+        if self.flags.ooo {
+            self.abandon_at_once();
+        } else {
+            self.abandon_in_order(region);
+        }
+    }
+
     /// As it is attached to a region whose mailbox this is; it has no jobs.
     fn begin(&mut self, mailbox: &Mailbox)
         requires mailbox { IsMailbox mailbox.now }
@@ -112,6 +140,7 @@ impl UserBooks {
     {
         self.ring = mailbox.cmdr_size;
         self.flags = flags_of(mailbox.flags);
+        self.jobs.begin(self.flags.ooo);
         self.place = mailbox.tail;
         self.tail = mailbox.tail;
         self.offsets.clear();

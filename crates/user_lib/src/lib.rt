@@ -8,14 +8,15 @@ mod jobs;
 mod leaving;
 mod next;
 mod numbers;
+mod order;
 mod passed;
+mod past;
 mod publishing;
 mod responding;
-#[cfg(test)]
-mod tests;
+mod rows;
 mod user;
 
 pub use job::{Job, JobData};
 pub use next::{Next, UserFault};
 pub use numbers::UserNumbers;
-pub use user::User;
+pub use user::{AttachFault, User};

@@ -132,7 +132,7 @@ impl UserBooks {
         ensures user { OnErr result (self.new ≡ self.old) }
         ensures region { OnErr result (region.new ≡ region.old) }
     {
-        self.jobs.reserve()?;
+        self.jobs.reserve(alloc, id)?;
         self.offsets.reserve(1)?;
         self.items.reserve(1)?;
         let carried = carry(alloc, region, iovs, cdb)?;

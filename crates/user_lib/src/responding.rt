@@ -8,7 +8,7 @@ ghost use Rattle.region_model.specs.Picture.{told_length};
 ghost use Rattle.region_model.specs.UserSteps.{is_open_job, is_unanswered, lie_in_area, placed_front, placed_one, placed_or_parked, placing_by, user_respond_answer, user_responded, with_payload};
 ghost use Rattle.ring_laws.specs.UserKept.{AreWholeJobs, HasPages, HasRing, IsWholeJob, UserCounts};
 ghost use Rattle.user_lib.specs.Carrying.{carried_of};
-ghost use Rattle.user_lib.specs.Given.{first_parked};
+ghost use Rattle.user_lib.specs.Given.{LeadsOpen, first_parked};
 ghost use Rattle.user_lib.specs.Answering.{CanAnswer, GoesBack, TakesParked, answer_by, answered_with};
 
 use crate::books::UserBooks;
@@ -169,6 +169,8 @@ impl UserBooks {
 
     /// Keeps a reply, and then places the answers of the longest front of jobs that have theirs.
     fn respond_in_order(&mut self, region: &mut Region, id: u16, parked: ParkedJob) -> Respond
+        requires flag { self.old.flags.ooo ≡ false }
+        requires first { first_parked self.old.jobs ≡ false }
         requires ring { HasRing region.old self.old }
         requires pages { HasPages region.old self.old }
         requires jobs { AreWholeJobs self.old }
@@ -187,6 +189,7 @@ impl UserBooks {
 
     /// Places an answer at once.
     fn respond_at_once(&mut self, region: &mut Region, id: u16, parked: ParkedJob)
+        requires flag { self.old.flags.ooo ≡ true }
         requires ring { HasRing region.old self.old }
         requires pages { HasPages region.old self.old }
         requires counts { UserCounts self.old }
@@ -206,6 +209,7 @@ impl UserBooks {
         requires pages { HasPages region.old self.old }
         requires jobs { AreWholeJobs self.old }
         requires counts { UserCounts self.old }
+        requires first { LeadsOpen self.old }
         requires is_open { list_any (is_open_job job.id) self.old.jobs ≡ true }
         requires whole { IsWholeJob self.old job }
         requires fits { length reply.payload ≤ job.in_len }

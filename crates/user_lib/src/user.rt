@@ -8,7 +8,7 @@ ghost use Rattle.user_lib.specs.Given.{parked_job};
 ghost use Rattle.user_lib.specs.OnDevice.{AttachesDevice, DispatchesDevice, PublishesDevice, ResetsDevice, RespondsDevice, RestartsDevice, StandsForNone};
 ghost use Rattle.user_lib.specs.Stays.{OthersStayOpen, StayOpen, StaysAttached};
 ghost use Rattle.user_lib.specs.Told.{Told};
-ghost use Rattle.user_lib.specs.Users.{CanRespondNext, numbers_of};
+ghost use Rattle.user_lib.specs.Users.{CanRespondNext, RefusesAttach, numbers_of};
 
 use crate::books::UserBooks;
 use crate::numbers::UserNumbers;
@@ -18,6 +18,18 @@ use shm_region::Region;
 use std::alloc::Global;
 use std::marker::Model;
 use tcmu_types::{Publish, Reply, Respond};
+use thiserror::Error;
+
+/// Why a user side was not attached to a region.
+#[derive(Clone, Copy, Debug, PartialEq, Eq, Error)]
+pub enum AttachFault {
+    /// The mailbox breaks a rule.
+    #[error("bad mailbox: {0}")]
+    Mailbox(MailboxFault),
+    /// Memory was wanting.
+    #[error("no memory")]
+    NoMemory,
+}
 
 /// The user side of one region, over whatever bytes the region has: it takes entries out of the ring as jobs and notes, and writes the
 /// answers of jobs into the ring. A call that takes the region wants the one that it was attached to.
@@ -38,10 +50,10 @@ impl Model for User {
 }
 
 impl User {
-    /// Attaches to a region, at the mailbox's tail. It takes no memory.
-    pub fn attach(alloc: Global, region: &Region) -> Result<User, MailboxFault>
+    /// Attaches to a region, at the mailbox's tail. It takes no memory: just a mailbox that breaks a rule is refused.
+    pub fn attach(alloc: Global, region: &Region) -> Result<User, AttachFault>
         ensures ok { IfOk result (λ u. user_attached region.now ≡ Ok u) }
-        ensures err { IfErr result (λ fault. user_attached region.now ≡ Err fault) }
+        ensures err { IfErr result (λ fault. RefusesAttach region.now fault) }
         ensures ring { IfOk result (λ u. HasRing region.now u) }
         ensures pages { IfOk result (λ u. HasPages region.now u) }
         ensures fresh { IfOk result (λ u. u.dispatched ≡ 0) }
@@ -53,7 +65,7 @@ impl User {
                 let user = User { books };
                 Ok(user)
             }
-            Err(fault) => Err(fault),
+            Err(fault) => Err(AttachFault::Mailbox(fault)),
         }
     }
 
@@ -159,6 +171,13 @@ impl User {
         ensures { option_copied result ≡ parked_job id self.now.jobs }
     {
         self.books.jobs.parked(id)
+    }
+
+    /// The ring offset of the first item that is not published.
+    pub fn tail(&self) -> u32
+        ensures { result ≡ self.now.tail }
+    {
+        self.books.tail
     }
 
     /// What the user side counts.

@@ -1,4 +1,3 @@
-use Rattle.std.proofs.Common.{rules}
 use Rattle.user_lib.proofs.Entries.{lies_in_region}
 use Rattle.user_lib.proofs.carrying.copied_data.Goals as goal
 

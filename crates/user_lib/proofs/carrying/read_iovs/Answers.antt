@@ -1,6 +1,5 @@
-use Rattle.std.proofs.Common.{◌≡◌, ◌+◌, ◌-◌, ◌≤◌, ◌++◌, sym, ap, ◌∙◌, arith}
+use Rattle.std.proofs.Common.{◌+◌, sym, ◌∙◌, arith}
 use Rattle.region_model.specs.Layout.{ring_start}
-use Rattle.region_model.specs.UserNext.{iovs_in}
 use Rattle.user_lib.proofs.Entries.{iovs_end, iovs_step}
 use Rattle.user_lib.proofs.carrying.read_iovs.Goals as goal
 

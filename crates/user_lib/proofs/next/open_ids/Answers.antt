@@ -1,4 +1,4 @@
-use Rattle.std.proofs.Common.{◌≡◌, ℕ, ◌+◌, ◌-◌, ◌≤◌, ◌++◌, sym, ap, ◌∙◌, arith}
+use Rattle.std.proofs.Common.{ℕ, ◌+◌, ◌∙◌, arith}
 use Rattle.std.specs.List.{list_any}
 use Rattle.region_model.specs.Layout.{ring_start}
 use Rattle.region_model.specs.UserSteps.{is_open_job}

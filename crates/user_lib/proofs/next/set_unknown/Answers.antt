@@ -1,4 +1,4 @@
-use Rattle.std.proofs.Common.{◌≡◌, ℕ, ◌+◌, ◌≤◌, List, length, sym, ap, ◌∙◌, arith}
+use Rattle.std.proofs.Common.{length, ap, ◌∙◌, arith}
 use Rattle.tcmu_types.proofs.ByteFields.{length-put}
 use Rattle.region_model.specs.Regions.{RegionState}
 use Rattle.user_lib.proofs.next.set_unknown.Goals as goal

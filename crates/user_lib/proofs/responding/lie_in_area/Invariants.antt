@@ -1,4 +1,4 @@
-use Rattle.std.proofs.Common.{◌≡◌, ◌+◌, drop, length}
+use Rattle.std.proofs.Common.{◌≡◌, ◌+◌, drop}
 use Rattle.std.specs.List.{list_all}
 use Rattle.region_model.specs.EntryReading.{lies_inside}
 use Rattle.user_lib.proofs.responding.lie_in_area.Given as goal

@@ -1,4 +1,4 @@
-use Rattle.std.proofs.Common.{◌≡◌, length, sym, ap, ◌∙◌, subst}
+use Rattle.std.proofs.Common.{length, sym, ap, ◌∙◌, subst}
 use Rattle.region_model.specs.Regions.{HaveSize, RegionState, size_of}
 use Rattle.ring_laws.proofs.placed.AnswerData.{length-scattered, sizes-scattered}
 use Rattle.user_lib.specs.Carrying.{carried_of}

@@ -1,4 +1,4 @@
-use Rattle.std.proofs.Common.{◌≡◌, ℕ, ◌+◌, ◌/◌, length, sym, ap, ◌∙◌, subst}
+use Rattle.std.proofs.Common.{◌+◌, ◌/◌, length, sym, ap, ◌∙◌, subst}
 use Rattle.region_model.specs.Sides.{UserState}
 use Rattle.user_lib.specs.Told.{WentOn}
 use Rattle.user_lib.specs.Views.{next_data}

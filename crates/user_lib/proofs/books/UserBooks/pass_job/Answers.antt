@@ -9,7 +9,7 @@ use Rattle.user_lib.proofs.books.UserBooks.pass_job.Goals as goal
 
 pub invariant_of-self-2 : goal.invariant_of-self-2
 invariant_of-self-2 c =
-    let a = c.self.invariant in
+    let a = c.self.invariant.sound in
     let even = a.place.aligned in
     let words = c.requires.words in
     let P : Recorded → Type 0 = λ x. x.len % 8 ≡ 0 in
@@ -19,9 +19,12 @@ invariant_of-self-2 c =
     let r : c.self.inside.ring ≡ c.args.self.now.ring = ap (λ (u : UserState). u.ring) c.self.view_is in
     let fits : c.self.inside.place + 112 ≤ c.self.inside.ring = let h = c.requires.answer in omega (arith, p, r, h) in
     record {
-      ring = a.ring;
-      place = subst (IsPlace c.self.inside.ring) (sym c.place_behind-self-inside.ensures) (next_place c.self.inside.ring (c.self.inside.place + c.args.len) a.ring.least a.ring.pages (omega (arith, even, words)));
-      tail = a.tail;
-      items = subst (λ (xs : List Recorded). Every P xs) (sym (c.push_back_reserved-2.ensures.items ∙ ap (λ (xs : List Recorded). xs ++ x ∷ []) c.reserve-3.ensures.items)) (every-append P c.self.inside.items.items (x ∷ []) a.items (words, tt));
-      offsets = subst (λ (xs : List ℕ). Every Q xs) (sym (c.push_back_reserved.ensures.items ∙ ap (λ (xs : List ℕ). xs ++ c.self.inside.place ∷ []) c.reserve-2.ensures.items)) (every-append Q c.self.inside.offsets.items (c.self.inside.place ∷ []) a.offsets (fits, tt));
+      sound = record {
+        ring = a.ring;
+        place = subst (IsPlace c.self.inside.ring) (sym c.place_behind-self-inside.ensures) (next_place c.self.inside.ring (c.self.inside.place + c.args.len) a.ring.least a.ring.pages (omega (arith, even, words)));
+        tail = a.tail;
+        items = subst (λ (xs : List Recorded). Every P xs) (sym (c.push_back_reserved-2.ensures.items ∙ ap (λ (xs : List Recorded). xs ++ x ∷ []) c.reserve-3.ensures.items)) (every-append P c.self.inside.items.items (x ∷ []) a.items (words, tt));
+        offsets = subst (λ (xs : List ℕ). Every Q xs) (sym (c.push_back_reserved.ensures.items ∙ ap (λ (xs : List ℕ). xs ++ c.self.inside.place ∷ []) c.reserve-2.ensures.items)) (every-append Q c.self.inside.offsets.items (c.self.inside.place ∷ []) a.offsets (fits, tt));
+      };
+      order = c.push.ensures.order ∙ (c.reserve.ensures.order ∙ c.self.invariant.order);
     }

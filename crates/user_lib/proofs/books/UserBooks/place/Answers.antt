@@ -1,16 +1,13 @@
-use Rattle.std.proofs.Common.{◌≡◌, ℕ, ◌+◌, ◌≤◌, ◌∷◌, List, length, refl, sym, ap, ◌∙◌, subst, arith}
+use Rattle.std.proofs.Common.{◌≡◌, ◌+◌, ◌≤◌, length, ap, subst, arith}
 use Rattle.tcmu_types.specs.Lists.{Every}
-use Rattle.region_model.specs.Regions.{RegionState}
 use Rattle.region_model.specs.Sides.{UserState}
-use Rattle.ring_laws.specs.UserKept.{UserSound}
-use Rattle.user_lib.specs.Answering.{answered_with}
 use Rattle.user_lib.proofs.Keys.{at_none}
-use Rattle.user_lib.proofs.Placings.{goes_back, placed_first}
+use Rattle.user_lib.proofs.Placings.{goes_back}
 use Rattle.user_lib.proofs.books.UserBooks.place.Goals as goal
 
 pub answer-requires-clause-inside : goal.answer-requires-clause-inside
 answer-requires-clause-inside c =
-    let o = subst (Every (λ x. x + 112 ≤ c.self.inside.ring)) c.in-Some.ensures.items c.self.invariant.offsets in
+    let o = subst (Every (λ x. x + 112 ≤ c.self.inside.ring)) c.in-Some.ensures.items c.self.invariant.sound.offsets in
     let r : c.self.inside.ring ≡ c.args.self.now.ring = ap (λ (x : UserState). x.ring) c.self.view_is in
     let f = c.requires.ring in
     omega (arith, o.0, r, f)

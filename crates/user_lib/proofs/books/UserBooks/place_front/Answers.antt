@@ -1,6 +1,5 @@
-use Rattle.std.proofs.Common.{◌≡◌, ℕ, ◌+◌, ◌≤◌, length, refl, sym, ap, ◌∙◌, arith}
+use Rattle.std.proofs.Common.{◌≤◌, length, refl, sym, ap, ◌∙◌, arith}
 use Rattle.region_model.specs.Sides.{UserState}
-use Rattle.region_model.specs.UserSteps.{Placing}
 use Rattle.user_lib.specs.Answering.{TakesParked}
 use Rattle.user_lib.proofs.Keys.{at_none, at_some}
 use Rattle.user_lib.proofs.Placings.{front_end, front_kept, front_placed, front_step, front_taken, placed_kept}

@@ -1,4 +1,4 @@
-use Rattle.std.proofs.Common.{◌≡◌, ℕ, length}
+use Rattle.std.proofs.Common.{◌≡◌, length}
 use Rattle.region_model.specs.UserSteps.{placed_front}
 use Rattle.user_lib.proofs.Placings.{FrontKept}
 use Rattle.user_lib.proofs.books.UserBooks.place_front.Given as goal

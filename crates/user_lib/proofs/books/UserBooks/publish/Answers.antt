@@ -1,4 +1,4 @@
-use Rattle.std.proofs.Common.{◌≡◌, ℕ, ◌+◌, ◌-◌, ◌≤◌, ◌<◌, ◌==◌, cond, length, refl, sym, ap, ◌∙◌, arith}
+use Rattle.std.proofs.Common.{◌≡◌, ℕ, ◌-◌, ◌==◌, cond, length, sym, ap, ◌∙◌, arith}
 use Rattle.std.specs.List.{count_by}
 use Rattle.tcmu_types.specs.ByteFields.{le, put}
 use Rattle.tcmu_types.specs.declared.answer.Publish.TheVariants as publish
@@ -41,7 +41,7 @@ returns-clause-answer c =
 pub returns-clause-user : goal.returns-clause-user
 returns-clause-user c =
     let here = c.self-2.view_is ∙ c.loop-test.ensures.same in
-    let low = c.self-2.invariant.tail.below in
+    let low = c.self-2.invariant.sound.tail.below in
     let t = ap (λ (x : UserState). x.tail) here in
     let r = ap (λ (x : UserState). x.ring) here in
     c.loop-test.ensures.same ∙ (sym (all_published c.loop.self c.loop-test.ensures.none (omega (arith, low, t, r))) ∙ c.loop.invariant.same)
@@ -53,7 +53,7 @@ returns-clause-region c =
     let r : RegionState = c.args.region.now in
     let here = c.self-2.view_is ∙ c.loop-test.ensures.same in
     let none = c.loop-test.ensures.none in
-    let low = c.self-2.invariant.tail.below in
+    let low = c.self-2.invariant.sound.tail.below in
     let t = ap (λ (x : UserState). x.tail) here in
     let n = ap (λ (x : UserState). x.ring) here in
     let held = c.len-held.ensures ∙ (c.self.inside.items.ok.0 ∙ ap (λ (x : UserState). length x.items) c.self.view_is) in

@@ -1,4 +1,4 @@
-use Rattle.std.proofs.Common.{◌≡◌, [], Ok, Err, sym, ap, ◌∙◌}
+use Rattle.std.proofs.Common.{Ok, sym, ap, ◌∙◌}
 use Rattle.region_model.specs.Sides.{UserState}
 use Rattle.region_model.specs.UserSteps.{user_abandoned, user_of}
 use Rattle.user_lib.proofs.Reattached.{attach_made, attach_refused, reattach_made, reattach_refused}

@@ -1,4 +1,5 @@
-use Rattle.std.proofs.Common.{◌≡◌, ℕ, ◌+◌, ◌≤◌, true, List, length, refl, sym, ap, ◌∙◌, subst, arith}
+use Rattle.std.proofs.Common.{List, sym, ap, ◌∙◌, subst}
+use Rattle.std.specs.List.{list_any}
 use Rattle.tcmu_types.specs.Lists.{without_first}
 use Rattle.region_model.specs.Sides.{GivenJob, UserState}
 use Rattle.region_model.specs.UserSteps.{Placing, is_open_job, placed_one}
@@ -7,6 +8,13 @@ use Rattle.user_lib.specs.Answering.{CanAnswer}
 use Rattle.user_lib.specs.Books.{books_of}
 use Rattle.user_lib.proofs.Placings.{can_open, placed_jobs}
 use Rattle.user_lib.proofs.books.UserBooks.respond_at_once.Goals as goal
+
+pub remove-requires : goal.remove-requires
+remove-requires c =
+    record {
+      order = c.self.invariant.order ∙ (ap (λ (x : UserState). x.flags.ooo) c.self.view_is ∙ c.requires.flag);
+      is_open = ap (λ (x : UserState). list_any (is_open_job c.args.id) x.jobs) c.self.view_is ∙ c.requires.is_open;
+    }
 
 pub place-requires : goal.place-requires
 place-requires c =
@@ -33,5 +41,5 @@ returns c =
     ap (λ n. placed_one (record { region = r; user = u }) p (without_first (is_open_job n) u.jobs)) (sym c.requires.id)
     ∙ (placed_jobs r u p (f u.jobs) can.entry
     ∙ (sym (ap whole c.self.view_is)
-    ∙ (ap (λ js. placed_one (record { region = r; user = record own { jobs = js } }) p js) (sym c.remove.ensures)
+    ∙ (ap (λ js. placed_one (record { region = r; user = record own { jobs = js } }) p js) (sym c.remove.ensures.jobs)
     ∙ c.place.ensures.value)))

@@ -21,7 +21,7 @@ pub give-requires-clause-slots : goal.give-requires-clause-slots
 give-requires-clause-slots c =
     let p : c.self.inside.place ≡ c.args.self.now.place = ap (λ (x : UserState). x.place) c.self.view_is in
     let r : c.self.inside.ring ≡ c.args.self.now.ring = ap (λ (x : UserState). x.ring) c.self.view_is in
-    let l = c.self.invariant.place.below in
+    let l = c.self.invariant.sound.place.below in
     let s = c.requires.size in
     let f = c.requires.ring in
     let b = subst (λ (e : EntryRef). KeepsBounds c.front.result.now c.area_len.result c.args.mailbox.now c.self.inside.place e) c.in-Ok-Cmd.field-0-is c.in-Ok-Cmd.ensures.bounds in
@@ -34,7 +34,7 @@ pub note-requires-clause-slots : goal.note-requires-clause-slots
 note-requires-clause-slots c =
     let p : c.self.inside.place ≡ c.args.self.now.place = ap (λ (x : UserState). x.place) c.self.view_is in
     let r : c.self.inside.ring ≡ c.args.self.now.ring = ap (λ (x : UserState). x.ring) c.self.view_is in
-    let l = c.self.invariant.place.below in
+    let l = c.self.invariant.sound.place.below in
     let s = c.requires.size in
     let f = c.requires.ring in
     let b = subst (λ (e : EntryRef). KeepsBounds c.front.result.now c.area_len.result c.args.mailbox.now c.self.inside.place e) c.in-Ok-Tmr.field-0-is c.in-Ok-Tmr.ensures.bounds in
@@ -47,7 +47,7 @@ pub give-requires-clause-answer : goal.give-requires-clause-answer
 give-requires-clause-answer c =
     let p : c.self.inside.place ≡ c.args.self.now.place = ap (λ (x : UserState). x.place) c.self.view_is in
     let r : c.self.inside.ring ≡ c.args.self.now.ring = ap (λ (x : UserState). x.ring) c.self.view_is in
-    let l = c.self.invariant.place.below in
+    let l = c.self.invariant.sound.place.below in
     let s = c.requires.size in
     let b = subst (λ (e : EntryRef). KeepsBounds c.front.result.now c.area_len.result c.args.mailbox.now c.self.inside.place e) c.in-Ok-Cmd.field-0-is c.in-Ok-Cmd.ensures.bounds in
     let b0 = b.0 in

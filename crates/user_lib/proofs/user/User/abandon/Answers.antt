@@ -1,5 +1,4 @@
-use Rattle.std.proofs.Common.{◌≡◌, length, sym, ap, ◌∙◌, subst}
-use Rattle.region_model.specs.Regions.{RegionState}
+use Rattle.std.proofs.Common.{sym, ap, ◌∙◌, subst}
 use Rattle.region_model.specs.Sides.{UserState}
 use Rattle.region_model.specs.UserSteps.{region_abandoned, user_abandoned}
 use Rattle.user_lib.specs.Users.{IsUser}

@@ -1,4 +1,4 @@
-use Rattle.std.proofs.Common.{◌≡◌, refl}
+use Rattle.std.proofs.Common.{refl}
 use Rattle.region_model.specs.UserSteps.{user_abandoned}
 use Rattle.user_lib.proofs.OnDevice.{restarts}
 use Rattle.user_lib.proofs.user.User.detach.Goals as goal

@@ -1,4 +1,4 @@
-use Rattle.std.proofs.Common.{◌≡◌, sym, ap, ◌∙◌, subst}
+use Rattle.std.proofs.Common.{sym, ◌∙◌, subst}
 use Rattle.region_model.specs.Sides.{UserState}
 use Rattle.user_lib.specs.Told.{Told}
 use Rattle.user_lib.specs.Users.{IsUser}

@@ -1,6 +1,5 @@
-use Rattle.std.proofs.Common.{◌≡◌, length, Ok, Err, sym, ap, ◌∙◌, subst, ⊎_elim}
+use Rattle.std.proofs.Common.{◌≡◌, Err, ap, ◌∙◌, subst}
 use Rattle.std.specs.Prelude.{is_ok}
-use Rattle.region_model.specs.Regions.{RegionState}
 use Rattle.region_model.specs.Sides.{UserState}
 use Rattle.region_model.specs.UserSteps.{region_reattached, user_attached}
 use Rattle.user_lib.specs.Users.{IsUser}

@@ -1,5 +1,4 @@
-use Rattle.std.proofs.Common.{◌≡◌, length, refl, sym, ap, ◌∙◌, subst}
-use Rattle.region_model.specs.Regions.{RegionState}
+use Rattle.std.proofs.Common.{◌≡◌, length, sym, ap, ◌∙◌, subst}
 use Rattle.region_model.specs.Sides.{Parked, UserState}
 use Rattle.region_model.specs.UserSteps.{Placing, user_respond_answer, user_responded}
 use Rattle.ring_laws.proofs.user_over_any_bytes.AnyAnswers.{respond_sizes}

@@ -1,7 +1,7 @@
 use Rattle.std.proofs.Common.{◌≡◌, length}
 use Rattle.region_model.specs.UserSteps.{region_abandoned}
 use Rattle.ring_laws.specs.UserKept.{AreWholeJobs, HasPages, HasRing}
-use Rattle.user_lib.proofs.books.UserBooks.abandon.Given as goal
+use Rattle.user_lib.proofs.books.UserBooks.abandon_in_order.Given as goal
 
 abbrev pub invariant-loop-taken : goal.invariant-loop-taken
 invariant-loop-taken l = record {

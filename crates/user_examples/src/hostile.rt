@@ -1,77 +1,15 @@
-//! What a hostile kernel can write, and what the user side answers, on a region with a ring of 4096 bytes.
-ghost use Rattle.std.specs.Prelude.{◌≡◌, ◌≤◌, ◌^◌, length};
+//! What a hostile kernel can write, and what the user side answers.
+ghost use Rattle.std.specs.Prelude.{◌≡◌, ◌≤◌, ◌^◌};
 ghost use Rattle.ring_laws.specs.UserKept.{HasPages, HasRing};
 
-use super::*;
+use crate::fixture::{Seen, as_seen, byte_at, good, region_with, set_word};
 use entry_codec::EntryFault;
 use mailbox_bytes::MailboxFault;
 use shm_region::Region;
 use std::alloc::Global;
 use std::test::Fail;
-use tcmu_types::{Bytes, Flags, NoMemory, Reply, Respond, ScsiStatus, Settings};
-
-/// What a next answered, in numbers.
-#[derive(Clone, Copy, Debug, PartialEq, Eq)]
-enum Seen {
-    /// A job of this id and of so many bytes that it may answer, with so many blocks.
-    Moved(u16, u32, usize),
-    /// A job of this id and of so many bytes that it may answer, with a copy of so many bytes.
-    Copied(u16, u32, usize),
-    /// A note of this type, with so many ids.
-    Note(u8, usize),
-    Nothing,
-    Mailbox(MailboxFault),
-    Entry(u32, EntryFault),
-    NoMemory,
-}
-
-fn as_seen(next: &Result<Next, UserFault>) -> Seen {
-    match next {
-        Ok(Next::Job(job)) => match &job.carried {
-            JobData::Moved(parts) => Seen::Moved(job.id, job.in_len, parts.len()),
-            JobData::Copied(bytes) => Seen::Copied(job.id, job.in_len, bytes.len()),
-        },
-        Ok(Next::Note { kind, ids }) => Seen::Note(*kind, ids.len()),
-        Ok(Next::Nothing) => Seen::Nothing,
-        Err(UserFault::BadMailbox(fault)) => Seen::Mailbox(*fault),
-        Err(UserFault::BadEntry { at, fault }) => Seen::Entry(*at, *fault),
-        Err(UserFault::NoMemory) => Seen::NoMemory,
-    }
-}
-
-/// A region whose area has so many blocks of 4096 bytes.
-fn region(alloc: Global, blocks: u32) -> Result<Region, NoMemory> {
-    let settings = Settings {
-        ring: 4096,
-        blocks: 4,
-        flags: Flags {
-            ooo: true,
-            read_len: false,
-            tmr: true,
-        },
-        timeout: 0,
-        qfull: 0,
-        pages: 1,
-    };
-    let mut region = Region::new(alloc, settings)?;
-    region.grow(alloc, blocks.min(4))?;
-    Ok(region)
-}
-
-/// Writes a word of 32 bits at a byte of the region.
-fn set_word(region: &mut Region, at: u32, word: u32)
-    ensures front { length region.new.front ≡ length region.old.front }
-    ensures pages { region.new.pages ≡ region.old.pages }
-{
-    if at as usize + 4 <= region.front().len() {
-        region.write_front(at as u64, &word.to_le_bytes());
-    }
-}
-
-/// A byte of the region before its data area.
-fn byte_at(region: &Region, at: usize) -> Option<u8> {
-    region.front().get(at).copied()
-}
+use tcmu_types::Respond;
+use user_lib::{AttachFault, Next, User};
 
 /// What a user side that attaches to a region sees at a first and a second next.
 fn seen_twice(alloc: Global, region: &mut Region) -> (Seen, Seen) {
@@ -83,18 +21,9 @@ fn seen_twice(alloc: Global, region: &mut Region) -> (Seen, Seen) {
             user.detach(region);
             (first, second)
         }
-        Err(fault) => (Seen::Mailbox(fault), Seen::Mailbox(fault)),
+        Err(AttachFault::Mailbox(fault)) => (Seen::Mailbox(fault), Seen::Mailbox(fault)),
+        Err(AttachFault::NoMemory) => (Seen::NoMemory, Seen::NoMemory),
     }
-}
-
-/// A region where these words stand.
-fn region_with(alloc: Global, blocks: u32, words: &[(u32, u32)]) -> Result<Region, NoMemory> {
-    let mut region = region(alloc, blocks)?;
-    for word in words {
-        let (at, value) = *word;
-        set_word(&mut region, at, value);
-    }
-    Ok(region)
 }
 
 #[test]
@@ -305,17 +234,6 @@ fn sees_what_a_hostile_kernel_wrote(rt: HostRuntime) -> Result<(), Fail> {
     Ok(())
 }
 
-/// GOOD, and no bytes.
-fn good(alloc: Global) -> Reply
-    ensures { length result.payload ≡ 0 }
-{
-    Reply {
-        status: ScsiStatus::GOOD,
-        sense: None,
-        payload: Bytes::new(alloc),
-    }
-}
-
 /// Takes the next job and answers it with GOOD and no bytes, after the area has shrunk to so many blocks.
 fn answer_next(alloc: Global, region: &mut Region, user: &mut User, blocks: u32) -> Option<Respond>
     requires ring { HasRing region.old user.old }
@@ -338,15 +256,51 @@ fn a_copied_job_is_answered_in_a_shrunk_area(rt: HostRuntime) -> Result<(), Fail
     let mut region = region_with(rt.alloc(), 1, &READ)?;
     set_word(&mut region, 176, 8200);
     let before = region.front().to_vec(rt.alloc())?;
-    if let Ok(user) = User::attach(rt.alloc(), &region) {
-        let mut user = user;
-        let answer = answer_next(rt.alloc(), &mut region, &mut user, 0);
-        assert_eq!(rt; answer, Some(Respond::Placed));
-        user.detach(&mut region);
-    }
+    let mut user = User::attach(rt.alloc(), &region)?;
+    let answer = answer_next(rt.alloc(), &mut region, &mut user, 0);
+    assert_eq!(rt; answer, Some(Respond::Placed));
+    user.detach(&mut region);
     let after = region.front();
     let changed = before.iter().zip(after.iter()).enumerate().all(|(at, (old, new))| old == new
         || (132 <= at && at < 240 && at != 134));
     assert!(rt; changed);
+    Ok(())
+}
+
+/// Words of the mailbox that change behind the attach, and what the next next sees.
+const BEHIND: [(u32, u32, Seen); 4] = [
+    // another version
+    (0, 0x5_0003, Seen::Mailbox(MailboxFault::Version(3))),
+    // no flag at all
+    (0, 2, Seen::Moved(0, 512, 1)),
+    // another place of the ring
+    (4, 64, Seen::Mailbox(MailboxFault::Offset(64))),
+    // another size of the ring
+    (8, 8192, Seen::Mailbox(MailboxFault::Size(8192))),
+];
+
+/// What a next sees once a word of the mailbox has changed behind the attach.
+fn seen_behind(alloc: Global, region: &mut Region, at: u32, word: u32) -> Seen {
+    match User::attach(alloc, region) {
+        Ok(user) => {
+            let mut user = user;
+            set_word(region, at, word);
+            let seen = as_seen(&user.next(alloc, region));
+            user.detach(region);
+            seen
+        }
+        Err(AttachFault::Mailbox(fault)) => Seen::Mailbox(fault),
+        Err(AttachFault::NoMemory) => Seen::NoMemory,
+    }
+}
+
+#[test]
+fn sees_a_mailbox_that_changed_behind_the_attach(rt: HostRuntime) -> Result<(), Fail> {
+    for case in &BEHIND {
+        let (at, word, want) = *case;
+        let mut region = region_with(rt.alloc(), 1, &READ)?;
+        set_word(&mut region, 176, 8192);
+        assert_eq!(rt; seen_behind(rt.alloc(), &mut region, at, word), want);
+    }
     Ok(())
 }
