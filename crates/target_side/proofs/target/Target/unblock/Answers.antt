@@ -1,0 +1,14 @@
+use Rattle.std.proofs.Common.{false, [], subst}
+use Rattle.target_side.proofs.Keeps.{kept_blocked}
+use Rattle.region_model.specs.Sides.{TargetState}
+use Rattle.target_side.specs.OnDevice.{TurnsDevice}
+use Rattle.target_side.proofs.OnDevice.{turns}
+use Rattle.target_side.proofs.target.Target.unblock.Goals as goal
+
+pub invariant_of-self : goal.invariant_of-self
+invariant_of-self c = kept_blocked (record { front = []; blocks = []; pages = 0 }) c.self.inside.books c.unblock.new.self false c.unblock.ensures.target c.self.invariant
+
+pub returns-clause-device : goal.returns-clause-device
+returns-clause-device c =
+    subst (λ (t : TargetState). TurnsDevice t false c.unblock.result c.unblock.new.self) c.self.view_is
+    (turns c.self.inside.books c.unblock.new.self false c.unblock.result c.unblock.ensures.answer c.unblock.ensures.target)

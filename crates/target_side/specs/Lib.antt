@@ -1,0 +1,13 @@
+pub mod RingRecord
+pub mod HeldRows
+pub mod Entering
+pub mod Adding
+pub mod Writing
+pub mod Laid
+pub mod Books
+pub mod Kept
+pub mod Submits
+pub mod Cleaning
+pub mod Showing
+pub mod Ticking
+pub mod OnDevice
