@@ -2,8 +2,6 @@
 #![tactic(auto)]
 
 mod table;
-#[cfg(test)]
-mod tests;
 
 pub use scsi_model::{CdbFault, Op};
 pub use table::decode;

@@ -3,8 +3,6 @@
 
 mod laws;
 mod ring;
-#[cfg(test)]
-mod tests;
 
 pub use laws::places_law;
 pub use ring::{Place, Ring, Room};

@@ -4,6 +4,3 @@
 mod beside;
 
 pub use beside::{Lane, Lanes, run_all};
-
-#[cfg(test)]
-mod tests;

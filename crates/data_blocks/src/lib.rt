@@ -4,7 +4,5 @@
 mod bitmap;
 mod blocks;
 pub mod laws;
-#[cfg(test)]
-mod tests;
 
 pub use blocks::{Blocks, BlocksFault};

@@ -4,8 +4,6 @@
 
 mod config;
 pub mod fields;
-#[cfg(test)]
-mod tests;
 
 pub use config::{Config, MediumKind, config_of_bytes, parse_config};
 pub use text_model::ConfigFault;

@@ -21,6 +21,3 @@ pub use memory_store::MemStore;
 pub use outside::{Failed, Sink, Source};
 pub use standard::{StdSink, StdSource};
 pub use store::Store;
-
-#[cfg(test)]
-mod tests;

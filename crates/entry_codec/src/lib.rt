@@ -5,8 +5,6 @@
 mod fields;
 mod laws;
 mod reading;
-#[cfg(test)]
-mod tests;
 mod writing;
 
 pub use laws::{pads_again, requests_again, responses_again, tmrs_again};

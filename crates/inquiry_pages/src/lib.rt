@@ -4,8 +4,6 @@
 mod capacity;
 mod inquiry;
 mod mode;
-#[cfg(test)]
-mod tests;
 mod units;
 
 pub use capacity::{capacity10, capacity16};

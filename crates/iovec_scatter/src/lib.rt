@@ -4,8 +4,6 @@
 mod block;
 mod laws;
 mod payload;
-#[cfg(test)]
-mod tests;
 
 pub use block::{Block, Parts, gather, scatter};
 pub use laws::{ends_along, gathers_again};

@@ -4,7 +4,5 @@
 mod commands;
 mod numbers;
 mod scenario;
-#[cfg(test)]
-mod tests;
 
 pub use scenario::{load_device, load_lines, load_scenario};

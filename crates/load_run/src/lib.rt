@@ -4,7 +4,5 @@
 mod load;
 mod summary;
 mod tally;
-#[cfg(test)]
-mod tests;
 
 pub use load::load_line;

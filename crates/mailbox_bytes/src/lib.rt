@@ -3,8 +3,6 @@
 
 mod laws;
 mod mailbox;
-#[cfg(test)]
-mod tests;
 
 pub use laws::mailbox_reads_again;
 pub use mailbox::{HEAD, MAILBOX_LEN, TAIL, read, write};

@@ -5,4 +5,6 @@
 mod config_disks;
 pub mod config_media;
 #[cfg(test)]
+mod file_medium;
+#[cfg(test)]
 mod medium_calls;

@@ -5,6 +5,3 @@ mod file;
 mod filling;
 
 pub use file::FileMedium;
-
-#[cfg(test)]
-mod tests;

@@ -6,6 +6,10 @@ mod calls;
 #[cfg(test)]
 mod devices;
 #[cfg(test)]
+mod laws;
+#[cfg(test)]
 mod loads;
+#[cfg(test)]
+mod program_calls;
 #[cfg(test)]
 mod replays;

@@ -10,6 +10,3 @@ mod report;
 pub use report::{
     completion_line, device_text, dump_text, end_text, entry_text, event_line, runs_text,
 };
-
-#[cfg(test)]
-mod tests;

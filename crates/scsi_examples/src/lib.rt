@@ -2,9 +2,13 @@
 #![tactic(auto)]
 
 #[cfg(test)]
+mod decoding;
+#[cfg(test)]
 mod fixture;
 #[cfg(test)]
 mod limits;
 #[cfg(test)]
 mod operations;
+#[cfg(test)]
+mod pages;
 pub mod requests;

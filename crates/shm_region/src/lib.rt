@@ -7,8 +7,6 @@ mod copying;
 mod laws;
 mod lending;
 mod region;
-#[cfg(test)]
-mod tests;
 
 pub use laws::{area_begins_at_page, copies_back, lends_and_takes_back, lends_few};
 pub use region::Region;

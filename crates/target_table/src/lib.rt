@@ -3,8 +3,6 @@
 
 mod pending;
 mod table;
-#[cfg(test)]
-mod tests;
 
 pub use pending::Pending;
 pub use table::Table;

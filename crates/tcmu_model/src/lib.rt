@@ -13,8 +13,6 @@ mod laws_states;
 mod lengths;
 pub mod plain;
 mod state;
-#[cfg(test)]
-mod tests;
 mod worked;
 
 pub use laws_drain::{drain_empties, drain_ends, drain_goes_on};

@@ -18,6 +18,3 @@ pub use load::run_load;
 pub use status::Status;
 pub use text_model::Why;
 pub use top::{run_replay, tcmu_top};
-
-#[cfg(test)]
-mod tests;

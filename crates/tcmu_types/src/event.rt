@@ -8,9 +8,6 @@ use crate::{Command, CopyRoom, NoMemory, Serials};
 use std::alloc::Global;
 use std::marker::Model;
 
-#[cfg(test)]
-mod tests;
-
 /// An event of a device, which the call of `Path` with its name makes. Serials number the accepted commands of a device from 1.
 #[derive(Debug, Drop)]
 pub enum Event {

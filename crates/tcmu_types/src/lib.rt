@@ -19,8 +19,6 @@ mod reply;
 mod settings;
 mod sizes;
 mod stat;
-#[cfg(test)]
-mod tests;
 
 pub use answer::{Answer, Dispatch, Enter, Handle, Publish, Reset, Respond, Submit, Tmr};
 pub use cdb::{Cdb, CdbLength, group_length, takes_payload};

@@ -18,6 +18,3 @@ pub use replay::{
     carried_law, journal_text_law, one_text_law, reading_law, replay_text_law, scenario_replay_law,
     spelled_law,
 };
-
-#[cfg(test)]
-mod tests;

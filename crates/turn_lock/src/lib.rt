@@ -11,6 +11,3 @@ pub use laws::receipts_last;
 pub use rule::Receipt;
 pub use stepped::Stepped;
 pub use turn::{Pass, Turn};
-
-#[cfg(test)]
-mod tests;

@@ -1,5 +1,0 @@
-use Rattle.std.proofs.Common.{◌≡◌}
-use Rattle.daemon_gate.proofs.tests.ask_all.Given as goal
-
-abbrev pub invariant-loop-ask : goal.invariant-loop-ask
-invariant-loop-ask g l = (l.pass.turn ≡ l.fn.pass.turn) × (l.pass.parts ≡ l.fn.pass.parts)
