@@ -89,6 +89,47 @@ fn entries_and_dumps(rt: HostRuntime) -> Result<(), Fail> {
     Ok(())
 }
 
+/// The word of each kind of item, as a dump shows it.
+#[test]
+fn items_of_each_kind(rt: HostRuntime) -> Result<(), Fail> {
+    let alloc = rt.alloc();
+    let name = name().ok_or("name")?;
+    for (kind, line) in [
+        (
+            ItemKind::Pad,
+            b"dump d0 # shown 2\n# box 02*1\n# item 8 pad 1 07*1\n",
+        ),
+        (
+            ItemKind::Cmd,
+            b"dump d0 # shown 2\n# box 02*1\n# item 8 cmd 1 07*1\n",
+        ),
+        (
+            ItemKind::Tmr,
+            b"dump d0 # shown 2\n# box 02*1\n# item 8 tmr 1 07*1\n",
+        ),
+    ] {
+        let bytes = Bytes::from_slice(alloc, &[7])?;
+        let mut items = Items::new(alloc);
+        items.reserve(1)?;
+        items.push(Item { at: 8, kind, bytes });
+        let mailbox = Bytes::from_slice(alloc, &[2])?;
+        let held = HeldList::new(alloc);
+        let mut text = Bytes::new(alloc);
+        dump_text(
+            alloc,
+            &name,
+            &Dump {
+                mailbox,
+                items,
+                held,
+            },
+            &mut text,
+        )?;
+        assert_eq!(rt; text.as_slice(), line.as_slice());
+    }
+    Ok(())
+}
+
 /// Numbers of a device, each another.
 const STAT: Stat = Stat {
     now: 9,

@@ -1,0 +1,4 @@
+pub mod Chosen
+pub mod InOrder
+pub mod Refused
+pub mod Directed
