@@ -2,6 +2,7 @@
 ghost use Rattle.std.specs.Prelude.{◌%◌, ◌≡◌, ◌≤◌};
 
 use crate::Rig;
+use crate::examples::Device;
 use block_engine::Engine;
 use media::MemMedium;
 use std::alloc::Global;
@@ -12,11 +13,15 @@ use tcmu_types::{Flags, Name, Settings};
 /// A device that keeps plain lists, with a medium in memory.
 pub type Disk = Rig<PlainPath<Engine<MemMedium>>>;
 
-/// A device over so many logical blocks of zeros, one at least.
-pub fn disk(alloc: Global, logical: u32, settings: Settings) -> Result<Disk, Fail> {
+/// What serves a device's commands: 2,048 logical blocks of zeros.
+pub fn engine(alloc: Global) -> Result<Engine<MemMedium>, Fail> {
     let name = Name::new("d0").ok_or("a name")?;
-    let medium = MemMedium::new(alloc, if logical == 0 { 1 } else { logical })?;
-    Ok(Rig::new(PlainPath::new(alloc, settings, Engine::new(name, medium))))
+    Ok(Engine::new(name, MemMedium::new(alloc, 2_048)?))
+}
+
+/// A device of these settings, over logical blocks of zeros.
+pub fn disk(alloc: Global, settings: Settings) -> Result<Disk, Fail> {
+    Ok(Rig::new(PlainPath::new(alloc, settings, engine(alloc)?)))
 }
 
 /// A ring of 4096 bytes, with so many data blocks of one page.
@@ -41,7 +46,7 @@ pub fn settings(blocks: u32, timeout: u32, qfull: u32, ooo: bool, tmr: bool) -> 
 }
 
 /// A ring of so many bytes, with data blocks for 1 MiB.
-pub fn wide(ring: u32) -> Settings
+fn wide(ring: u32) -> Settings
     requires least { 4096 ≤ ring }
     requires most { ring ≤ 4194304 }
     requires whole { ring % 4096 ≡ 0 }
@@ -49,13 +54,44 @@ pub fn wide(ring: u32) -> Settings
     Settings {
         ring,
         blocks: 256,
+        ..settings(16, 30, 0, true, false)
+    }
+}
+
+/// Data blocks of two pages.
+fn two_pages() -> Settings {
+    Settings {
+        blocks: 16,
+        pages: 2,
+        ..settings(16, 30, 0, true, false)
+    }
+}
+
+/// The lengths of reads are told.
+fn with_lengths() -> Settings {
+    Settings {
         flags: Flags {
             ooo: true,
-            read_len: false,
+            read_len: true,
             tmr: false,
         },
-        timeout: 30,
-        qfull: 0,
-        pages: 1,
+        ..settings(16, 30, 0, true, false)
+    }
+}
+
+/// The settings of the device that an example is made on.
+pub fn settings_of(device: Device) -> Settings {
+    match device {
+        Device::Usual => settings(16, 30, 0, true, false),
+        Device::InOrder => settings(16, 30, 0, false, false),
+        Device::Narrow => settings(1, 30, 5, true, false),
+        Device::NarrowInOrder => settings(1, 30, 5, false, false),
+        Device::Hasty => settings(16, 5, 0, true, false),
+        Device::Patient => settings(16, 0, 0, true, false),
+        Device::Noting => settings(16, 30, 0, true, true),
+        Device::TwoPages => two_pages(),
+        Device::Lengths => with_lengths(),
+        Device::LongRing => wide(8_192),
+        Device::LongestRing => wide(12_288),
     }
 }

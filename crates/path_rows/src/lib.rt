@@ -3,6 +3,7 @@
 
 pub mod examples;
 pub mod fixture;
+pub mod fronts;
 mod rig;
 pub mod rows;
 

@@ -5,8 +5,8 @@ use std::alloc::Global;
 use std::marker::Model;
 use tcmu_path::{Path, make_event, next_event};
 use tcmu_types::{
-    Command, Dispatch, Done, Enter, Handle, NoMemory, Publish, Reset, Respond, Serials, Stat,
-    Submit, Tmr,
+    Answer, Command, Dispatch, Done, Enter, Handle, NoMemory, Publish, Reset, Respond, Serials,
+    Stat, Submit, Tmr,
 };
 
 /// A device that may be sent 4,294,967,295 commands. Its calls are those of `Path` by the same names; a command more is answered with
@@ -92,6 +92,15 @@ impl<P: Path + Drop> Rig<P> {
         self.path.tmr(alloc, 1, &serials)
     }
 
+    /// A note that aborts the commands of three serials, this one and the next two.
+    pub fn abort_three(&mut self, alloc: Global, first: u64) -> Result<Tmr, NoMemory> {
+        if first > 4_294_967_295 {
+            return Err(NoMemory);
+        }
+        let serials = Serials::from_slice(alloc, &[first, first + 1, first + 2])?;
+        self.path.tmr(alloc, 2, &serials)
+    }
+
     /// A note that resets the unit, and names no command.
     pub fn reset_unit(&mut self, alloc: Global) -> Result<Tmr, NoMemory> {
         let serials = Serials::new(alloc);
@@ -110,19 +119,19 @@ impl<P: Path + Drop> Rig<P> {
         self.path.log()
     }
 
-    /// Makes the event that the drain chooses; false where none applies.
-    fn step(&mut self, alloc: Global) -> Result<bool, NoMemory> {
+    /// Makes the event that the drain chooses, and gives its answer; none where none applies.
+    pub fn step(&mut self, alloc: Global) -> Result<Option<Answer>, NoMemory> {
         let Some(event) = next_event(&self.path.todo()) else {
-            return Ok(false);
+            return Ok(None);
         };
-        make_event(alloc, &mut self.path, &event)?;
-        Ok(true)
+        let answer = make_event(alloc, &mut self.path, &event)?;
+        Ok(Some(answer))
     }
 
     /// Makes the events of a drain, 100,000 at most.
     pub fn drain(&mut self, alloc: Global) -> Result<(), NoMemory> {
         for _ in 0..100_000u32 {
-            if !self.step(alloc)? {
+            if self.step(alloc)?.is_none() {
                 return Ok(());
             }
         }

@@ -4,9 +4,12 @@ use std::alloc::Global;
 use std::test::Fail;
 use tcmu_path::Path;
 use tcmu_types::{
-    Bytes, Cdb, Command, Dispatch, Done, Enter, Handle, Name, NoMemory, Publish, Reset, Respond,
-    Stat, Submit, Tmr,
+    Answer, Bytes, Cdb, Command, Dispatch, Done, Enter, Handle, Name, NoMemory, Publish, Reset,
+    Respond, Stat, Submit, Tmr,
 };
+
+/// Bytes by runs: a byte, and how often it stands, one run behind the other.
+pub type Runs = &'static [(u8, u16)];
 
 /// A command by its parts: the bytes sent are runs of a byte and how often it stands.
 #[derive(Clone, Copy)]
@@ -17,8 +20,8 @@ pub struct Sent {
     pub tag: u32,
     /// 6, 10, 12 or 16 bytes, by the group of the first (SPC-4, 4.2.5.1).
     pub cdb: &'static [u8],
-    /// A byte, and how often it stands, one run behind the other; none where nothing is sent.
-    pub runs: &'static [(u8, u16)],
+    /// None where nothing is sent.
+    pub runs: Runs,
     /// How many bytes are asked for; 0 where bytes are sent.
     pub in_len: u32,
 }
@@ -44,10 +47,14 @@ pub enum Call {
     Restart,
     /// A note that aborts the command of one serial.
     Abort(u64),
+    /// A note that aborts the commands of three serials, this one and the next two.
+    AbortThree(u64),
     /// A note that resets the unit, and names no command.
     ResetUnit,
     Enter,
     Stat,
+    /// The next event of a drain.
+    Step,
     /// The events of a drain.
     Drain,
 }
@@ -58,8 +65,8 @@ pub enum Told {
     Submit(Submit),
     /// The serial of a dispatched command.
     Job(u64),
-    /// The kind of a note, and how many commands it names.
-    Note(u8, usize),
+    /// The kind of a note, how many commands it names, and the first and the last of them.
+    Note(u8, usize, Option<u64>, Option<u64>),
     Nothing,
     Detached,
     /// A status, and how many bytes go back.
@@ -79,7 +86,7 @@ pub enum Told {
     Drained,
 }
 
-/// A completion: its serial, initiator and tag, its status, its sense codes (zeros where there is none), and so many copies of a byte.
+/// A completion: its serial, initiator and tag, its status, its sense codes (zeros where there is none), and the bytes that come back.
 #[derive(Clone, Copy)]
 pub struct Finished {
     /// From 1, in the order in which the commands were accepted.
@@ -92,8 +99,7 @@ pub struct Finished {
     pub status: u8,
     /// The key, the additional sense code and its qualifier (SPC-4, 4.5).
     pub sense: (u8, u8, u8),
-    /// A byte, and how often it stands; any byte and 0 where no bytes come back.
-    pub payload: (u8, usize),
+    pub payload: Runs,
 }
 
 /// The command of these parts, or a failure where the parts make none.
@@ -114,7 +120,11 @@ pub fn command(alloc: Global, parts: &Sent) -> Result<Command, Fail> {
 fn dispatched(answer: Dispatch) -> Told {
     match answer {
         Dispatch::Job(serial) => Told::Job(serial),
-        Dispatch::Note { kind, serials } => Told::Note(kind, serials.len()),
+        Dispatch::Note { kind, serials } => {
+            let named = serials.as_slice();
+            let first = named.first().copied();
+            Told::Note(kind, named.len(), first, named.last().copied())
+        }
         Dispatch::Nothing => Told::Nothing,
         Dispatch::Detached => Told::Detached,
     }
@@ -128,6 +138,31 @@ fn handled(answer: Handle) -> Told {
     }
 }
 
+/// What any event answers.
+fn told_of(answer: Answer) -> Told {
+    match answer {
+        Answer::Submit(answer) => Told::Submit(answer),
+        Answer::Dispatch(answer) => dispatched(answer),
+        Answer::Handle(answer) => handled(answer),
+        Answer::Respond(answer) => Told::Respond(answer),
+        Answer::Publish(answer) => Told::Publish(answer),
+        Answer::Logged(number) | Answer::Lost(number) => Told::Number(number),
+        Answer::Changed(changed) => Told::Changed(changed),
+        Answer::Reset(answer) => Told::Reset(answer),
+        Answer::Tmr(answer) => Told::Tmr(answer),
+        Answer::Stat(answer) => Told::Stat(answer),
+        Answer::Enter(answer) => Told::Enter(answer),
+    }
+}
+
+/// Makes the next event of a drain; `Drained` where there is none.
+fn step<P: Path + Drop>(rig: &mut Rig<P>, alloc: Global) -> Result<Told, NoMemory> {
+    Ok(match rig.step(alloc)? {
+        Some(answer) => told_of(answer),
+        None => Told::Drained,
+    })
+}
+
 /// Makes a call that takes memory; none where the call takes none.
 fn call_with_memory<P: Path + Drop>(
     rig: &mut Rig<P>,
@@ -139,8 +174,10 @@ fn call_with_memory<P: Path + Drop>(
         Call::Dispatch => dispatched(rig.dispatch(alloc)?),
         Call::Handle(serial) => handled(rig.handle(alloc, serial)?),
         Call::Abort(serial) => Told::Tmr(rig.abort(alloc, serial)?),
+        Call::AbortThree(first) => Told::Tmr(rig.abort_three(alloc, first)?),
         Call::ResetUnit => Told::Tmr(rig.reset_unit(alloc)?),
         Call::Enter => Told::Enter(rig.enter(alloc)?),
+        Call::Step => step(rig, alloc)?,
         Call::Drain => {
             rig.drain(alloc)?;
             Told::Drained
@@ -192,18 +229,31 @@ pub fn first_wrong<P: Path + Drop>(
     Ok(None)
 }
 
+/// Whether the bytes are those of the runs.
+fn are_runs(bytes: &[u8], runs: Runs) -> bool {
+    let mut rest = bytes;
+    for &(byte, count) in runs {
+        let Some((run, behind)) = rest.split_at_checked(count as usize) else {
+            return false;
+        };
+        if !run.iter().all(|item| *item == byte) {
+            return false;
+        }
+        rest = behind;
+    }
+    rest.is_empty()
+}
+
 /// Whether a completion is as wanted.
 fn is_finished(done: &Done, wanted: &Finished) -> bool {
     let sense = match done.sense {
         Some(sense) => (sense.key, sense.asc, sense.ascq),
         None => (0, 0, 0),
     };
-    let (byte, count) = wanted.payload;
-    let bytes = done.payload.as_slice();
     let names = done.serial == wanted.serial && done.tag == wanted.tag;
     let codes = done.status.0 == wanted.status && sense == wanted.sense;
     let owner = done.init.as_bytes() == wanted.init.as_bytes();
-    let payload = bytes.len() == count && bytes.iter().all(|item| *item == byte);
+    let payload = are_runs(done.payload.as_slice(), wanted.payload);
     names && codes && owner && payload
 }
 

@@ -9,13 +9,13 @@ pub const DONE: Finished = Finished {
     tag: 1,
     status: 0x00,
     sense: (0x00, 0x00, 0x00),
-    payload: (0x00, 512),
+    payload: &[(0x00, 512)],
 };
 
 /// The same command ended by a reset of level 1: BUSY.
 pub const BUSY: Finished = Finished {
     status: 0x08,
-    payload: (0x00, 0),
+    payload: &[],
     ..DONE
 };
 
@@ -23,7 +23,7 @@ pub const BUSY: Finished = Finished {
 pub const FAILED_TARGET: Finished = Finished {
     status: 0x02,
     sense: (0x04, 0x44, 0x00),
-    payload: (0x00, 0),
+    payload: &[],
     ..DONE
 };
 
@@ -31,14 +31,14 @@ pub const FAILED_TARGET: Finished = Finished {
 pub const EXPIRED: Finished = Finished {
     status: 0x02,
     sense: (0x0b, 0x08, 0x01),
-    payload: (0x00, 0),
+    payload: &[],
     ..DONE
 };
 
 /// The same command when it has waited for room for too long: TASK SET FULL.
 pub const TASK_SET_FULL: Finished = Finished {
     status: 0x28,
-    payload: (0x00, 0),
+    payload: &[],
     ..DONE
 };
 
@@ -73,4 +73,11 @@ pub const ZEROS: Stat = Stat {
     expired: 0,
     held: 0,
     delayed: 0,
+};
+
+/// The numbers of a device that was reset before its first tick.
+pub const EMPTIED: Stat = Stat {
+    blocked: true,
+    attached: true,
+    ..ZEROS
 };

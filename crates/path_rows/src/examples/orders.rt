@@ -1,13 +1,17 @@
 //! Three reads that are answered last, first, second.
-use super::answers::{DONE, MOVED_THREE};
+use super::answers::{DONE, MOVED_ONE, MOVED_THREE};
 use super::sent::{READ_AT_1, READ_AT_2, READ_ONE_MORE, WRITE_THREE};
 use crate::rows::{Call, Finished, Told};
 use tcmu_types::{Respond, Submit};
 
-/// Three reads, answered last, first, second: each is placed as it comes.
-pub const OUT_OF_ORDER: [(Call, Told); 16] = [
+/// Three reads, answered last, first, second: each is placed as it comes. A row is an event.
+pub const OUT_OF_ORDER: [(Call, Told); 20] = [
     (Call::Submit(WRITE_THREE), Told::Submit(Submit::Queued(1))),
-    (Call::Drain, Told::Drained),
+    (Call::Step, Told::Job(1)),
+    (Call::Step, Told::Reply(0, 0)),
+    (Call::Step, Told::Respond(Respond::Placed)),
+    (Call::Step, MOVED_ONE),
+    (Call::Step, Told::Number(1)),
     (Call::Submit(READ_ONE_MORE), Told::Submit(Submit::Queued(2))),
     (Call::Submit(READ_AT_1), Told::Submit(Submit::Queued(3))),
     (Call::Submit(READ_AT_2), Told::Submit(Submit::Queued(4))),
@@ -27,31 +31,31 @@ pub const OUT_OF_ORDER: [(Call, Told); 16] = [
 /// The completions of `OUT_OF_ORDER`.
 pub const OUT_OF_ORDER_LOG: [Finished; 4] = [
     Finished {
-        payload: (0x00, 0),
+        payload: &[],
         ..DONE
     },
     Finished {
         serial: 4,
         init: "b",
         tag: 4,
-        payload: (0x33, 512),
+        payload: &[(0x33, 512)],
         ..DONE
     },
     Finished {
         serial: 2,
         tag: 2,
-        payload: (0x11, 512),
+        payload: &[(0x11, 512)],
         ..DONE
     },
     Finished {
         serial: 3,
         tag: 3,
-        payload: (0x22, 512),
+        payload: &[(0x22, 512)],
         ..DONE
     },
 ];
 
-/// The calls of `OUT_OF_ORDER` where answers go in order: that of the last read waits for the others.
+/// The commands of `OUT_OF_ORDER` where answers go in order: that of the last read waits for the others.
 pub const IN_ORDER: [(Call, Told); 16] = [
     (Call::Submit(WRITE_THREE), Told::Submit(Submit::Queued(1))),
     (Call::Drain, Told::Drained),
@@ -74,26 +78,26 @@ pub const IN_ORDER: [(Call, Told); 16] = [
 /// The completions of `IN_ORDER`.
 pub const IN_ORDER_LOG: [Finished; 4] = [
     Finished {
-        payload: (0x00, 0),
+        payload: &[],
         ..DONE
     },
     Finished {
         serial: 2,
         tag: 2,
-        payload: (0x11, 512),
+        payload: &[(0x11, 512)],
         ..DONE
     },
     Finished {
         serial: 3,
         tag: 3,
-        payload: (0x22, 512),
+        payload: &[(0x22, 512)],
         ..DONE
     },
     Finished {
         serial: 4,
         init: "b",
         tag: 4,
-        payload: (0x33, 512),
+        payload: &[(0x33, 512)],
         ..DONE
     },
 ];

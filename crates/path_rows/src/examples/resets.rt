@@ -1,5 +1,5 @@
 //! Resets: when they are made, and what they finish.
-use super::answers::{BUSY, DONE, FAILED_TARGET, MOVED_ONE, ZEROS};
+use super::answers::{BUSY, DONE, EMPTIED, FAILED_TARGET, MOVED_ONE, ZEROS};
 use super::sent::{READ_ONE, READ_ONE_MORE};
 use crate::rows::{Call, Finished, Told};
 use tcmu_types::{Reset, Respond, Stat, Submit};
@@ -14,14 +14,7 @@ pub const RESET: [(Call, Told); 10] = [
     (Call::Reset, Told::Reset(Reset::HandlersOut(1))),
     (Call::Restart, Told::Number(1)),
     (Call::Reset, Told::Reset(Reset::Reset(1))),
-    (
-        Call::Stat,
-        Told::Stat(Stat {
-            blocked: true,
-            attached: true,
-            ..ZEROS
-        }),
-    ),
+    (Call::Stat, Told::Stat(EMPTIED)),
     (Call::Submit(READ_ONE), Told::Submit(Submit::Busy)),
 ];
 
@@ -74,4 +67,52 @@ pub const HARD_RESET_LOG: [Finished; 2] = [
         ..DONE
     },
     FAILED_TARGET,
+];
+
+/// A reset of level 2 ends a command that lies in the ring and was not dispatched.
+pub const LAID: [(Call, Told); 6] = [
+    (Call::Submit(READ_ONE), Told::Submit(Submit::Queued(1))),
+    (Call::Block, Told::Changed(true)),
+    (Call::HardReset, Told::Reset(Reset::Reset(1))),
+    (Call::Stat, Told::Stat(EMPTIED)),
+    (Call::Dispatch, Told::Nothing),
+    (Call::Unblock, Told::Changed(true)),
+];
+
+/// The completions of `LAID`.
+pub const LAID_LOG: [Finished; 1] = [FAILED_TARGET];
+
+/// In order, a restart loses a command that is out and an answer that waits for it.
+pub const PARKED: [(Call, Told); 12] = [
+    (Call::Submit(READ_ONE), Told::Submit(Submit::Queued(1))),
+    (Call::Submit(READ_ONE_MORE), Told::Submit(Submit::Queued(2))),
+    (Call::Dispatch, Told::Job(1)),
+    (Call::Dispatch, Told::Job(2)),
+    (Call::Handle(2), Told::Reply(0, 512)),
+    (Call::Respond(2), Told::Respond(Respond::Parked)),
+    (Call::Restart, Told::Number(2)),
+    (
+        Call::Stat,
+        Told::Stat(Stat {
+            head: 256,
+            used: 256,
+            lost: 2,
+            held: 2,
+            ..ZEROS
+        }),
+    ),
+    (Call::Block, Told::Changed(true)),
+    (Call::Reset, Told::Reset(Reset::Reset(2))),
+    (Call::Stat, Told::Stat(EMPTIED)),
+    (Call::Respond(2), Told::Respond(Respond::NotHandled(2))),
+];
+
+/// The completions of `PARKED`.
+pub const PARKED_LOG: [Finished; 2] = [
+    BUSY,
+    Finished {
+        serial: 2,
+        tag: 2,
+        ..BUSY
+    },
 ];

@@ -1,8 +1,8 @@
 //! Room: the most blocks and the longest entry of a command, and a ring that is full or filled exactly.
-use super::answers::ZEROS;
-use super::sent::{READ_136, READ_2048, READ_ONE, TEST_UNIT_READY};
-use crate::rows::{Call, Told};
-use tcmu_types::{Stat, Submit};
+use super::answers::{DONE, MOVED_ONE, ZEROS};
+use super::sent::{READ_16, READ_136, READ_2048, READ_ONE, TEST_UNIT_READY};
+use crate::rows::{Call, Finished, Sent, Told};
+use tcmu_types::{Respond, Stat, Submit};
 
 /// A read of 68 KiB needs more than the 16 blocks there are.
 pub const TOO_MANY_BLOCKS: [(Call, Told); 1] = [(
@@ -71,3 +71,75 @@ pub const EXACT_FIT: [(Call, Told); 5] = [
         Told::Submit(Submit::FullRing { need: 128, free: 7 }),
     ),
 ];
+
+/// A read of two pages holds one block of two pages.
+pub const TWO_PAGES: [(Call, Told); 7] = [
+    (Call::Submit(READ_16), Told::Submit(Submit::Queued(1))),
+    (
+        Call::Stat,
+        Told::Stat(Stat {
+            attached: true,
+            head: 128,
+            used: 128,
+            waiting: 1,
+            held: 1,
+            ..ZEROS
+        }),
+    ),
+    (Call::Dispatch, Told::Job(1)),
+    (Call::Handle(1), Told::Reply(0, 8192)),
+    (Call::Respond(1), Told::Respond(Respond::Placed)),
+    (Call::Publish, MOVED_ONE),
+    (Call::Clean, Told::Number(1)),
+];
+
+/// The completions of `TWO_PAGES`.
+pub const TWO_PAGES_LOG: [Finished; 1] = [Finished {
+    payload: &[(0x00, 8192)],
+    ..DONE
+}];
+
+/// A read of two pages that asks for a byte more holds two blocks of two pages.
+pub const ONE_BYTE_MORE: [(Call, Told); 7] = [
+    (
+        Call::Submit(Sent {
+            in_len: 8193,
+            ..READ_16
+        }),
+        Told::Submit(Submit::Queued(1)),
+    ),
+    (
+        Call::Stat,
+        Told::Stat(Stat {
+            attached: true,
+            head: 128,
+            used: 128,
+            waiting: 1,
+            held: 2,
+            ..ZEROS
+        }),
+    ),
+    (Call::Dispatch, Told::Job(1)),
+    (Call::Handle(1), Told::Reply(0, 8192)),
+    (Call::Respond(1), Told::Respond(Respond::Placed)),
+    (Call::Publish, MOVED_ONE),
+    (Call::Clean, Told::Number(1)),
+];
+
+/// The completions of `ONE_BYTE_MORE`.
+pub const ONE_BYTE_MORE_LOG: [Finished; 1] = [Finished {
+    payload: &[(0x00, 8193)],
+    ..DONE
+}];
+
+/// A read of 136 KiB needs more than the 16 blocks of two pages there are.
+pub const TOO_MANY_LONG_BLOCKS: [(Call, Told); 1] = [(
+    Call::Submit(Sent {
+        in_len: 139264,
+        ..READ_16
+    }),
+    Told::Submit(Submit::TooBig {
+        have: 17,
+        limit: 16,
+    }),
+)];

@@ -28,6 +28,13 @@ pub const READ_AT_2: Sent = Sent {
     ..READ_ONE
 };
 
+/// READ(10) of 8 KiB.
+pub const READ_16: Sent = Sent {
+    cdb: &[0x28, 0, 0, 0, 0, 0, 0, 0, 16, 0],
+    in_len: 8192,
+    ..READ_ONE
+};
+
 /// READ(10) of 64 KiB.
 pub const READ_128: Sent = Sent {
     cdb: &[0x28, 0, 0, 0, 0, 0, 0, 0, 128, 0],
@@ -54,6 +61,22 @@ pub const WRITE_THREE: Sent = Sent {
     cdb: &[0x2a, 0, 0, 0, 0, 0, 0, 0, 3, 0],
     runs: &[(0x11, 512), (0x22, 512), (0x33, 512)],
     in_len: 0,
+    ..READ_ONE
+};
+
+/// WRITE(10) of eight logical blocks at 0, of FFh.
+pub const WRITE_EIGHT: Sent = Sent {
+    cdb: &[0x2a, 0, 0, 0, 0, 0, 0, 0, 8, 0],
+    runs: &[(0xff, 4096)],
+    in_len: 0,
+    ..READ_ONE
+};
+
+/// INQUIRY that asks for 64 bytes, and for 36 at most.
+pub const INQUIRE: Sent = Sent {
+    tag: 3,
+    cdb: &[0x12, 0, 0, 0, 36, 0],
+    in_len: 64,
     ..READ_ONE
 };
 

@@ -1,6 +1,6 @@
 //! Commands that wait for the only data block.
-use super::answers::{BUSY, DONE, MOVED_ONE, NO_BLOCK, TASK_SET_FULL, ZEROS};
-use super::sent::READ_ONE;
+use super::answers::{BUSY, DONE, FAILED_TARGET, MOVED_ONE, NO_BLOCK, TASK_SET_FULL, ZEROS};
+use super::sent::{READ_ONE, READ_ONE_MORE};
 use crate::rows::{Call, Finished, Told};
 use tcmu_types::{Enter, Reset, Respond, Stat, Submit};
 
@@ -30,13 +30,7 @@ pub const STILL_WAITS: [(Call, Told); 6] = [
         Call::Stat,
         Told::Stat(Stat {
             now: 4,
-            attached: true,
-            head: 128,
-            used: 128,
-            waiting: 1,
-            held: 1,
-            delayed: 1,
-            ..ZEROS
+            ..ONE_WAITS
         }),
     ),
 ];
@@ -75,3 +69,90 @@ pub const ENTERS: [(Call, Told); 15] = [
 
 /// The completions of `ENTERS`.
 pub const ENTERS_LOG: [Finished; 2] = [DONE, Finished { serial: 2, ..DONE }];
+
+/// A reset of level 2 finishes the delayed read after the one in the ring.
+pub const WAITS_FOR_HARD_RESET: [(Call, Told); 5] = [
+    (Call::Submit(READ_ONE), Told::Submit(Submit::Queued(1))),
+    (Call::Submit(READ_ONE), Told::Submit(Submit::Delayed(2))),
+    (Call::Block, Told::Changed(true)),
+    (Call::HardReset, Told::Reset(Reset::Reset(2))),
+    (Call::Enter, Told::Enter(Enter::Empty)),
+];
+
+/// The completions of `WAITS_FOR_HARD_RESET`.
+pub const WAITS_FOR_HARD_RESET_LOG: [Finished; 2] = [
+    FAILED_TARGET,
+    Finished {
+        serial: 2,
+        ..FAILED_TARGET
+    },
+];
+
+/// A drain lets the delayed read enter once the first is finished.
+pub const DRAIN_ENTERS: [(Call, Told); 15] = [
+    (Call::Submit(READ_ONE), Told::Submit(Submit::Queued(1))),
+    (
+        Call::Submit(READ_ONE_MORE),
+        Told::Submit(Submit::Delayed(2)),
+    ),
+    (Call::Stat, Told::Stat(ONE_WAITS)),
+    (Call::Step, Told::Job(1)),
+    (Call::Step, Told::Reply(0, 512)),
+    (Call::Step, Told::Respond(Respond::Placed)),
+    (Call::Step, MOVED_ONE),
+    (Call::Step, Told::Number(1)),
+    (Call::Step, Told::Enter(Enter::Entered(2))),
+    (Call::Step, Told::Job(2)),
+    (Call::Step, Told::Reply(0, 512)),
+    (Call::Step, Told::Respond(Respond::Placed)),
+    (Call::Step, MOVED_ONE),
+    (Call::Step, Told::Number(1)),
+    (Call::Step, Told::Drained),
+];
+
+/// The completions of `DRAIN_ENTERS`.
+pub const DRAIN_ENTERS_LOG: [Finished; 2] = [
+    DONE,
+    Finished {
+        serial: 2,
+        tag: 2,
+        ..DONE
+    },
+];
+
+/// One read in the ring, and one that waits.
+const ONE_WAITS: Stat = Stat {
+    attached: true,
+    head: 128,
+    used: 128,
+    waiting: 1,
+    held: 1,
+    delayed: 1,
+    ..ZEROS
+};
+
+/// A delayed read has left before the drain.
+pub const LEFT_ALONE: [(Call, Told); 9] = [
+    (Call::Submit(READ_ONE), Told::Submit(Submit::Queued(1))),
+    (
+        Call::Submit(READ_ONE_MORE),
+        Told::Submit(Submit::Delayed(2)),
+    ),
+    (Call::Tick(5), Told::Number(1)),
+    (Call::Step, Told::Job(1)),
+    (Call::Step, Told::Reply(0, 512)),
+    (Call::Step, Told::Respond(Respond::Placed)),
+    (Call::Step, MOVED_ONE),
+    (Call::Step, Told::Number(1)),
+    (Call::Step, Told::Drained),
+];
+
+/// The completions of `LEFT_ALONE`.
+pub const LEFT_ALONE_LOG: [Finished; 2] = [
+    Finished {
+        serial: 2,
+        tag: 2,
+        ..TASK_SET_FULL
+    },
+    DONE,
+];
