@@ -130,6 +130,39 @@ fn items_of_each_kind(rt: HostRuntime) -> Result<(), Fail> {
     Ok(())
 }
 
+/// A command that is held, with its blocks and its payload.
+fn held(alloc: Global, serial: u64, blocks: &[u32], payload: &[u8]) -> Result<Held, NoMemory> {
+    Ok(Held {
+        serial,
+        blocks: BlockList::from_slice(alloc, blocks)?,
+        payload: Bytes::from_slice(alloc, payload)?,
+    })
+}
+
+/// A command without blocks, and one with a payload in its block.
+#[test]
+fn commands_that_are_held(rt: HostRuntime) -> Result<(), Fail> {
+    let alloc = rt.alloc();
+    let name = name().ok_or("name")?;
+    let mut both = HeldList::new(alloc);
+    both.reserve(2)?;
+    both.push(held(alloc, 4, &[], &[])?);
+    both.push(held(alloc, 7, &[1], &[0x5a, 0x5a, 0])?);
+    let mailbox = Bytes::from_slice(alloc, &[2])?;
+    let dump = Dump {
+        mailbox,
+        items: Items::new(alloc),
+        held: both,
+    };
+    let mut text = Bytes::new(alloc);
+    dump_text(alloc, &name, &dump, &mut text)?;
+    assert_eq!(rt;
+        text.as_slice(),
+        b"dump d0 # shown 3\n# box 02*1\n# held 4 - -\n# held 7 1 5a*2,00*1\n".as_slice()
+    );
+    Ok(())
+}
+
 /// Numbers of a device, each another.
 const STAT: Stat = Stat {
     now: 9,

@@ -64,7 +64,7 @@ const READ: [(u32, u32); 6] = [
 ];
 
 /// Words of a hostile region, how many blocks it has, and what the user side sees at a first and a second next.
-const CASES: [(&[(u32, u32)], u32, Seen, Seen); 14] = [
+const CASES: [(&[(u32, u32)], u32, Seen, Seen); 16] = [
     // an iovec that begins before the data area
     (
         &[
@@ -99,6 +99,20 @@ const CASES: [(&[(u32, u32)], u32, Seen, Seen); 14] = [
         0,
         Seen::Moved(0, 0, 0),
         Seen::Nothing,
+    ),
+    // a descriptor block that begins before the place for it
+    (
+        &[(12, 112), (128, 0x71), (152, 175), (175, 0x28)],
+        0,
+        Seen::Entry(0, EntryFault::CdbOutside(175)),
+        Seen::Entry(0, EntryFault::CdbOutside(175)),
+    ),
+    // a descriptor block of 10 bytes that ends behind the entry
+    (
+        &[(12, 112), (128, 0x71), (152, 231), (231, 0x28)],
+        0,
+        Seen::Entry(0, EntryFault::CdbOutside(231)),
+        Seen::Entry(0, EntryFault::CdbOutside(231)),
     ),
     // an entry that ends behind the head
     (
