@@ -17,3 +17,8 @@ pub mod Shows
 pub mod Rising
 pub mod Tallying
 pub mod InHands
+pub mod Items
+pub mod Pictures
+pub mod Lengths
+pub mod Holding
+pub mod Holders

@@ -6,3 +6,4 @@ pub mod Given
 pub mod Requested
 pub mod Backs
 pub mod Shown
+pub mod Dumped

@@ -1,5 +1,5 @@
 //! The jobs in hand: each is with its handler, or has its reply and is to be responded.
-ghost use Rattle.std.specs.Prelude.{◌≡◌, ℕ, ◌≤◌, ◌<◌, ◌∷◌, ◌++◌, ◌^◌, [], Some, None, true, false, length, slice_index_or, OnOk, MatchOption, option_and_then};
+ghost use Rattle.std.specs.Prelude.{◌≡◌, ℕ, ◌≤◌, ◌<◌, ◌∷◌, ◌++◌, ◌^◌, [], Some, None, true, false, length, slice_index_or, OnOk, MatchOption, option_and_then, option_map};
 ghost use Rattle.std.specs.List.{count_by, list_any};
 ghost use Rattle.std.specs.VecDeque.{deque_len};
 ghost use Rattle.tcmu_types.specs.Lists.{IsFirst, first_of};
@@ -76,6 +76,13 @@ impl HandJob {
         ensures { result ≡ owed_at replied serial self.now }
     {
         self.serial == serial && self.has_reply() == replied
+    }
+
+    /// Whether it is the job of a serial.
+    fn is_of(&self, serial: u64) -> bool
+        ensures { result ≡ hand_has serial self.now }
+    {
+        self.serial == serial
     }
 
     /// The job with its reply, where it has one.
@@ -248,6 +255,31 @@ impl Hand {
     {
         match self.index_of(serial, false) {
             Some(at) => Some(&self.jobs[at]),
+            None => None,
+        }
+    }
+
+    /// The index of the job of a serial, with its reply or without.
+    fn place(&self, serial: u64) -> Option<usize>
+        ensures { MatchOption result (list_any (hand_has serial) self.now.items ≡ false) (IsFirst (hand_has serial) self.now.items) }
+    {
+        let at = self.first_from(serial);
+        if at == self.jobs.len() {
+            return None;
+        }
+        let job = &self.jobs[at];
+        if job.is_of(serial) { Some(at) } else { None }
+    }
+
+    /// The job of a serial, with its reply or without.
+    pub(crate) fn job(&self, serial: u64) -> Option<&Job>
+        ensures { MatchOption result (list_any (hand_has serial) self.now.items ≡ false) (λ j. option_map (λ h. h.job) (first_of (hand_has serial) self.now.items) ≡ Some j.now) }
+    {
+        match self.place(serial) {
+            Some(at) => {
+                let found = &self.jobs[at];
+                Some(found.job())
+            }
             None => None,
         }
     }

@@ -4,8 +4,10 @@
 
 mod hand;
 mod path;
+mod shown;
 mod state;
 mod tally;
 mod told;
 
 pub use path::{RingPath, Unopened};
+pub use shown::Shown;

@@ -2,11 +2,13 @@
 ghost use Rattle.std.specs.Prelude.{◌≡◌, IfOk};
 ghost use Rattle.ring_path.specs.Devices.{opening_device};
 
+mod dumping;
 mod ending;
 mod giving;
 mod laying;
 mod requesting;
 mod serving;
+mod showing_items;
 mod shown;
 
 use crate::hand::Hand;

@@ -26,7 +26,7 @@ fn data_length(iovs: &Iovs) -> u32
 }
 
 /// The first bytes of blocks, at most so many.
-fn first_bytes(alloc: Global, parts: &Parts, count: u32) -> Result<Bytes, NoMemory>
+pub(super) fn first_bytes(alloc: Global, parts: &Parts, count: u32) -> Result<Bytes, NoMemory>
     ensures { IfOk result (λ bytes. bytes.items ≡ take count (gathered parts.now.items)) }
 {
     let count = count as usize;
